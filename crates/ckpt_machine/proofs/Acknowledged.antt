@@ -3,6 +3,7 @@ use Rattle.std.proofs.Common.{◌≡◌, ◌⊎◌, ℕ, zero, suc, ◌+◌, ◌
 use Rattle.std.specs.Prelude.{is_some, IsSome, IsSomeAnd, slice_index}
 use Rattle.std.proofs.lemmas.Bool.{eqb-true, and_parts}
 use Rattle.std.proofs.lemmas.Option.{same_Some}
+use Rattle.ckpt_machine.proofs.Dropped.{held_as, ended_none}
 use Rattle.ckpt_types.specs.declared.answers.Answer.{Answer}
 use Rattle.ckpt_types.specs.declared.answers.Outcome.{Outcome}
 use Rattle.ckpt_types.specs.declared.answers.Outcome.TheVariants.{Done}
@@ -35,7 +36,7 @@ use Rattle.ckpt_machine.specs.Guards.{OnEach, OnAll, CommitOk, ApplyOk, AreMarks
 use Rattle.ckpt_machine.specs.Invariant.{Invariant}
 use Rattle.ckpt_machine.specs.Laws.{AcknowledgedStays}
 use Rattle.ckpt_machine.specs.Listing.{is_active}
-use Rattle.ckpt_machine.specs.Machine.{Machine, Applied, Effect, ReplicaState, Snapshot, Staged, CallState}
+use Rattle.ckpt_machine.specs.Machine.{Machine, Applied, Effect, ReplicaState, Snapshot, Staged, CallState, who}
 use Rattle.ckpt_machine.specs.Options.{is_all}
 use Rattle.ckpt_machine.specs.Owned.{OwnsNothing}
 use Rattle.ckpt_machine.specs.Propagation.{replica_from}
@@ -62,8 +63,8 @@ use Rattle.ckpt_machine.proofs.RefusedRuns.{owns_nothing}
 use Rattle.ckpt_machine.proofs.BegunBefore.{all_began}
 use Rattle.ckpt_machine.proofs.BegunOnce.{begins_once}
 use Rattle.ckpt_machine.proofs.UpdateAnswers.{begin_not_done, IsTakenOn, done_by_taking}
-use Rattle.ckpt_machine.proofs.ReplicaSteps.{put_actor-here}
 use Rattle.ckpt_machine.proofs.StaysMade.{IsMadeAs, StaysMade, StaysMade-same, StaysMade-kept, held_made, held-identity, MadeOn, MadeOn-swept, released_made, opened_made, same_on, changed_on, filter_on, departed_on, finished_on, created_for_on, retained_for_on, StepNeeds, row_needs}
+use Rattle.ckpt_machine.proofs.Whose.{one_call}
 use Rattle.ckpt_machine.proofs.Runs.{last_from-append, run_before, run_front, IsRunFrom-back}
 
 -- ---- effects
@@ -272,7 +273,7 @@ module _ (k : ℕ) (call : CallId) (update : Update) (m : Machine) (stay : Stays
     Installs s verbs.Activate j q reply = Stays k call update (changed m s verbs.Activate j q reply)
     Installs s verb j q reply = Unit {0}
 
-    installs : Invariant m → IsBare m → (s : CallState) → m.in_hand s.call.actor ≡ Some s → (verb : Verb) (j q : Option ℕ) (reply : StepReply) (t : Told) → IsOnOwn verb j s.kept.ckpt → Row m s verb (record t { verb = verb; ckpt = j; node = q; reply = reply }) → Installs s verb j q reply
+    installs : Invariant m → IsBare m → (s : CallState) → m.in_hand (who s) ≡ Some s → (verb : Verb) (j q : Option ℕ) (reply : StepReply) (t : Told) → IsOnOwn verb j s.kept.ckpt → Row m s verb (record t { verb = verb; ckpt = j; node = q; reply = reply }) → Installs s verb j q reply
     installs inv bare s held verbs.Install j q reply t own row = after_install (Stays k call update) m s t j q reply row stay (λ i r z x is in_hand over. put_stays i r z x over.on)
     installs inv bare s held verbs.Activate j q reply t own row = after_activate (Stays k call update) m inv bare s held t j q reply own row stay (λ i r on. record_stays (swept (active_set i r m.cluster)) (on k)) (leads_stay inv s)
     installs inv bare s held verb j q reply t own row = tt
@@ -312,13 +313,13 @@ module _ (k : ℕ) (call : CallId) (update : Update) (m : Machine) (stay : Stays
 
   -- any label that is allowed
   after_stays : Invariant m → IsBare m → (l : Label) → Allowed m l → Stays k call update (after m l)
-  after_stays inv bare (labels.Began d op end) allowed = record { given = stay.given; made = stay.made; some = stay.some; led = stay.led; its = stay.its }
+  after_stays inv bare (labels.Began d op end details) allowed = record { given = stay.given; made = stay.made; some = stay.some; led = stay.led; its = stay.its }
   after_stays inv bare (labels.Stepped d op verb j q reply end details) allowed =
       let s = allowed.state in
-      let held : m.in_hand s.call.actor ≡ Some s = ap (λ (c : CallId). m.in_hand c.actor) allowed.call_is ∙ allowed.in_hand in
+      let held : m.in_hand (who s) ≡ Some s = held_as m d op s allowed.in_hand allowed.call_is allowed.word in
       let then = changed_stays inv.holds.rises inv.holds.up_to s verb j q reply (row_needs m inv s verb j q reply end details allowed.row) (installs inv.holds.rises inv.holds.up_to inv bare s held verb j q reply (record { verb = verb; ckpt = j; node = q; reply = reply; end = end; details = details }) allowed.own allowed.row) in
       subst (λ o. Stays k call update (step_of m o verb j q reply end)) (sym allowed.in_hand) (record { given = then.given; made = then.made; some = then.some; led = then.led; its = then.its })
-  after_stays inv bare (labels.Word who line said) allowed = stay
+  after_stays inv bare (labels.Word by line said) allowed = stay
   after_stays inv bare (labels.Nodes n) allowed = record { given = stay.given; made = stay.made; some = stay.some; led = stay.led; its = stay.its }
   after_stays inv bare (labels.Moved t) allowed = record_stays (moved t m.cluster) (record { last = omega arith; rises = IdentitiesRise-filter (stays t) m.cluster.entries inv.holds.rises; made = ComesOf-filter StaysMade StaysMade-same (stays t) m.cluster.entries inv.holds.rises k })
   after_stays inv bare (labels.Shown j replicas) allowed = stay
@@ -417,10 +418,10 @@ module _ (m : Machine) (inv : Invariant m) (history : HasHistory m) (d : CallId)
   ended s y = stepped (record m { replicas = put2 m.replicas j r (Some y) }) s (Some (Done answer))
 
   -- what is staged by a call in hand is its own update
-  own_update : (s : CallState) → m.in_hand s.call.actor ≡ Some s → (x : ReplicaState) (slot : Staged) → m.replicas j r ≡ Some x → x.slot ≡ Some slot → slot.owner ≡ s.call → slot.update ≡ update_of s.op
+  own_update : (s : CallState) → m.in_hand (who s) ≡ Some s → (x : ReplicaState) (slot : Staged) → m.replicas j r ≡ Some x → x.slot ≡ Some slot → slot.owner ≡ s.call → slot.update ≡ update_of s.op
   own_update s held x slot there staged owner =
       let (by, origin, update) = slot_owned m inv.shapes inv.holds history.bare j r x slot there staged in
-      let state : by.state ≡ s = same_Some by.state s (sym by.in_hand ∙ ap (λ (c : CallId). m.in_hand c.actor) owner ∙ held) in
+      let state : by.state ≡ s = one_call m.in_hand m.pending m.next inv.holds.calls (who by.state) (who s) by.state s by.in_hand held (by.call_is ∙ owner) in
       update ∙ owner_update m j (inv.shapes j) slot.owner by ∙ ap (λ (z : CallState). update_of z.op) state
 
   -- it stays from a step on that leaves it on the replicas that are to have it
@@ -443,7 +444,7 @@ module _ (m : Machine) (inv : Invariant m) (history : HasHistory m) (d : CallId)
       let s = allowed.state in
       let u = update_of s.op in
       let w = allowed.row.1 in
-      let held : m.in_hand s.call.actor ≡ Some s = ap (λ (c : CallId). m.in_hand c.actor) allowed.call_is ∙ allowed.in_hand in
+      let held : m.in_hand (who s) ≡ Some s = held_as m d op s allowed.in_hand allowed.call_is allowed.word in
       let row : OnAll m j r (λ e x. CommitOk m s.call w j r (Some (Done answer)) details x) = allowed.row.3 in
       let (e, x, found, there, row_of) = on_replica-there m j r (λ e x. (is_all e.attributes ≡ true) × CommitOk m s.call w j r (Some (Done answer)) details x) row in
       let ok : CommitOk m s.call w j r (Some (Done answer)) details x = row_of.1 in
@@ -455,8 +456,7 @@ module _ (m : Machine) (inv : Invariant m) (history : HasHistory m) (d : CallId)
       let is : after m l ≡ n = ap (λ o. step_of m o verbs.Commit (Some j) (Some r) words.Ok (Some (Done answer))) allowed.in_hand ∙ ap (λ o. stepped (change_replica m j r o (with_committed (entry_of j m.cluster.entries))) s (Some (Done answer))) there in
       let inv_n : Invariant n = subst Invariant is (lawful m l inv due).1 in
       let bare_n : IsBare n = subst IsBare is (keeps_history m l inv history allowed due).bare in
-      let none : n.in_hand s.call.actor ≡ None = put_actor-here m.in_hand s.call.actor None in
-      let owns = owns_nothing n inv_n bare_n s.call none in
+      let owns = owns_nothing n inv_n bare_n s.call (ended_none m.in_hand m.pending m.next inv.holds.calls s held m.in_hand (λ w z there. there)) in
       let free : y.slot ≡ None = ap (λ (z : ReplicaState). z.slot) y_is ∙ committed_free e.attributes x x.slot ok.slot ok.staged in
       let has : HasUpdate s.call u y.effects = subst (λ (z : ReplicaState). HasUpdate s.call u z.effects) (sym y_is) (committed_new e.attributes x x.slot ok.slot s.call u ok.staged origin (own_update s held x ok.slot there ok.staged ok.owner)) in
       let made = is_made m inv history.bare j r e x found there in
@@ -521,7 +521,7 @@ module _ (log : List Label) (run : IsRun log) (inv : Invariant (last log)) (hist
       → IsUpdateWord word → Stays j d (update_of allowed.state.op) (after (last log) (label (last log) inv history d word j r answer details verb)) → IsTaken log (label (last log) inv history d word j r answer details verb) d
   taken d word verb j r answer details allowed own asks stay =
       let s = allowed.state in
-      let held : (last log).in_hand s.call.actor ≡ Some s = ap (λ (c : CallId). (last log).in_hand c.actor) allowed.call_is ∙ allowed.in_hand in
+      let held : (last log).in_hand (who s) ≡ Some s = held_as (last log) d word s allowed.in_hand allowed.call_is allowed.word in
       record {
         op = s.op;
         asks = subst IsUpdateWord (sym allowed.word) asks;
@@ -540,10 +540,9 @@ module _ (log : List Label) (run : IsRun log) (inv : Invariant (last log)) (hist
   answered d word verb k r reply answer details allowed due asks is = absurd is
 
   acknowledged : (l : Label) → Allowed (last log) l → IsDue (last log) l → (call : CallId) → Acknowledges l call → IsTaken log l call
-  acknowledged (labels.Began d op (Some (Done answer))) allowed due call acks = absurd (begin_not_done _ _ op answer acks.1 allowed.row)
+  acknowledged (labels.Began d op (Some (Done answer)) details) allowed due call acks = absurd (begin_not_done _ op answer acks.1 allowed.row)
   acknowledged (labels.Stepped d word verb k r reply (Some (Done answer)) details) allowed due call acks =
       let s = allowed.state in
-      let held : (last log).in_hand s.call.actor ≡ Some s = ap (λ (c : CallId). (last log).in_hand c.actor) allowed.call_is ∙ allowed.in_hand in
       let by = done_by_taking (last log) s (subst IsUpdateWord (sym allowed.word) acks.1) answer verb k r reply details allowed.row in
       subst (IsTaken log (labels.Stepped d word verb k r reply (Some (Done answer)) details)) acks.0 (answered d word verb k r reply answer details allowed due acks.1 by)
   acknowledged l allowed due call acks = absurd acks

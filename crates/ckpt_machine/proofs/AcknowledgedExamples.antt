@@ -30,20 +30,20 @@ use Rattle.ckpt_machine.specs.Runs.{last}
 -- ---- the words of the examples
 
 -- the calls of c0
-abbrev call_numbered : ℕ → CallId
+abbrev pub call_numbered : ℕ → CallId
 call_numbered n = record { actor = Client 0; number = n }
 
-abbrev answered_ok : Option Outcome
+abbrev pub answered_ok : Option Outcome
 answered_ok = Some (Done answers.Nothing)
 
 -- a checkpoint with one section of 8 bytes, by its option, and a write of it
 abbrev one_section : ℕ → CreationAttributes
 one_section option = record { creation_flags = option; checkpoint_size = 8; retention_duration = pos 0; max_sections = 1; max_section_size = 8; max_section_id_size = 8 }
 
-abbrev abc : Update
+abbrev pub abc : Update
 abc = updates.Write (record { id = []; offset = 0; bytes = codes "abc" } ∷ [])
 
-abbrev a_write : Op
+abbrev pub a_write : Op
 a_write = ops.Write 0 abc
 
 -- a step of a call on a checkpoint and a node, by which it goes on
@@ -80,7 +80,7 @@ no_element_by_which_it_goes_on acks = acks
 pub a_look_that_ends_a_write : Acknowledges (labels.Stepped (call_numbered 3) opwords.Write verbs.Look None None words.Done answered_ok beside.Nothing) (call_numbered 3)
 a_look_that_ends_a_write = (refl, tt)
 
-pub a_beginning_that_ends_a_write : Acknowledges (labels.Began (call_numbered 3) a_write answered_ok) (call_numbered 3)
+pub a_beginning_that_ends_a_write : Acknowledges (labels.Began (call_numbered 3) a_write answered_ok beside.Nothing) (call_numbered 3)
 a_beginning_that_ends_a_write = (refl, tt)
 
 pub no_step_by_which_it_goes_on : Acknowledges (write_step 3 opwords.Write verbs.Commit (Some 1) (Some 1)) (call_numbered 3) → ⊥
@@ -95,9 +95,9 @@ not_by_a_close acks = acks.1
 abbrev until_it_writes : ℕ → List Label
 until_it_writes option =
     labels.Nodes 2
-    ∷ labels.Began (call_numbered 1) (ops.Client 0 (record { release = release; major = major_max; minor = minor_answered }) (record { opens = false; syncs = false })) None
+    ∷ labels.Began (call_numbered 1) (ops.Client 0 (record { release = release; major = major_max; minor = minor_answered }) (record { opens = false; syncs = false })) None beside.Nothing
     ∷ labels.Stepped (call_numbered 1) opwords.Client verbs.Enter None (Some 0) words.Ok (Some (Done answers.Version)) beside.Nothing
-    ∷ labels.Began (call_numbered 2) (ops.Open 0 (codes "ck") (checkpoint_write + checkpoint_create) end_of_time (Some (one_section option))) None
+    ∷ labels.Began (call_numbered 2) (ops.Open 0 (codes "ck") (checkpoint_write + checkpoint_create) end_of_time (Some (one_section option))) None beside.Nothing
     ∷ write_step 2 opwords.Open verbs.Create (Some 1) None
     ∷ write_step 2 opwords.Open verbs.Reserve (Some 1) (Some 0)
     ∷ write_step 2 opwords.Open verbs.Reserve (Some 1) (Some 1)
@@ -105,17 +105,17 @@ until_it_writes option =
     ∷ []
 
 -- with updates on all replicas: a write is staged on n0 and on n1, and committed on n1
-abbrev until_one_has_it : List Label
+abbrev pub until_one_has_it : List Label
 until_one_has_it =
     until_it_writes wr_all_replicas
-    ++ labels.Began (call_numbered 3) a_write None
+    ++ labels.Began (call_numbered 3) a_write None beside.Nothing
     ∷ write_step 3 opwords.Write verbs.Stage (Some 1) (Some 0)
     ∷ write_step 3 opwords.Write verbs.Stage (Some 1) (Some 1)
     ∷ write_step 3 opwords.Write verbs.Commit (Some 1) (Some 1)
     ∷ []
 
 -- the effects on a node
-abbrev effects_of : Option ReplicaState → Option (List Effect)
+abbrev pub effects_of : Option ReplicaState → Option (List Effect)
 effects_of None = None
 effects_of (Some x) = Some x.effects
 
@@ -130,7 +130,7 @@ n0_has_it_staged = refl
 
 -- it began there, on the checkpoint of the handle in place 0
 pub it_has_begun : HasBegun until_one_has_it (call_numbered 3) a_write (Some 1)
-it_has_begun = record { before = until_it_writes wr_all_replicas; behind = _; log_is = refl; ckpt_is = refl }
+it_has_begun = record { before = until_it_writes wr_all_replicas; behind = _; end = None; details = beside.Nothing; log_is = refl; goes = refl; ckpt_is = refl }
 
 pub then_n0_has_it : effects_on (until_one_has_it ++ last_commit opwords.Write ∷ []) 0 ≡ Some (Applied (call_numbered 3) abc (pos 0) ∷ [])
 then_n0_has_it = refl
@@ -150,7 +150,7 @@ and_of_no_other_call (inr none) = none
 
 -- a write is applied on n0, the active
 abbrev until_the_active_has_it : List Label
-until_the_active_has_it = until_it_writes wr_active_replica ++ labels.Began (call_numbered 3) a_write None ∷ applied_at_once ∷ []
+until_the_active_has_it = until_it_writes wr_active_replica ++ labels.Began (call_numbered 3) a_write None beside.Nothing ∷ applied_at_once ∷ []
 
 pub the_active_has_it : effects_on until_the_active_has_it 0 ≡ Some (Applied (call_numbered 3) abc (pos 0) ∷ [])
 the_active_has_it = refl
@@ -179,7 +179,7 @@ abc_then_de = updates.Write (record { id = []; offset = 0; bytes = codes "abc" }
 abbrev until_one_element_is_done : List Label
 until_one_element_is_done =
     until_it_writes wr_active_replica_weak
-    ++ labels.Began (call_numbered 3) (ops.Write 0 abc_then_de) None
+    ++ labels.Began (call_numbered 3) (ops.Write 0 abc_then_de) None beside.Nothing
     ∷ write_step 3 opwords.Write verbs.Mark (Some 1) (Some 0)
     ∷ write_step 3 opwords.Write verbs.Element (Some 1) (Some 0)
     ∷ []

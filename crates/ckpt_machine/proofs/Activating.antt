@@ -18,7 +18,7 @@ use Rattle.cluster_record.proofs.IdentityLaws.{IdentitiesRise-change_key, Identi
 use Rattle.ckpt_machine.specs.Guards.{MayLead, ActivateOk, IsOnOwn, Row}
 use Rattle.ckpt_machine.specs.Invariant.{Invariant}
 use Rattle.ckpt_machine.specs.Listing.{is_active}
-use Rattle.ckpt_machine.specs.Machine.{Machine, ReplicaState, CallState}
+use Rattle.ckpt_machine.specs.Machine.{Machine, ReplicaState, CallState, who}
 use Rattle.ckpt_machine.specs.Propagation.{copied}
 use Rattle.ckpt_machine.specs.Shape.{IsCompleteOn}
 use Rattle.ckpt_machine.specs.Steps.{Told, with_record, record_step, change_replica, with_lead, led_from, changed, replica_under, opened_state}
@@ -153,7 +153,7 @@ LeadsFrom m s k e = ((e.active ≡ None) × (s.snapshot ≡ None)) ⊎ CopyInHan
 
 -- a call sets a node that was not it as the active of a collocated checkpoint, of which it has a replica
 pub record Leads (m : Machine) (s : CallState) (k r : ℕ) : Type 0 where
-  pub held : m.in_hand s.call.actor ≡ Some s
+  pub held : m.in_hand (who s) ≡ Some s
   pub ckpt : s.kept.ckpt ≡ Some k
   pub entry : Entry
   pub found : entry_of k m.cluster.entries ≡ Some entry
@@ -235,7 +235,7 @@ leads_from m s k r e None None none other may empty = inl (none, empty)
 leads_from m s k r e None (Some q) led other may empty = absurd (eqb-false q r other may)
 leads_from m s k r e (Some holder) active is other may copy = inr copy
 
-module _ (P : Machine → Type 0) (m : Machine) (inv : Invariant m) (bare : IsBare m) (s : CallState) (held : m.in_hand s.call.actor ≡ Some s) (k r : ℕ) (ckpt : s.kept.ckpt ≡ Some k) (made : ((j : ℕ) → MadeOn j m.cluster (swept (active_set k r m.cluster))) → P (record_step (active_set k r) m)) (leads : (lead : Leads m s k r) → P (with_leader m s k r lead))
+module _ (P : Machine → Type 0) (m : Machine) (inv : Invariant m) (bare : IsBare m) (s : CallState) (held : m.in_hand (who s) ≡ Some s) (k r : ℕ) (ckpt : s.kept.ckpt ≡ Some k) (made : ((j : ℕ) → MadeOn j m.cluster (swept (active_set k r m.cluster))) → P (record_step (active_set k r) m)) (leads : (lead : Leads m s k r) → P (with_leader m s k r lead))
     (end : Option Outcome) (e : Entry) (found : entry_of k m.cluster.entries ≡ Some e) (ok : ActivateOk s r end e) (hand : IsHeldIn m k s e e.hold) where
   -- the machine behind the step of the record
   abbrev n : Machine
@@ -334,7 +334,7 @@ module _ (P : Machine → Type 0) (m : Machine) (inv : Invariant m) (bare : IsBa
       by_replica (Some x) at = by_active x at e.active refl
 
 -- what is so where an active is set: what is so where each checkpoint that is made stays so and no replica changes, and what is so where a node leads that did not
-pub after_activate : (P : Machine → Type 0) (m : Machine) (inv : Invariant m) (bare : IsBare m) (s : CallState) → m.in_hand s.call.actor ≡ Some s → (t : Told) (j q : Option ℕ) (reply : StepReply) → IsOnOwn verbs.Activate j s.kept.ckpt
+pub after_activate : (P : Machine → Type 0) (m : Machine) (inv : Invariant m) (bare : IsBare m) (s : CallState) → m.in_hand (who s) ≡ Some s → (t : Told) (j q : Option ℕ) (reply : StepReply) → IsOnOwn verbs.Activate j s.kept.ckpt
     → Row m s verbs.Activate (record t { verb = verbs.Activate; ckpt = j; node = q; reply = reply }) → P m
     → ((k r : ℕ) → ((j : ℕ) → MadeOn j m.cluster (swept (active_set k r m.cluster))) → P (record_step (active_set k r) m))
     → ((k r : ℕ) (lead : Leads m s k r) → P (with_leader m s k r lead)) → P (changed m s verbs.Activate j q reply)

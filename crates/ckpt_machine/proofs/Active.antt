@@ -22,12 +22,11 @@ use Rattle.section_iter.specs.declared.room.Room.{Room}
 use Rattle.cluster_record.specs.declared.calls.ActiveKind.{ActiveKind}
 use Rattle.cluster_record.specs.declared.calls.ActiveKind.TheVariants as kinds
 use Rattle.cluster_record.specs.declared.entries.Entry.{Entry}
-use Rattle.cluster_record.specs.Calls.{put_actor}
 use Rattle.cluster_record.specs.DueActive.{unless_changed, unless_on_hold, is_update, on_active, active_on, request_by, starts_iteration}
 use Rattle.cluster_record.specs.declared.calls.MarksMade.{MarksMade}
 use Rattle.cluster_record.specs.RecordState.{entry_of, attributes_now}
 use Rattle.node_msgs.specs.declared.details.Details.TheVariants as beside
-use Rattle.ckpt_types.specs.Asks.{Ask, asked, elements_asked, elements_of}
+use Rattle.ckpt_types.specs.Asks.{Ask, asked, elements_asked, elements_of, is_async_ask}
 use Rattle.ckpt_types.specs.Asks as asks
 use Rattle.ckpt_machine.specs.Tables.{choice_of, started, gone_on}
 use Rattle.ckpt_machine.specs.Drivers.{Driver, Rooms}
@@ -36,7 +35,7 @@ use Rattle.ckpt_machine.specs.Driving.{driver_next, kind_of_change, making_in, r
 use Rattle.ckpt_machine.specs.InHand.{active_kind, change_kind, is_marked_by, MarksFit, IsInPlace, IsActiveIn}
 use Rattle.ckpt_machine.specs.Invariant.{IsGoodIn, InvariantIn, Invariant}
 use Rattle.weak_marks.specs.Marks.{Marked}
-use Rattle.ckpt_machine.specs.Machine.{Machine, CallState}
+use Rattle.ckpt_machine.specs.Machine.{Machine, CallState, who}
 use Rattle.node_core.specs.Serving.{read_details, reply_at, details_at, done_or_refused, next_reply, next_details}
 use Rattle.node_core.specs.Seen.{record_seen, entry_seen}
 use Rattle.ckpt_machine.specs.Steps.{Told, IsDone, IsServed, driver_of, seen, seen_at, rooms_of, ids_asked, payload_due, details_due, with_tables, given_at, chosen_at}
@@ -46,13 +45,15 @@ use Rattle.ckpt_machine.proofs.ActiveNode.{AsksOf, by_kind, ActiveOf, active_of,
 use Rattle.ckpt_machine.proofs.ActiveSteps.{gone_ends}
 use Rattle.ckpt_machine.proofs.Apply.{apply_goes}
 use Rattle.ckpt_machine.proofs.EndedTables.{started_keeps, gone_on_keeps}
-use Rattle.ckpt_machine.proofs.ReplicaSteps.{put_actor-here}
 use Rattle.ckpt_machine.proofs.HeldBy.{its_hold, held_by}
 use Rattle.ckpt_machine.proofs.PlainCalls.{is_plain, plain_ends, look_ends, look_goes}
 use Rattle.ckpt_machine.proofs.DueStep.{Goes}
 use Rattle.ckpt_machine.proofs.OptionLemmas.{IsSomeAnd-from}
 use Rattle.ckpt_machine.proofs.StepLabels.{IsServed-told}
+use Rattle.ckpt_machine.specs.Whose.{put_who}
 use Rattle.ckpt_machine.proofs.Weak.{mark_goes, marked_goes}
+use Rattle.ckpt_machine.proofs.AsyncCalls.{ended_idle}
+use Rattle.ckpt_types.specs.declared.identities.Who.TheVariants.{Actor}
 
 -- the cause of a refused read is the index, and that of a refused `next` is none
 read_cause : (weak : Bool) (op : Op) (index : ℕ) → AsksOf weak kinds.Read (asked op) → refused_cause op index ≡ Index index
@@ -93,32 +94,38 @@ LookRefused-held m s kind ask by updates is look = absurd (cc is)
 
 -- ---- any of them
 
-module _ (m : Machine) (shapes : ℕ → Shape) (inv : InvariantIn shapes m) (s : CallState) (call : CallId) (k : ℕ) (held : m.in_hand s.call.actor ≡ Some s) where
+-- what is asked of the active is no asynchronous call
+active_plain : (all weak : Bool) (ask : Ask) (kind : ActiveKind) → active_kind all weak ask ≡ Some kind → is_async_ask ask ≡ false
+active_plain all weak (asks.Open place name flags timeout a) kind is = absurd (cc is)
+active_plain all weak (asks.Synchronize place timeout) kind is = absurd (cc is)
+active_plain all weak ask kind is = refl
+
+module _ (m : Machine) (shapes : ℕ → Shape) (inv : InvariantIn shapes m) (s : CallState) (call : CallId) (k : ℕ) (held : m.in_hand (who s) ≡ Some s) where
   abbrev driver : ActiveKind → Driver
   driver kind = drivers.Active (record { call = call; ckpt = k; kind = kind; marks = None })
 
   -- where its steps have led it
   at_made : (kind : ActiveKind) (made : Option MarksMade) → driver_of s ≡ drivers.Active (record { call = call; ckpt = k; kind = kind; marks = made }) → IsActiveIn m shapes s (record { call = call; ckpt = k; kind = kind; marks = made })
-  at_made kind made is = subst (λ d. IsInPlace m shapes s d) is (inv.hands s.call.actor s held).here
+  at_made kind made is = subst (λ d. IsInPlace m shapes s d) is (inv.hands (who s) s held).here
 
   module _ (kind : ActiveKind) (is : driver_of s ≡ drivers.Active (record { call = call; ckpt = k; kind = kind; marks = None })) where
     pub at_active : IsActiveIn m shapes s (record { call = call; ckpt = k; kind = kind; marks = None })
-    at_active = subst (λ d. IsInPlace m shapes s d) is (inv.hands s.call.actor s held).here
+    at_active = subst (λ d. IsInPlace m shapes s d) is (inv.hands (who s) s held).here
 
     -- it ends, and all else is as it was
-    ends : Invariant (record m { in_hand = put_actor m.in_hand s.call.actor None })
+    ends : Invariant (record m { in_hand = put_who m.in_hand (who s) None })
     ends = record { shapes = shapes; holds = plain_ends m shapes inv s held (ap (λ d. is_plain d s.snapshot) is) }
 
-    -- its call is in hand no more
-    gone : put_actor m.in_hand s.call.actor None s.call.actor ≡ None
-    gone = put_actor-here m.in_hand s.call.actor None
+    -- its client waits for no call then
+    gone : put_who m.in_hand (who s) None (Actor s.call.actor) ≡ None
+    gone = ended_idle m s (active_plain s.kept.all s.kept.weak (asked s.op) kind at_active.kind)
 
     -- an iteration is started, or goes on
-    ends_started : (room : Room) (chosen_by : Choice → List (List ℕ)) → Invariant (record (with_tables s.call.actor (started (asked s.op) room chosen_by) m) { in_hand = put_actor m.in_hand s.call.actor None })
-    ends_started room chosen_by = record { shapes = shapes; holds = started_keeps (record m { in_hand = put_actor m.in_hand s.call.actor None }) shapes (plain_ends m shapes inv s held (ap (λ d. is_plain d s.snapshot) is)) s.call.actor gone (asked s.op) room chosen_by }
+    ends_started : (room : Room) (chosen_by : Choice → List (List ℕ)) → Invariant (record (with_tables s.call.actor (started (asked s.op) room chosen_by) m) { in_hand = put_who m.in_hand (who s) None })
+    ends_started room chosen_by = record { shapes = shapes; holds = started_keeps (record m { in_hand = put_who m.in_hand (who s) None }) shapes (plain_ends m shapes inv s held (ap (λ d. is_plain d s.snapshot) is)) s.call.actor gone (asked s.op) room chosen_by }
 
-    ends_next : (next : Option NextGiven) → Invariant (record (with_tables s.call.actor (gone_on (asked s.op) next) m) { in_hand = put_actor m.in_hand s.call.actor None })
-    ends_next next = record { shapes = shapes; holds = gone_on_keeps (record m { in_hand = put_actor m.in_hand s.call.actor None }) shapes (plain_ends m shapes inv s held (ap (λ d. is_plain d s.snapshot) is)) s.call.actor gone (asked s.op) next }
+    ends_next : (next : Option NextGiven) → Invariant (record (with_tables s.call.actor (gone_on (asked s.op) next) m) { in_hand = put_who m.in_hand (who s) None })
+    ends_next next = record { shapes = shapes; holds = gone_on_keeps (record m { in_hand = put_who m.in_hand (who s) None }) shapes (plain_ends m shapes inv s held (ap (λ d. is_plain d s.snapshot) is)) s.call.actor gone (asked s.op) next }
 
     -- what it asks for
     pub asks_of : AsksOf s.kept.weak kind (asked s.op)

@@ -1,5 +1,5 @@
 -- A call to the active changes the replica there, and its marks: what holds of every other call and of every other checkpoint stays.
-use Rattle.std.proofs.Common.{◌≡◌, ℕ, inl, inr, Option, Some, None, Bool, true, false, cond, ◌&&◌, ◌==◌, refl, sym, ap, subst, ◌∙◌}
+use Rattle.std.proofs.Common.{◌≡◌, ◌≢◌, ℕ, inl, inr, Option, Some, None, Bool, true, false, cond, ◌&&◌, ◌==◌, refl, sym, ap, subst, ◌∙◌}
 use Rattle.std.specs.Prelude.{is_some, IsSomeAnd}
 use Rattle.std.proofs.lemmas.Bool.{eqb-true, eq-eqb}
 use Rattle.std.proofs.lemmas.Option.{same_Some}
@@ -10,22 +10,22 @@ use Rattle.cluster_record.specs.declared.calls.UpdatePhase.TheVariants.{Staging,
 use Rattle.cluster_record.specs.declared.entries.Entry.{Entry}
 use Rattle.cluster_record.specs.DueActive.{ActiveState}
 use Rattle.cluster_record.specs.DueUpdate.{UpdateState}
-use Rattle.cluster_record.specs.Calls.{same_actor, put_actor}
 use Rattle.cluster_record.specs.Places.{put, put2}
 use Rattle.cluster_record.specs.RecordState.{entry_of}
 use Rattle.ckpt_machine.specs.Drivers as drivers
 use Rattle.ckpt_machine.specs.InHand.{is_marked_by, IsInHand}
 use Rattle.ckpt_machine.specs.Invariant.{IsMaker, IsGoodIn, IsOfGeneration, InvariantIn}
-use Rattle.ckpt_machine.specs.Machine.{Machine, ReplicaState, CallState}
+use Rattle.ckpt_machine.specs.Machine.{Machine, ReplicaState, CallState, who}
 use Rattle.ckpt_machine.specs.Options.{is_all}
 use Rattle.ckpt_machine.specs.Shape.{Shape, IsCompleteOn, IsApart, IsShapedBy, PhaseFits, is_owner, IsOwner, IsMarker, IsHolder, IsSpread}
 use Rattle.ckpt_machine.specs.Steps.{driver_of}
 use Rattle.ckpt_machine.proofs.ActiveNode.{active_complete}
-use Rattle.ckpt_machine.proofs.Actors.{same_actor-true}
+use Rattle.ckpt_machine.proofs.CallsKept.{IsSameCall, same_call-None, apart_from, calls_left}
 use Rattle.ckpt_machine.proofs.OnComplete.{present_generation, put_complete}
 use Rattle.ckpt_machine.proofs.OptionLemmas.{IsSomeAnd-from}
 use Rattle.ckpt_machine.proofs.OtherCalls.{LooksAlike, LooksLater-refl, making_still, IsInHand-alike, IsIn-apart, IsOwner-alike, IsGoodIn-alike}
-use Rattle.ckpt_machine.proofs.ReplicaSteps.{put_actor-cases, put_actor-other}
+use Rattle.ckpt_machine.specs.Whose.{put_who, same_who}
+use Rattle.ckpt_machine.proofs.Whose.{put_who-cases, put_who-other, apart_states}
 
 -- the same checkpoint with other marks
 abbrev pub marked_so : Shape → Option Marked → Shape
@@ -39,29 +39,25 @@ PhaseFits-marked sh marks z u Committing fits = record { origin = fits.origin; u
 IsOwner-marked : (m : Machine) (k : ℕ) (sh : Shape) (marks : Option Marked) (d : CallId) → IsOwner m k sh d → IsOwner m k (marked_so sh marks) d
 IsOwner-marked m k sh marks d own = record { state = own.state; in_hand = own.in_hand; call_is = own.call_is; driver = own.driver; driver_is = own.driver_is; ckpt = own.ckpt; phase = PhaseFits-marked sh marks own.state own.driver own.driver.phase own.phase }
 
-module _ (m : Machine) (shapes : ℕ → Shape) (inv : InvariantIn shapes m) (s : CallState) (a : ActiveState) (held : m.in_hand s.call.actor ≡ Some s) (is : driver_of s ≡ drivers.Active a) where
+module _ (m : Machine) (shapes : ℕ → Shape) (inv : InvariantIn shapes m) (s : CallState) (a : ActiveState) (held : m.in_hand (who s) ≡ Some s) (is : driver_of s ≡ drivers.Active a) where
   -- ---- other calls
 
-  -- what is in hand with another driver is another's
-  other_by_driver : (d : CallId) (z : CallState) → m.in_hand d.actor ≡ Some z → (driver_of z ≡ drivers.Active a → ⊥) → same_actor d.actor s.call.actor ≡ false
-  other_by_driver d z there apart = by_test (same_actor d.actor s.call.actor) refl
-    where
-      by_test : (b : Bool) → same_actor d.actor s.call.actor ≡ b → same_actor d.actor s.call.actor ≡ false
-      by_test false is_not = is_not
-      by_test true same = absurd (apart (ap driver_of (same_Some z s (sym there ∙ ap m.in_hand (same_actor-true d.actor s.call.actor same) ∙ held)) ∙ is))
+  -- what is in hand with another driver is another call
+  other_by_driver : (z : CallState) → m.in_hand (who z) ≡ Some z → (driver_of z ≡ drivers.Active a → ⊥) → same_who (who z) (who s) ≡ false
+  other_by_driver z there apart = apart_states m.in_hand z s there held (λ same. apart (ap driver_of same ∙ is))
 
-  owner_other : (j : ℕ) (sh : Shape) (d : CallId) → IsOwner m j sh d → same_actor d.actor s.call.actor ≡ false
-  owner_other j sh d own = other_by_driver d own.state own.in_hand (λ same. let w : drivers.Update own.driver ≡ drivers.Active a = sym own.driver_is ∙ same in cc w)
+  owner_other : (j : ℕ) (sh : Shape) (d : CallId) (own : IsOwner m j sh d) → same_who (who own.state) (who s) ≡ false
+  owner_other j sh d own = other_by_driver own.state own.in_hand (λ same. let w : drivers.Update own.driver ≡ drivers.Active a = sym own.driver_is ∙ same in cc w)
 
-  maker_other : (j : ℕ) (d : CallId) → IsMaker m j d → same_actor d.actor s.call.actor ≡ false
-  maker_other j d own = other_by_driver d own.state own.in_hand (λ same. let w : drivers.Open own.driver ≡ drivers.Active a = sym own.driver_is ∙ same in cc w)
+  maker_other : (j : ℕ) (d : CallId) (own : IsMaker m j d) → same_who (who own.state) (who s) ≡ false
+  maker_other j d own = other_by_driver own.state own.in_hand (λ same. let w : drivers.Open own.driver ≡ drivers.Active a = sym own.driver_is ∙ same in cc w)
 
-  holder_other : (j : ℕ) (active : Option ℕ) (d : CallId) → IsHolder m j active d → same_actor d.actor s.call.actor ≡ false
-  holder_other j active d own = other_by_driver d own.state own.in_hand (λ same. let w : drivers.Sync own.driver ≡ drivers.Active a = sym own.driver_is ∙ same in cc w)
+  holder_other : (j : ℕ) (active : Option ℕ) (d : CallId) (own : IsHolder m j active d) → same_who (who own.state) (who s) ≡ false
+  holder_other j active d own = other_by_driver own.state own.in_hand (λ same. let w : drivers.Sync own.driver ≡ drivers.Active a = sym own.driver_is ∙ same in cc w)
 
   -- so are the marks on another checkpoint
-  marker_other : (j : ℕ) (marks : Marked) → (j == a.ckpt) ≡ false → IsMarker m j marks → same_actor marks.call.actor s.call.actor ≡ false
-  marker_other j marks other own = other_by_driver marks.call own.state own.in_hand (λ same.
+  marker_other : (j : ℕ) (marks : Marked) → (j == a.ckpt) ≡ false → (own : IsMarker m j marks) → same_who (who own.state) (who s) ≡ false
+  marker_other j marks other own = other_by_driver own.state own.in_hand (λ same.
       let both : drivers.Active own.driver ≡ drivers.Active a = sym own.driver_is ∙ same in
       let driver : own.driver ≡ a = cc both in
       let ckpt : j ≡ a.ckpt = sym own.ckpt ∙ ap (λ (x : ActiveState). x.ckpt) driver in
@@ -71,16 +67,16 @@ module _ (m : Machine) (shapes : ℕ → Shape) (inv : InvariantIn shapes m) (s 
 
   -- with other replicas, and with this left of the call
   abbrev with_step : (ℕ → ℕ → Option ReplicaState) → Option CallState → Machine
-  with_step f o = record m { replicas = f; in_hand = put_actor m.in_hand s.call.actor o }
+  with_step f o = record m { replicas = f; in_hand = put_who m.in_hand (who s) o }
 
   -- another checkpoint is as it was
   IsGoodIn-other : (f : ℕ → ℕ → Option ReplicaState) (o : Option CallState) → ((j q : ℕ) → (j == a.ckpt) ≡ false → f j q ≡ m.replicas j q) → (j : ℕ) (sh : Shape) (e : Entry) (maker : Option CallId) → (j == a.ckpt) ≡ false → IsGoodIn m j sh e maker → IsGoodIn (with_step f o) j sh e maker
   IsGoodIn-other f o stays j sh e maker other good = IsGoodIn-alike m (with_step f o) j sh e (λ q there. stays j q other)
-      (λ d own. put_actor-other m.in_hand s.call.actor o d.actor (owner_other j sh d own)) (λ marks own. put_actor-other m.in_hand s.call.actor o marks.call.actor (marker_other j marks other own)) (λ active d own. put_actor-other m.in_hand s.call.actor o d.actor (holder_other j active d own)) (λ d own. put_actor-other m.in_hand s.call.actor o d.actor (maker_other j d own)) maker good
+      (λ d own. put_who-other m.in_hand (who s) o (who own.state) (owner_other j sh d own)) (λ marks own. put_who-other m.in_hand (who s) o (who own.state) (marker_other j marks other own)) (λ active d own. put_who-other m.in_hand (who s) o (who own.state) (holder_other j active d own)) (λ d own. put_who-other m.in_hand (who s) o (who own.state) (maker_other j d own)) maker good
 
   -- ---- its checkpoint is gone, and it ends
 
-  pub gone_ends : entry_of a.ckpt m.cluster.entries ≡ None → InvariantIn shapes (record m { in_hand = put_actor m.in_hand s.call.actor None })
+  pub gone_ends : entry_of a.ckpt m.cluster.entries ≡ None → InvariantIn shapes (record m { in_hand = put_who m.in_hand (who s) None })
   gone_ends gone = record {
     up = inv.up;
     none_live = inv.none_live;
@@ -93,10 +89,12 @@ module _ (m : Machine) (shapes : ℕ → Shape) (inv : InvariantIn shapes m) (s 
     handles = inv.handles;
     rest = inv.rest;
     clients = inv.clients;
-    hands = λ b z left. elim (put_actor-cases m.in_hand s.call.actor None b z left) [
+    places = inv.places;
+    hands = λ b z left. elim (put_who-cases m.in_hand (who s) None b z left) [
       | inl here ↦ absurd (let w : None ≡ Some z = here.1 in cc w)
-      | inr other ↦ (let was = inv.hands b z other.1 in record { actor = was.actor; client = was.client; number = was.number; built = was.built; driven = was.driven; live = was.live; here = IsIn-apart m shapes m.next (put_actor m.in_hand s.call.actor None) z (driver_of z) was.here })
+      | inr other ↦ (let was = inv.hands b z other.1 in record { whose = was.whose; client = was.client; number = was.number; built = was.built; driven = was.driven; live = was.live; here = IsIn-apart m shapes m.next m.pending (put_who m.in_hand (who s) None) z (driver_of z) was.here })
     ];
+    calls = calls_left m.in_hand m.pending m.next inv.calls s held None (same_call-None s);
   }
     where
       apart : (j : ℕ) (e : Entry) → entry_of j m.cluster.entries ≡ Some e → (b : Bool) → (j == a.ckpt) ≡ b → (j == a.ckpt) ≡ false
@@ -108,7 +106,7 @@ module _ (m : Machine) (shapes : ℕ → Shape) (inv : InvariantIn shapes m) (s 
   module _ (r : ℕ) (e : Entry) (found : entry_of a.ckpt m.cluster.entries ≡ Some e) (made : e.making ≡ None) (alone : is_all e.attributes ≡ false) (active : e.active ≡ Some r) (no_hold : e.hold ≡ None)
       (y : ReplicaState) (marks : Option Marked) (apart : IsApart marks y) (generation : y.generation ≡ e.generation) (o : Option CallState) where
     abbrev pub then_machine : Machine
-    then_machine = record m { replicas = put2 m.replicas a.ckpt r (Some y); in_hand = put_actor m.in_hand s.call.actor o }
+    then_machine = record m { replicas = put2 m.replicas a.ckpt r (Some y); in_hand = put_who m.in_hand (who s) o }
 
     abbrev pub then_shapes : ℕ → Shape
     then_shapes = put shapes a.ckpt (marked_so (shapes a.ckpt) marks)
@@ -143,7 +141,7 @@ module _ (m : Machine) (shapes : ℕ → Shape) (inv : InvariantIn shapes m) (s 
       lowest = was.lowest;
       owned = λ q d owns.
           let own = was.owned q d owns in
-          IsOwner-alike m then_machine a.ckpt (marked_so (shapes a.ckpt) marks) d (put_actor-other m.in_hand s.call.actor o d.actor (owner_other a.ckpt (shapes a.ckpt) d own)) (IsOwner-marked m a.ckpt (shapes a.ckpt) marks d own);
+          IsOwner-marked then_machine a.ckpt (shapes a.ckpt) marks d (IsOwner-alike m then_machine a.ckpt (shapes a.ckpt) d own (put_who-other m.in_hand (who s) o (who own.state) (owner_other a.ckpt (shapes a.ckpt) d own)));
       led = λ w same. ap is_some active;
       marked = marked;
       held = λ d is. absurd (let w : Some d ≡ None = sym is ∙ no_hold in cc w);
@@ -151,13 +149,13 @@ module _ (m : Machine) (shapes : ℕ → Shape) (inv : InvariantIn shapes m) (s 
 
     -- the marks of other calls are what they were
     abbrev pub LeavesMarks : Type 0
-    LeavesMarks = (d : CallId) → same_actor d.actor s.call.actor ≡ false → is_marked_by d marks ≡ is_marked_by d (shapes a.ckpt).marks
+    LeavesMarks = (d : CallId) → d ≢ s.call → is_marked_by d marks ≡ is_marked_by d (shapes a.ckpt).marks
 
-    looks_then : LeavesMarks → (z : CallState) → same_actor z.call.actor s.call.actor ≡ false → LooksAlike m then_machine shapes then_shapes z
+    looks_then : LeavesMarks → (z : CallState) → z.call ≢ s.call → LooksAlike m then_machine shapes then_shapes z
     looks_then leaves z other = record {
       up = λ r up. up;
       lives = refl;
-      tables = refl;
+      handle = λ there. there;
       making = λ v at. making_still m then_machine z v (λ w at. record { there = at.there; declares = at.declares; nodes = at.nodes; reserved = at.reserved; only = at.only; within = at.within }) at;
       made = λ k was. was;
       later = λ k was e found. (e, found, LooksLater-refl z (shapes k).marks e);
@@ -172,8 +170,8 @@ module _ (m : Machine) (shapes : ℕ → Shape) (inv : InvariantIn shapes m) (s 
     }
 
     -- the invariant holds after it, where the marks that stand then are of a call in hand, and what is left of the call is where its steps have led it
-    pub active_keeps : LeavesMarks → ((w : Marked) → marks ≡ Some w → IsMarker then_machine a.ckpt w) → ((z : CallState) → o ≡ Some z → IsInHand then_machine then_shapes s.call.actor z) → InvariantIn then_shapes then_machine
-    active_keeps leaves marked own = record {
+    pub active_keeps : LeavesMarks → IsSameCall s o → ((w : Marked) → marks ≡ Some w → IsMarker then_machine a.ckpt w) → ((z : CallState) → o ≡ Some z → IsInHand then_machine then_shapes (who s) z) → InvariantIn then_shapes then_machine
+    active_keeps leaves same marked own = record {
       up = inv.up;
       none_live = inv.none_live;
       rises = inv.rises;
@@ -185,12 +183,14 @@ module _ (m : Machine) (shapes : ℕ → Shape) (inv : InvariantIn shapes m) (s 
       handles = inv.handles;
       rest = inv.rest;
       clients = inv.clients;
-      hands = λ b z there. elim (put_actor-cases m.in_hand s.call.actor o b z there) [
+      places = inv.places;
+      hands = λ b z there. elim (put_who-cases m.in_hand (who s) o b z there) [
         | inl here ↦ subst (λ c. IsInHand then_machine then_shapes c z) (sym here.0) (own z here.1)
         | inr other ↦ (
             let was = inv.hands b z other.1 in
-            IsInHand-alike m then_machine shapes then_shapes z (looks_then leaves z (ap (λ c. same_actor c s.call.actor) was.actor ∙ other.0)) b (λ live. live) was.number was)
+            IsInHand-alike m then_machine shapes then_shapes z (looks_then leaves z (apart_from m.in_hand m.pending m.next inv.calls s held b z other.1 other.0)) b (λ live. live) was.number was)
       ];
+      calls = calls_left m.in_hand m.pending m.next inv.calls s held o same;
     }
       where
         by_test : (j : ℕ) (f : Entry) → entry_of j m.cluster.entries ≡ Some f → (b : Bool) → (j == a.ckpt) ≡ b → IsGoodIn then_machine j (then_shapes j) f f.making

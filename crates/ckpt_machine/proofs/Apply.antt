@@ -11,7 +11,6 @@ use Rattle.ckpt_types.specs.Updates.{Refusal, outcome}
 use Rattle.weak_marks.specs.Marks.{Marked, call_of}
 use Rattle.cluster_record.specs.declared.calls.ActiveKind.TheVariants as kinds
 use Rattle.cluster_record.specs.declared.entries.Entry.{Entry}
-use Rattle.cluster_record.specs.Calls.{put_actor}
 use Rattle.cluster_record.specs.Places.{put2}
 use Rattle.cluster_record.specs.RecordState.{entry_of}
 use Rattle.node_msgs.specs.declared.requests.Request.{Request}
@@ -24,16 +23,18 @@ use Rattle.node_core.specs.Serving.{reply_at, reply_unless, details_at, update_a
 use Rattle.ckpt_machine.specs.Drivers as drivers
 use Rattle.ckpt_machine.specs.InHand.{is_marked_by}
 use Rattle.ckpt_machine.specs.Invariant.{InvariantIn, Invariant}
-use Rattle.ckpt_machine.specs.Machine.{Machine, ReplicaState, CallState}
+use Rattle.ckpt_machine.specs.Machine.{Machine, ReplicaState, CallState, who}
 use Rattle.ckpt_machine.specs.Shape.{Shape}
 use Rattle.ckpt_machine.specs.Steps.{Told, IsServed, ended_details, driver_of, payload_due, details_due, change_replica, with_applied, having_taken}
 use Rattle.ckpt_machine.proofs.ActiveNode.{ActiveOf, active_seen}
 use Rattle.ckpt_machine.proofs.ActiveSteps.{active_keeps}
 use Rattle.ckpt_machine.proofs.DueStep.{Goes}
 use Rattle.ckpt_machine.proofs.OnTheActive.{apart, alone, asks_own, on_active, ends, refused_row, holder_live, held_row}
+use Rattle.ckpt_machine.specs.Whose.{put_who}
 use Rattle.ckpt_machine.proofs.StepLabels.{IsServed-told}
+use Rattle.ckpt_machine.proofs.CallsKept.{same_call-None}
 
-module _ (m : Machine) (shapes : ℕ → Shape) (inv : InvariantIn shapes m) (s : CallState) (call : CallId) (k : ℕ) (held : m.in_hand s.call.actor ≡ Some s) (at : ActiveOf m (shapes k).marks k) (no_hold : at.entry.hold ≡ None) (is : driver_of s ≡ drivers.Active (record { call = call; ckpt = k; kind = kinds.Apply; marks = None })) where
+module _ (m : Machine) (shapes : ℕ → Shape) (inv : InvariantIn shapes m) (s : CallState) (call : CallId) (k : ℕ) (held : m.in_hand (who s) ≡ Some s) (at : ActiveOf m (shapes k).marks k) (no_hold : at.entry.hold ≡ None) (is : driver_of s ≡ drivers.Active (record { call = call; ckpt = k; kind = kinds.Apply; marks = None })) where
   abbrev request : Request
   request = requests.Apply call k
 
@@ -63,11 +64,11 @@ module _ (m : Machine) (shapes : ℕ → Shape) (inv : InvariantIn shapes m) (s 
   abbrev taken : ReplicaState
   taken = having_taken at.entry.attributes s.call (update_of s.op) m.cluster.moment at.replica
 
-  holds_taken : (shapes k).marks ≡ None → Invariant (record m { replicas = put2 m.replicas k at.node (Some taken); in_hand = put_actor m.in_hand s.call.actor None })
+  holds_taken : (shapes k).marks ≡ None → Invariant (record m { replicas = put2 m.replicas k at.node (Some taken); in_hand = put_who m.in_hand (who s) None })
   holds_taken unmarked = record {
     shapes = _;
     holds = active_keeps m shapes inv s _ held is at.node at.entry at.found at.made (alone m shapes inv s call k kinds.Apply None held at refl is) at.active no_hold taken None (record { free = (apart m shapes inv s call k kinds.Apply None held at refl is).free; marks_are = marks_are ∙ unmarked }) at.generation None
-        (λ d other. sym (ap (is_marked_by d) unmarked)) (λ marks none. absurd (cc none)) (λ z there. absurd (cc there));
+        (λ d other. sym (ap (is_marked_by d) unmarked)) (same_call-None s) (λ marks none. absurd (cc none)) (λ z there. absurd (cc there));
   }
 
   applied_is : change_replica m k at.node (m.replicas k at.node) (with_applied s.call (update_of s.op) m.cluster.moment (entry_of k m.cluster.entries)) ≡ record m { replicas = put2 m.replicas k at.node (Some taken) }
@@ -79,8 +80,8 @@ module _ (m : Machine) (shapes : ℕ → Shape) (inv : InvariantIn shapes m) (s 
   abbrev behind : Machine
   behind = change_replica m k at.node (m.replicas k at.node) (with_applied s.call (update_of s.op) m.cluster.moment (entry_of k m.cluster.entries))
 
-  holds_applied : (shapes k).marks ≡ None → Invariant (record behind { in_hand = put_actor behind.in_hand s.call.actor None })
-  holds_applied unmarked = subst (λ (n : Machine). Invariant (record n { in_hand = put_actor n.in_hand s.call.actor None })) (sym applied_is) (holds_taken unmarked)
+  holds_applied : (shapes k).marks ≡ None → Invariant (record behind { in_hand = put_who behind.in_hand (who s) None })
+  holds_applied unmarked = subst (λ (n : Machine). Invariant (record n { in_hand = put_who n.in_hand (who s) None })) (sym applied_is) (holds_taken unmarked)
 
   -- ---- the step
 

@@ -24,7 +24,7 @@ use Rattle.ckpt_machine.specs.Steps.{IsDriven, driver_of}
 pub record IsOpenFor (call : CallId) (ask : Ask) (o : OpenState) : Type 0 where
   pub place : ℕ
   pub flags : ℕ
-  pub timeout : ℤ
+  pub timeout : Option ℤ
   pub asks : ask ≡ asks.Open place o.ask.name flags timeout o.ask.attrs
   pub call_is : o.call ≡ call
   pub client : o.ask.client ≡ client_of call

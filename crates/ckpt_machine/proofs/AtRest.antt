@@ -1,5 +1,5 @@
 -- No iteration of a client is lent between two steps: each change of its tables leaves it so.
-use Rattle.std.proofs.Common.{ℕ, List, Option, Some, None, Bool, true, false, cond, ◌==◌, slice_index, refl}
+use Rattle.std.proofs.Common.{◌≡◌, ℕ, List, [], ◌∷◌, Option, Some, None, Bool, true, false, cond, ◌==◌, slice_index, refl, sym, subst}
 use Rattle.std.proofs.lemmas.List.Elements.{All-map, All-weaker}
 use Rattle.ckpt_types.specs.declared.answers.Outcome.{Outcome}
 use Rattle.ckpt_types.specs.declared.answers.Outcome.TheVariants as outcomes
@@ -10,12 +10,16 @@ use Rattle.ckpt_types.specs.Asks as asks
 use Rattle.section_iter.specs.KeptIds.{KeptIds}
 use Rattle.section_iter.specs.Next.{kept_after}
 use Rattle.section_iter.specs.declared.room.Room.{Room}
-use Rattle.client_handles.specs.ClientState.{ClientState, NoneLent, handle_at, kept_at, iteration_number, with_kept, returned}
+use Rattle.client_handles.specs.ClientState.{ClientState, NoneLent, handle_at, kept_at, iteration_number, with_kept, returned, bound, opened_at, can_stand_for}
+use Rattle.ckpt_types.specs.declared.calls.AsyncKind.{AsyncKind}
+use Rattle.ckpt_types.specs.declared.calls.AsyncKind.TheVariants as async
+use Rattle.call_dispatch.specs.PendingCalls.{PendingCalls, given_by}
+use Rattle.call_dispatch.specs.declared.async_call.EndedCall.{EndedCall}
 use Rattle.client_handles.specs.declared.begun.BegunIteration.{BegunIteration}
 use Rattle.client_handles.specs.declared.handle_view.HandleView.{HandleView}
 use Rattle.client_handles.proofs.LentLaws.{KeepsSome, NoneLent-new, NoneLent-released, NoneLent-ended, NoneLent-added}
 use Rattle.ckpt_machine.specs.Machine.{no_tables}
-use Rattle.ckpt_machine.specs.Tables.{handle_given, with_iteration, started, with_next, gone_on, closing, ended_at_once}
+use Rattle.ckpt_machine.specs.Tables.{handle_given, with_iteration, started, with_next, gone_on, closing, registering, place_set, places_set, ended_at_once}
 
 -- of a client that keeps nothing
 pub NoneLent-no_tables : NoneLent no_tables
@@ -23,7 +27,8 @@ NoneLent-no_tables = NoneLent-new no_tables.callbacks
 
 -- with a handle more
 pub NoneLent-given : (ask : Ask) (k creation_flags : ℕ) (t : ClientState) → NoneLent t → NoneLent (handle_given ask k creation_flags t)
-NoneLent-given (asks.Open place name flags timeout a) k creation_flags t none = none
+NoneLent-given (asks.Open place name flags (Some timeout) a) k creation_flags t none = none
+NoneLent-given (asks.Open place name flags None a) k creation_flags t none = none
 NoneLent-given ask k creation_flags t none = none
 
 -- with an iteration more, which is kept
@@ -60,7 +65,29 @@ pub NoneLent-closing : (ask : Ask) (t : ClientState) → NoneLent t → NoneLent
 NoneLent-closing (asks.Close place) t none = NoneLent-released (slice_index t.places place) t none
 NoneLent-closing ask t none = none
 
--- without an iteration
-pub NoneLent-ended_at_once : (end : Option Outcome) (ask : Ask) (t : ClientState) → NoneLent t → NoneLent (ended_at_once end ask t)
-NoneLent-ended_at_once (Some (outcomes.Done answer)) (asks.EndIteration iteration) t none = NoneLent-ended iteration t none
-NoneLent-ended_at_once end ask t none = none
+-- with a place set to a handle that is open
+NoneLent-opened_at : (place number : ℕ) (t : ClientState) → NoneLent t → NoneLent (opened_at place number t)
+NoneLent-opened_at place number t none = elim (can_stand_for place number t) as (λ b. NoneLent (cond b (bound place number t) t)) [ true ↦ none | false ↦ none ]
+
+NoneLent-place_set : (call : EndedCall) (t : ClientState) → NoneLent t → NoneLent (place_set call t)
+NoneLent-place_set call t none = by_kind call.asked.kind refl
+  where
+    by_kind : (kind : AsyncKind) → call.asked.kind ≡ kind → NoneLent (place_set call t)
+    by_kind (async.Open place) is = subst (λ kind. NoneLent (place_set (record call { asked = record call.asked { kind = kind } }) t)) (sym is) (NoneLent-opened_at place call.asked.handle t none)
+    by_kind async.Sync is = subst (λ kind. NoneLent (place_set (record call { asked = record call.asked { kind = kind } }) t)) (sym is) none
+
+-- with the places of callbacks set
+NoneLent-places_set : (calls : List EndedCall) (t : ClientState) → NoneLent t → NoneLent (places_set calls t)
+NoneLent-places_set [] t none = none
+NoneLent-places_set (call ∷ calls) t none = NoneLent-places_set calls (place_set call t) (NoneLent-place_set call t none)
+
+-- with other callbacks
+pub NoneLent-registering : (ask : Ask) (t : ClientState) → NoneLent t → NoneLent (registering ask t)
+NoneLent-registering (asks.Enter r version callbacks) t none = none
+NoneLent-registering ask t none = none
+
+-- without an iteration, or with the places of callbacks set
+pub NoneLent-ended_at_once : (end : Option Outcome) (ask : Ask) (p : PendingCalls) (t : ClientState) → NoneLent t → NoneLent (ended_at_once end ask p t)
+NoneLent-ended_at_once (Some (outcomes.Done answer)) (asks.EndIteration iteration) p t none = NoneLent-ended iteration t none
+NoneLent-ended_at_once (Some (outcomes.Done answer)) (asks.Dispatch flags) p t none = NoneLent-places_set (given_by flags p) t none
+NoneLent-ended_at_once end ask p t none = none

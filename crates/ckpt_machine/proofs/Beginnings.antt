@@ -1,21 +1,24 @@
 -- Where each operation begins, with any calls of others in hand.
-use Rattle.std.proofs.Common.{◌≡◌, ℕ, ◌<◌, List, [], ◌∷◌, length, Option, Some, None, is_some, Bool, true, false, cond, ◌==◌, ◌||◌, ℤ, refl, sym, ap, subst, ◌∙◌, arith}
-use Rattle.std.specs.Option.{option_and_then}
-use Rattle.std.specs.Prelude.{IsSome, IfSome, Contains, int_lt, nat_lt, not, pos, ◌≤ℤ◌, slice_index}
+use Rattle.std.proofs.Common.{◌≡◌, ◌⊎◌, inl, inr, ℕ, ◌<◌, List, [], ◌∷◌, length, Option, Some, None, is_some, Bool, true, false, cond, ◌==◌, ◌||◌, ℤ, refl, sym, ap, subst, ◌∙◌, arith}
+use Rattle.std.specs.Option.{option_and_then, option_map}
+use Rattle.std.specs.Prelude.{IsSome, is_none, IfSome, Contains, int_lt, nat_lt, not, pos, ◌≤ℤ◌, slice_index}
 use Rattle.std.proofs.lemmas.Bool.{or_parts, and_parts, ltb-false, ltb-true}
 use Rattle.std.proofs.lemmas.Int.{ints}
 use Rattle.std.proofs.lemmas.List.Elements.{Contains-append_right}
 use Rattle.std.proofs.lemmas.Option.{same_Some}
 use Rattle.ckpt_types.specs.declared.answers.Outcome.{Outcome}
+use Rattle.ckpt_types.specs.declared.answers.Outcome.TheVariants.{Done}
 use Rattle.ckpt_types.specs.declared.attributes.CreationAttributes.{CreationAttributes}
 use Rattle.ckpt_types.specs.declared.identities.ActorName.{ActorName}
 use Rattle.ckpt_types.specs.declared.identities.ActorName.TheVariants.{Client, Node}
 use Rattle.ckpt_types.specs.declared.identities.CallId.{CallId}
-use Rattle.ckpt_types.specs.declared.open_flags.OpenFlags.{OpenFlags}
+use Rattle.ckpt_types.specs.declared.identities.Who.TheVariants.{Actor}
 use Rattle.ckpt_types.specs.declared.operation.Op.{Op}
+use Rattle.ckpt_types.specs.declared.operation.Op.TheVariants as ops
 use Rattle.ckpt_types.specs.declared.update.Update.{Update}
 use Rattle.ckpt_types.specs.declared.update.Update.TheVariants as updates
-use Rattle.ckpt_types.specs.Attributes.{has_bad_open_flags, has_flag}
+use Rattle.ckpt_types.specs.Attributes.{has_flag}
+use Rattle.ckpt_types.specs.OpWord.{is_async, word_of_op, stepped_as}
 use Rattle.ckpt_types.specs.Limits.{client_numbers, nodes_max, checkpoint_collocated}
 use Rattle.section_iter.specs.Room.{room_declared}
 use Rattle.client_handles.specs.declared.begun.BegunIteration.{BegunIteration}
@@ -29,9 +32,10 @@ use Rattle.cluster_record.specs.Calls.{number_of, IsClient, same_call}
 use Rattle.cluster_record.specs.LookUps.{declared_in}
 use Rattle.cluster_record.specs.Places.{find_key}
 use Rattle.cluster_record.specs.RecordState.{entry_of, client_key, node_of_client, is_live, is_live_client, is_up}
-use Rattle.ckpt_types.specs.Asks.{Ask, asked, IsBuiltAsk, IsBuilt}
+use Rattle.ckpt_types.specs.Asks.{Ask, asked}
 use Rattle.ckpt_types.specs.Asks as asks
-use Rattle.ckpt_machine.specs.Beginning.{begin_end, if_live, on_handle, sync_begin, unless_forbidden, are_of_all, are_not_collocated, open_begin, may_always, may_write, update_is_bad, attributes_are_bad, name_is_bad}
+use Rattle.ckpt_machine.specs.Beginning.{Standing, are_of_all, are_not_collocated, update_is_bad, attributes_are_bad, name_is_bad, timeout_is_bad}
+use Rattle.ckpt_machine.specs.BeginRows.{has_bad_operation, BeginRow}
 use Rattle.ckpt_machine.specs.Drivers.{Driver}
 use Rattle.ckpt_machine.specs.Drivers as drivers
 use Rattle.cluster_record.specs.DueActive.{active_begun}
@@ -46,32 +50,25 @@ use Rattle.ckpt_machine.specs.Entries.{WasMade}
 use Rattle.ckpt_machine.specs.InHand.{AreGoodAttributes, active_kind, is_enter, is_marked_by, is_held_by, MarksFit, IsInPlace, change_kind}
 use Rattle.weak_marks.specs.Marks.{Marked}
 use Rattle.ckpt_machine.specs.Invariant.{IsGoodClient, IsGoodHandle, IsGoodIn, InvariantIn, Invariant}
-use Rattle.ckpt_machine.specs.Machine.{Machine, CallState}
-use Rattle.ckpt_machine.specs.Steps.{IsBegun, IsDriven, MayBegin, asked_handle, kept_at_beginning, room_in, after_beginning, begun_call, call_begun, started_call, driver_of}
+use Rattle.ckpt_machine.specs.Machine.{Machine, CallState, who}
+use Rattle.ckpt_machine.specs.Steps.{IsBegun, MayBegin, asked_handle, standing_of, kept_at_beginning, room_in, goes_on, after_beginning, begun_call, call_begun, started_call}
 use Rattle.ckpt_machine.specs.Tables.{handle_asked, ckpt_of_handle, choice_of, ended_at_once}
 use Rattle.ckpt_machine.specs.Shape.{Shape, IsCompleteOn, IsSpread}
 use Rattle.ckpt_machine.proofs.Actors.{same_call-true}
-use Rattle.ckpt_machine.proofs.Begun.{begun_live, begun_keeps, update_begins}
+use Rattle.ckpt_machine.proofs.BeginRows.{row_of}
+use Rattle.ckpt_machine.proofs.Begun.{is_new, own_name_idle, IsBeginning, begun_keeps, begun_live, update_begins}
+use Rattle.ckpt_machine.proofs.CallsPending.{calls_begun}
 use Rattle.ckpt_machine.proofs.ClientTables.{same_tables}
 use Rattle.ckpt_machine.proofs.EndedTables.{client_by_number, ended_at_once_keeps}
 use Rattle.ckpt_machine.proofs.OptionLemmas.{IfSome-from, IfSome-at}
-use Rattle.ckpt_machine.proofs.ReplicaSteps.{put_actor-here}
 use Rattle.ckpt_machine.proofs.Served.{slice_get-replicate}
-use Rattle.ckpt_machine.proofs.Starting.{if_live-None, on_handle-None, sync_begin-None, iteration_answers, goes_on_begun, driven_begun}
+use Rattle.ckpt_machine.proofs.Starting.{live_client, handle_there, HasPassed, begun_passed, driven_begun, none_begun, begun_goes}
+use Rattle.ckpt_machine.proofs.Whose.{put_who-here, put_who-other, stepped_as-plain, stepped_as-async}
+use Rattle.ckpt_machine.specs.Whose.{same_who, put_who}
+use Rattle.node_msgs.specs.declared.details.Details.{Details}
 use Rattle.ckpt_machine.specs.Options.{is_all, is_weak, if_declared}
 
 -- ---- what a beginning that goes on has passed
-
--- a test that did not refuse
-passed : (b : Bool) (why : Outcome) (o : Option Outcome) → cond b (Some why) o ≡ None → (b ≡ false) × (o ≡ None)
-passed true why o e = absurd (cc e)
-passed false why o e = (refl, e)
-
--- what is said on a handle goes on only with good arguments
-on_handle-good : (h : Option HandleView) (bad : Bool) (may : OpenFlags → Bool) → on_handle h bad may ≡ None → bad ≡ false
-on_handle-good None bad may e = absurd (cc e)
-on_handle-good (Some x) true may e = absurd (cc e)
-on_handle-good (Some x) false may e = refl
 
 -- a duration that is not below 0
 not_below : (x : ℤ) → int_lt x (pos 0) ≡ false → pos 0 ≤ℤ x
@@ -81,20 +78,6 @@ not_below x e = grind (arith, ints)
 attributes_are_bad-false : (flags : ℕ) (a : Option CreationAttributes) → attributes_are_bad flags a ≡ false → AreGoodAttributes a
 attributes_are_bad-false flags None good = tt
 attributes_are_bad-false flags (Some a) good = (or_parts _ _ good).1
-
--- an open that goes on has good attributes
-open_begin-None : (name : List ℕ) (flags : ℕ) (timeout : ℤ) (a : Option CreationAttributes) → open_begin name flags timeout a ≡ None → AreGoodAttributes a
-open_begin-None name flags timeout a e =
-    let (good_flags, rest) = passed (has_bad_open_flags flags) _ _ e in
-    let (good, none) = passed (name_is_bad name || int_lt timeout (pos 0) || attributes_are_bad flags a) _ None rest in
-    attributes_are_bad-false flags a (or_parts _ _ good).1
-
--- and its name is good
-open_begin-named : (name : List ℕ) (flags : ℕ) (timeout : ℤ) (a : Option CreationAttributes) → open_begin name flags timeout a ≡ None → name_is_bad name ≡ false
-open_begin-named name flags timeout a e =
-    let (good_flags, rest) = passed (has_bad_open_flags flags) _ _ e in
-    let (good, none) = passed (name_is_bad name || int_lt timeout (pos 0) || attributes_are_bad flags a) _ None rest in
-    (or_parts (name_is_bad name) _ (or_parts (name_is_bad name || int_lt timeout (pos 0)) _ good).0).0
 
 -- ---- the handle of a place
 
@@ -146,10 +129,6 @@ declares_itself : (o : Option Entry) → IfSome o (λ e. declared_in o ≡ Some 
 declares_itself None = tt
 declares_itself (Some e) = refl
 
--- what creation flags do not forbid
-not_forbidden : (forbid : ℕ → Bool) (x : HandleView) → unless_forbidden forbid (Some x) ≡ None → forbid x.creation_flags ≡ false
-not_forbidden forbid x allowed = (passed (forbid x.creation_flags) _ None allowed).0
-
 -- a checkpoint with creation flags that are those of a collocated one
 are_collocated : (o : Option Entry) (flags : ℕ) → are_not_collocated flags ≡ false → IfSome o (λ e. flags ≡ e.attributes.creation_flags) → IfSome o (λ e. is_collocated e.attributes ≡ true)
 are_collocated None flags are same = tt
@@ -178,7 +157,7 @@ client_within (Node r) is = absurd is
 
 -- ---- where a call begins
 
-module _ (m : Machine) (shapes : ℕ → Shape) (inv : InvariantIn shapes m) (call : CallId) (idle : m.in_hand call.actor ≡ None) (client : IsClient call.actor) (number : call.number ≡ m.next call.actor) where
+module _ (m : Machine) (shapes : ℕ → Shape) (inv : InvariantIn shapes m) (call : CallId) (client : IsClient call.actor) (number : call.number ≡ m.next call.actor) where
   abbrev c : ℕ
   c = number_of call.actor
 
@@ -198,7 +177,7 @@ module _ (m : Machine) (shapes : ℕ → Shape) (inv : InvariantIn shapes m) (ca
 
   -- where the client is live, its call is, and its node is up
   live_then : is_live_client c m.cluster ≡ true → is_live m.cluster call ≡ true
-  live_then live = begun_live m shapes inv call idle c (client_by_number call.actor client) number live
+  live_then live = begun_live m shapes inv call number c (client_by_number call.actor client) live
 
   node_up : is_live_client c m.cluster ≡ true → is_up (node_of_client (find_key client_key c m.cluster.clients)) m.cluster ≡ true
   node_up live = by_client (find_key client_key c m.cluster.clients) live (inv.clients c)
@@ -214,16 +193,20 @@ module _ (m : Machine) (shapes : ℕ → Shape) (inv : InvariantIn shapes m) (ca
     at : IsInPlace m shapes (state_with op h driver) driver
     live : is_enter driver ≡ false → is_live m.cluster call ≡ true
 
+  -- what its beginning looks at, with this handle
+  abbrev standing_with : Option HandleView → Standing
+  standing_with h = record { live = is_live_client c m.cluster; handle = h; callbacks = (m.tables call.actor).callbacks; pending = m.pending call.actor }
+
   -- one that goes on, on a handle where it needs one
   record GoesOn (op : Op) (ask : Ask) (h : Option HandleView) : Type 0 where
     is : asked op ≡ ask
     may : MayBegin m.cluster c ask
-    goes : begin_end (is_live_client c m.cluster) h ask ≡ None
+    passed : HasPassed (standing_with h) ask
     named : asked_handle m call.actor op ≡ h
 
-  -- its client is live, and nothing else refuses it
-  if_goes : (o : Option Outcome) → if_live (is_live_client c m.cluster) o ≡ None → (is_live m.cluster call ≡ true) × (o ≡ None)
-  if_goes o goes = let (live, rest) = if_live-None (is_live_client c m.cluster) o goes in (live_then live, rest)
+  -- its client is live
+  if_live : (bad : Bool) → (not (is_live_client c m.cluster) || bad) ≡ false → (is_live m.cluster call ≡ true) × (bad ≡ false)
+  if_live bad good = let (live, rest) = live_client (is_live_client c m.cluster) bad good in (live_then live, rest)
 
   -- nobody has marks under its name yet
   has_no_marks : (k : ℕ) (e : Entry) → entry_of k m.cluster.entries ≡ Some e → e.making ≡ None → is_marked_by call (shapes k).marks ≡ false
@@ -238,7 +221,7 @@ module _ (m : Machine) (shapes : ℕ → Shape) (inv : InvariantIn shapes m) (ca
           by_test true same =
               let good : IsSpread m k (shapes k) e = subst (IsGoodIn m k (shapes k) e) none (inv.entries k e found) in
               let own = good.marked marks stand in
-              absurd (let w : None ≡ Some own.state = sym idle ∙ ap (λ (c : CallId). m.in_hand c.actor) (sym (same_call-true marks.call call same)) ∙ own.in_hand in cc w)
+              absurd (is_new m shapes inv call number (who own.state) own.state own.in_hand (own.call_is ∙ same_call-true marks.call call same))
 
   -- so it holds nothing yet
   has_no_hold : (k : ℕ) (e : Entry) → entry_of k m.cluster.entries ≡ Some e → e.making ≡ None → is_held_by call e.hold ≡ false
@@ -253,7 +236,7 @@ module _ (m : Machine) (shapes : ℕ → Shape) (inv : InvariantIn shapes m) (ca
           by_test true same =
               let good : IsSpread m k (shapes k) e = subst (IsGoodIn m k (shapes k) e) none (inv.entries k e found) in
               let own = (good.held d holds).holder in
-              absurd (let w : None ≡ Some own.state = sym idle ∙ ap (λ (c : CallId). m.in_hand c.actor) (sym (same_call-true d call same)) ∙ own.in_hand in cc w)
+              absurd (is_new m shapes inv call number (who own.state) own.state own.in_hand (own.call_is ∙ same_call-true d call same))
 
   -- a call to the active on a handle that is there
   starts_on : (op : Op) (ask : Ask) (kind : ActiveKind) (x : HandleView) → asked op ≡ ask → asked_handle m call.actor op ≡ Some x → is_live m.cluster call ≡ true → driver_start call ask (kept_with (Some x)) ≡ active_start call kind (Some x.id) → active_kind (kept_with (Some x)).all (kept_with (Some x)).weak ask ≡ Some kind → MarksFit kind None → Starts op ask (Some x)
@@ -277,18 +260,19 @@ module _ (m : Machine) (shapes : ℕ → Shape) (inv : InvariantIn shapes m) (ca
   }
 
   -- on a handle
-  starts_active : (op : Op) (ask : Ask) (kind : ActiveKind) (h : Option HandleView) (bad : Bool) (may : OpenFlags → Bool) → GoesOn op ask h → ((o : Option HandleView) → driver_start call ask (kept_with o) ≡ active_start call kind (ckpt_of_handle o)) → ((all weak : Bool) → active_kind all weak ask ≡ Some kind) → MarksFit kind None → if_live (is_live_client c m.cluster) (on_handle h bad may) ≡ None → Starts op ask h
-  starts_active op ask kind h bad may on begins is fit goes =
-      let (live, rest) = if_goes (on_handle h bad may) goes in
-      let (x, there) = on_handle-None h bad may rest in
+  starts_active : (op : Op) (ask : Ask) (kind : ActiveKind) (h : Option HandleView) → GoesOn op ask h → ((o : Option HandleView) → driver_start call ask (kept_with o) ≡ active_start call kind (ckpt_of_handle o)) → ((all weak : Bool) → active_kind all weak ask ≡ Some kind) → MarksFit kind None → (not (is_live_client c m.cluster) || is_none h) ≡ false → Starts op ask h
+  starts_active op ask kind h on begins is fit good =
+      let (live, stands) = if_live (is_none h) good in
+      let (x, there) = handle_there h stands in
       let named : asked_handle m call.actor op ≡ Some x = on.named ∙ there in
       subst (Starts op ask) (sym there) (starts_on op ask kind x on.is named live (begins (Some x)) (is (kept_with (Some x)).all (kept_with (Some x)).weak) fit)
 
   -- each operation that goes on
-  starts : (op : Op) (ask : Ask) (h : Option HandleView) → GoesOn op ask h → IsBuiltAsk ask → Starts op ask h
-  starts op (asks.Enter r version callbacks) h on built = record { driver = drivers.Once (once.Enter r); driven = refl; at = record { version = version; callbacks = callbacks; asks = on.is; client = client; up = on.may.1; not_live = on.may.0 }; live = λ others. absurd (cc others) }
-  starts op (asks.Open place name flags timeout a) h on built =
-      let (live, rest) = if_live-None (is_live_client c m.cluster) _ on.goes in
+  starts : (op : Op) (ask : Ask) (h : Option HandleView) → GoesOn op ask h → Starts op ask h
+  starts op (asks.Enter r version callbacks) h on = record { driver = drivers.Once (once.Enter r); driven = refl; at = record { version = version; callbacks = callbacks; asks = on.is; client = client; up = on.may.1; not_live = on.may.0 }; live = λ others. absurd (cc others) }
+  starts op (asks.Open place name flags timeout a) h on =
+      let (live, rest) = live_client (is_live_client c m.cluster) false on.passed.unrefused.handle in
+      let (names, attributes) = or_parts (name_is_bad name || timeout_is_bad timeout) (attributes_are_bad flags a) on.passed.unrefused.arguments in
       record {
         driver = _;
         driven = refl;
@@ -298,57 +282,56 @@ module _ (m : Machine) (shapes : ℕ → Shape) (inv : InvariantIn shapes m) (ca
           within = client_within call.actor client;
           node = node_up live;
           asks = record { place = place; flags = flags; timeout = timeout; asks = on.is };
-          named = open_begin-named name flags timeout a rest;
-          declared = open_begin-None name flags timeout a rest;
+          named = (or_parts (name_is_bad name) (timeout_is_bad timeout) names).0;
+          declared = attributes_are_bad-false flags a attributes;
           deadline = sym (ap (deadline_from m.cluster.moment) on.is);
           making = tt;
           given = λ some. absurd (cc some);
-          room = λ some. absurd (cc some);
         };
         live = λ others. live_then live;
       }
-  starts op (asks.Change place update) h on built =
-      let (live, rest) = if_goes (on_handle h (update_is_bad update) may_write) on.goes in
-      let (x, there) = on_handle-None h _ _ rest in
+  starts op (asks.Change place update) h on =
+      let (live, stands) = if_live (is_none h) on.passed.unrefused.handle in
+      let (x, there) = handle_there h stands in
       subst (Starts op (asks.Change place update)) (sym there) (by_all x (on.named ∙ there) live (kept_with (Some x)).all refl)
     where
       few : (weak : Bool) → MarksFit (kind_of_change weak update) None
-      few weak = change_fits weak update (on_handle-good h (update_is_bad update) may_write (if_goes (on_handle h (update_is_bad update) may_write) on.goes).1)
+      few weak = change_fits weak update on.passed.unrefused.arguments
 
       by_all : (x : HandleView) → asked_handle m call.actor op ≡ Some x → is_live m.cluster call ≡ true → (all : Bool) → (kept_with (Some x)).all ≡ all → Starts op (asks.Change place update) (Some x)
       by_all x named live true all = record {
         driver = drivers.Update (update_begun call x.id);
         driven = ap (λ b. change_start call b (kind_of_change (kept_with (Some x)).weak update) (Some x.id)) all;
-        at = update_begins m shapes inv call idle c op x place update on.is (asked_made op x named) all;
+        at = update_begins m shapes inv call number c op x place update on.is (asked_made op x named) all;
         live = λ others. live;
       }
       by_all x named live false none = starts_on op (asks.Change place update) (kind_of_change (kept_with (Some x)).weak update) x on.is named live (ap (λ b. change_start call b (kind_of_change (kept_with (Some x)).weak update) (Some x.id)) none) (ap (λ b. change_kind b (kind_of_change (kept_with (Some x)).weak update)) none) (few (kept_with (Some x)).weak)
-  starts op (asks.Read place elements) h on built = starts_active op (asks.Read place elements) kinds.Read h _ _ on (λ o. refl) (λ all weak. refl) tt on.goes
-  starts op (asks.Status place) h on built = starts_active op (asks.Status place) kinds.Status h _ _ on (λ o. refl) (λ all weak. refl) tt on.goes
-  starts op (asks.Iterate iteration place chosen time) h on built = starts_active op (asks.Iterate iteration place chosen time) (kinds.Iterate (choice_of chosen time)) h _ _ on (λ o. refl) (λ all weak. refl) tt on.goes
-  starts op (asks.Next iteration) h on built = starts_active op (asks.Next iteration) kinds.Next h _ _ on (λ o. refl) (λ all weak. refl) tt on.goes
-  starts op (asks.EndIteration iteration) h on built = absurd (iteration_answers h (if_live-None (is_live_client c m.cluster) _ on.goes).1)
-  starts op (asks.Close place) h on built =
-      let (live, rest) = if_goes (on_handle h false may_always) on.goes in
-      let (x, there) = on_handle-None h _ _ rest in
+  starts op (asks.Read place elements) h on = starts_active op (asks.Read place elements) kinds.Read h on (λ o. refl) (λ all weak. refl) tt on.passed.unrefused.handle
+  starts op (asks.Status place) h on = starts_active op (asks.Status place) kinds.Status h on (λ o. refl) (λ all weak. refl) tt on.passed.unrefused.handle
+  starts op (asks.Iterate iteration place chosen time) h on = starts_active op (asks.Iterate iteration place chosen time) (kinds.Iterate (choice_of chosen time)) h on (λ o. refl) (λ all weak. refl) tt on.passed.unrefused.handle
+  starts op (asks.Next iteration) h on = starts_active op (asks.Next iteration) kinds.Next h on (λ o. refl) (λ all weak. refl) tt on.passed.unrefused.handle
+  starts op (asks.EndIteration iteration) h on = absurd (let none = on.passed.takes in cc none)
+  starts op (asks.Close place) h on =
+      let (live, stands) = if_live (is_none h) on.passed.unrefused.handle in
+      let (x, there) = handle_there h stands in
       subst (Starts op (asks.Close place)) (sym there) (record { driver = drivers.Once (once.Close x.id); driven = refl; at = record { place = place; asks = on.is; kept = refl }; live = λ others. live })
-  starts op (asks.Retain place duration) h on built =
-      let (live, rest) = if_goes (on_handle h (int_lt duration (pos 0)) may_always) on.goes in
-      let (x, there) = on_handle-None h _ _ rest in
+  starts op (asks.Retain place duration) h on =
+      let (live, stands) = if_live (is_none h) on.passed.unrefused.handle in
+      let (x, there) = handle_there h stands in
       subst (Starts op (asks.Retain place duration)) (sym there) (record {
         driver = drivers.Once (once.Retain x.id duration);
         driven = refl;
-        at = record { place = place; asks = on.is; from_zero = not_below duration (on_handle-good h (int_lt duration (pos 0)) may_always rest); kept = refl; made = asked_made op x (on.named ∙ there) };
+        at = record { place = place; asks = on.is; from_zero = not_below duration on.passed.unrefused.arguments; kept = refl; made = asked_made op x (on.named ∙ there) };
         live = λ others. live;
       })
-  starts op (asks.Unlink name) h on built = let (live, rest) = if_goes None on.goes in record { driver = drivers.Once (once.Unlink name); driven = refl; at = on.is; live = λ others. live }
-  starts op asks.Leave h on built = let (live, rest) = if_live-None (is_live_client c m.cluster) None on.goes in record { driver = drivers.Once once.Leave; driven = refl; at = record { asks = on.is; live = live }; live = λ others. live_then live }
-  starts op (asks.Synchronize place timeout) h on built =
-      let (live, rest) = if_goes (sync_begin h (int_lt timeout (pos 0)) are_of_all) on.goes in
-      let (goes, allowed) = sync_begin-None h (int_lt timeout (pos 0)) are_of_all rest in
-      let (x, there) = on_handle-None h _ _ goes in
+  starts op (asks.Unlink name) h on = let (live, rest) = if_live false on.passed.unrefused.handle in record { driver = drivers.Once (once.Unlink name); driven = refl; at = on.is; live = λ others. live }
+  starts op asks.Leave h on = let (live, rest) = live_client (is_live_client c m.cluster) false on.passed.unrefused.handle in record { driver = drivers.Once once.Leave; driven = refl; at = record { asks = on.is; live = live }; live = λ others. live_then live }
+  starts op (asks.Synchronize place timeout) h on =
+      let (live, stands) = if_live (is_none h) on.passed.unrefused.handle in
+      let (x, there) = handle_there h stands in
+      let allowed : are_of_all x.creation_flags ≡ false = ap (λ o. has_bad_operation o (asks.Synchronize place timeout)) (sym there) ∙ on.passed.unrefused.operation in
       subst (Starts op (asks.Synchronize place timeout)) (sym there) (record {
-        driver = drivers.Sync (sync_begun call x.id (Synchronize (Some (sum_until_end m.cluster.moment timeout))));
+        driver = drivers.Sync (sync_begun call x.id (Synchronize (option_map (sum_until_end m.cluster.moment) timeout)));
         driven = refl;
         at = record {
           call = refl;
@@ -358,7 +341,7 @@ module _ (m : Machine) (shapes : ℕ → Shape) (inv : InvariantIn shapes m) (ca
           kind = ap (λ a. Synchronize (deadline_from m.cluster.moment a)) (sym on.is);
           kept = refl;
           made = asked_made op x (on.named ∙ there);
-          alone = not_of_all (entry_of x.id m.cluster.entries) x.creation_flags (not_forbidden are_of_all x (ap (unless_forbidden are_of_all) (sym there) ∙ allowed)) (asked_good op x (on.named ∙ there)).flags;
+          alone = not_of_all (entry_of x.id m.cluster.entries) x.creation_flags allowed (asked_good op x (on.named ∙ there)).flags;
           declares = declares_itself (entry_of x.id m.cluster.entries);
           pulled = refl;
           nodes = refl;
@@ -368,12 +351,12 @@ module _ (m : Machine) (shapes : ℕ → Shape) (inv : InvariantIn shapes m) (ca
         };
         live = λ others. live;
       })
-  starts op (asks.SetActive place) h on built =
-      let (is_live, rest) = if_live-None (is_live_client c m.cluster) (sync_begin h false are_not_collocated) on.goes in
-      let (goes, allowed) = sync_begin-None h false are_not_collocated rest in
-      let (x, there) = on_handle-None h _ _ goes in
+  starts op (asks.SetActive place) h on =
+      let (lives, stands) = live_client (is_live_client c m.cluster) (is_none h) on.passed.unrefused.handle in
+      let (x, there) = handle_there h stands in
+      let allowed : are_not_collocated x.creation_flags ≡ false = ap (λ o. has_bad_operation o (asks.SetActive place)) (sym there) ∙ on.passed.unrefused.operation in
       let good = asked_good op x (on.named ∙ there) in
-      let collocated = are_collocated (entry_of x.id m.cluster.entries) x.creation_flags (not_forbidden are_not_collocated x (ap (unless_forbidden are_not_collocated) (sym there) ∙ allowed)) good.flags in
+      let collocated = are_collocated (entry_of x.id m.cluster.entries) x.creation_flags allowed good.flags in
       subst (Starts op (asks.SetActive place)) (sym there) (record {
         driver = drivers.Sync (sync_begun call x.id (ActiveSet (kept_with (Some x)).node));
         driven = refl;
@@ -382,7 +365,7 @@ module _ (m : Machine) (shapes : ℕ → Shape) (inv : InvariantIn shapes m) (ca
           place = place;
           asks = on.is;
           node = refl;
-          within = ltb-true (kept_with (Some x)).node 8 (and_parts (nat_lt (kept_with (Some x)).node 8) (not (slice_index m.cluster.up (kept_with (Some x)).node == 0)) (node_up is_live)).0;
+          within = ltb-true (kept_with (Some x)).node 8 (and_parts (nat_lt (kept_with (Some x)).node 8) (not (slice_index m.cluster.up (kept_with (Some x)).node == 0)) (node_up lives)).0;
           kept = refl;
           made = asked_made op x (on.named ∙ there);
           collocated = collocated;
@@ -390,25 +373,54 @@ module _ (m : Machine) (shapes : ℕ → Shape) (inv : InvariantIn shapes m) (ca
           declares = declares_itself (entry_of x.id m.cluster.entries);
           held = IfSome-from (entry_of x.id m.cluster.entries) _ (λ e found. has_no_hold x.id e found (IfSome-at (entry_of x.id m.cluster.entries) _ good.made.made e found));
         };
-        live = λ others. live_then is_live;
+        live = λ others. live_then lives;
       })
-  starts op asks.Unbuilt h on built = absurd built
+  starts op (asks.Dispatch flags) h on = absurd (let none = on.passed.takes in cc none)
+  starts op asks.Unbuilt h on = absurd (let none = on.passed.takes in cc none)
 
   -- ---- the state after a beginning
 
-  -- a call that ends at once leaves the invariant
-  ended_keeps : (op : Op) (o : Outcome) → InvariantIn shapes (after_beginning m call op (Some o))
-  ended_keeps op o = ended_at_once_keeps (begun_call m call op (Some o)) shapes (begun_keeps m shapes inv call idle None client number (λ z some. absurd (cc some))) call.actor (put_actor-here m.in_hand call.actor None) (Some o) (asked op)
+  module _ (op : Op) (end : Option Outcome) (details : Details) (is : IsBegun m call op end details) where
+    -- an asynchronous call is answered at once
+    is_told : is_async (word_of_op op) ≡ true → end ≡ None → ⊥
+    is_told async none = by_op op async (subst (BeginRow (standing_of m call.actor op) (asked op)) none (row_of (standing_of m call.actor op) (asked op) is.built end is.answer)) where
+      by_op : (op : Op) → is_async (word_of_op op) ≡ true → BeginRow (standing_of m call.actor op) (asked op) None → ⊥
+      by_op (ops.OpenAsync place invocation name flags a) async row = (let waits = row.1 in cc waits)
+      by_op (ops.SyncAsync place invocation) async row = (let waits = row.1 in cc waits)
+      by_op op async row = cc async
 
-  pub begin_keeps : (op : Op) (end : Option Outcome) → IsBegun m call op end → Invariant (after_beginning m call op end)
-  begin_keeps op (Some o) is = record { shapes = shapes; holds = ended_keeps op o }
-  begin_keeps op None is =
-      let h = asked_handle m call.actor op in
-      let first = starts op (asked op) h (record { is = refl; may = is.may; goes = goes_on_begun (asked op) _ None is.answer refl; named = refl }) is.built in
-      let begins : call_begun None call op (kept_with h) ≡ Some (state_with op h first.driver) = driven_begun call op (kept_with h) first.driver first.driven in
-      record {
-        shapes = shapes;
-        holds = subst (InvariantIn shapes) (sym (same_tables (begun_call m call op None) call.actor (ended_at_once None (asked op)) refl)) (begun_keeps m shapes inv call idle (call_begun None call op (kept_with h)) client number
-            (λ z there. subst (λ z. (z.call ≡ call) × IsBuilt z.op × IsDriven z × (is_enter (driver_of z) ≡ false → is_live m.cluster z.call ≡ true) × IsInPlace m shapes z (driver_of z)) (same_Some (state_with op h first.driver) z (sym begins ∙ there))
-            (refl, is.built, first.driven, first.live, first.at)));
-      }
+    -- a call that is in hand behind its beginning is where this has led it
+    begins : (z : CallState) → call_begun end call op (kept_with (asked_handle m call.actor op)) ≡ Some z → IsBeginning m shapes inv call number (word_of_op op) z
+    begins z there =
+        let h = asked_handle m call.actor op in
+        let goes = begun_goes end call op (kept_with h) z there in
+        let first = starts op (asked op) h (record { is = refl; may = is.may; passed = begun_passed m call op end details is goes; named = refl }) in
+        subst (IsBeginning m shapes inv call number (word_of_op op)) (same_Some (state_with op h first.driver) z (sym (driven_begun end call op (kept_with h) first.driver goes first.driven) ∙ there))
+        (record { call_is = refl; word_is = refl; built = is.built; driven = first.driven; live = first.live; at = first.at })
+
+    -- all is so of the calls in hand, and of the call that begins
+    begun_holds : InvariantIn shapes (begun_call m call op end)
+    begun_holds = begun_keeps m shapes inv call number (word_of_op op) _ (call_begun end call op (kept_with (asked_handle m call.actor op))) (own_name_idle m shapes inv call number (word_of_op op) is.none_in_hand) client
+        (calls_begun m.in_hand m.pending m.next inv.calls (λ w z held. (inv.hands w z held).number) end call op (asked_handle m call.actor op) (kept_with (asked_handle m call.actor op)) number is_told) begins
+
+    -- one that is answered at once is in hand under no name of its client's
+    begun_idle : (o : Outcome) → end ≡ Some o → (begun_call m call op end).in_hand (Actor call.actor) ≡ None
+    begun_idle o ended = by_word (is_async (word_of_op op)) refl where
+      ends : (o : Outcome) → goes_on (word_of_op op) (Some o) ≡ is_async (word_of_op op) ⊎ goes_on (word_of_op op) (Some o) ≡ false
+      ends (Done answer) = inl refl
+      ends o = inr refl
+
+      by_word : (b : Bool) → is_async (word_of_op op) ≡ b → put_who m.in_hand (stepped_as call (word_of_op op)) (call_begun end call op (kept_with (asked_handle m call.actor op))) (Actor call.actor) ≡ None
+      by_word true async = put_who-other m.in_hand (stepped_as call (word_of_op op)) _ (Actor call.actor) (ap (same_who (Actor call.actor)) (stepped_as-async call (word_of_op op) async)) ∙ is.none_in_hand
+      by_word false plain =
+          let over : goes_on (word_of_op op) end ≡ false = ap (goes_on (word_of_op op)) ended ∙ elim (ends o) [ inl same ↦ same ∙ plain | inr over ↦ over ] in
+          ap (λ w. put_who m.in_hand w (call_begun end call op (kept_with (asked_handle m call.actor op))) (Actor call.actor)) (stepped_as-plain call (word_of_op op) plain)
+          ∙ put_who-here m.in_hand (Actor call.actor) _ ∙ none_begun end call op (kept_with (asked_handle m call.actor op)) over
+
+    -- and what it changes of its client's tables keeps it so
+    then_holds : (o : Option Outcome) → end ≡ o → InvariantIn shapes (after_beginning m call op end)
+    then_holds None goes = subst (InvariantIn shapes) (sym (same_tables (begun_call m call op end) call.actor (ended_at_once end (asked op) (m.pending call.actor)) (ap (λ o. ended_at_once o (asked op) (m.pending call.actor) (m.tables call.actor)) goes))) begun_holds
+    then_holds (Some o) ended = ended_at_once_keeps (begun_call m call op end) shapes begun_holds call.actor (begun_idle o ended) end (asked op) (m.pending call.actor)
+
+  pub begin_keeps : (op : Op) (end : Option Outcome) (details : Details) → IsBegun m call op end details → Invariant (after_beginning m call op end)
+  begin_keeps op end details is = record { shapes = shapes; holds = then_holds op end details is end refl }

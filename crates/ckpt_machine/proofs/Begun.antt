@@ -1,17 +1,24 @@
 -- A call begins, with any calls of others in hand.
-use Rattle.std.proofs.Common.{◌≡◌, ℕ, ◌+◌, ◌<◌, inl, inr, Option, Some, None, Bool, true, false, cond, not, refl, sym, ap, subst, ◌∙◌, arith}
+use Rattle.std.proofs.Common.{◌≡◌, ◌≢◌, ℕ, ◌+◌, ◌<◌, inl, inr, Option, Some, None, Bool, true, false, cond, not, refl, sym, ap, subst, ◌∙◌, arith}
 use Rattle.std.specs.Prelude.{is_some, IfSome, slice_index}
 use Rattle.std.proofs.lemmas.Bool.{le-ltb}
 use Rattle.ckpt_types.specs.declared.identities.ActorName.{ActorName}
 use Rattle.ckpt_types.specs.declared.identities.ActorName.TheVariants.{Client}
 use Rattle.ckpt_types.specs.declared.identities.CallId.{CallId}
+use Rattle.ckpt_types.specs.declared.identities.Who.{Who}
+use Rattle.ckpt_types.specs.declared.identities.Who.TheVariants.{Actor}
+use Rattle.ckpt_types.specs.declared.identities.Who.TheVariants as whos
 use Rattle.ckpt_types.specs.declared.operation.Op.{Op}
 use Rattle.ckpt_types.specs.declared.update.Update.{Update}
+use Rattle.ckpt_types.specs.declared.words.OpWord.{OpWord}
+use Rattle.ckpt_types.specs.OpWord.{is_async, word_of_op, stepped_as}
+use Rattle.call_dispatch.specs.PendingCalls.{PendingCalls}
 use Rattle.client_handles.specs.declared.handle_view.HandleView.{HandleView}
 use Rattle.cluster_record.specs.declared.clients.LiveClient.{LiveClient}
 use Rattle.cluster_record.specs.declared.entries.Entry.{Entry}
 use Rattle.cluster_record.specs.Calls.{IsClient, same_actor, put_actor}
 use Rattle.cluster_record.specs.DueUpdate.{update_begun}
+use Rattle.cluster_record.specs.LookUps.{declared_in}
 use Rattle.cluster_record.specs.Places.{find_key}
 use Rattle.cluster_record.specs.RecordState.{RecordState, entry_of, client_key, is_live, is_live_client, is_live_from, is_up}
 use Rattle.cluster_record.specs.StepDone.{has}
@@ -20,17 +27,18 @@ use Rattle.ckpt_types.specs.Asks as asks
 use Rattle.ckpt_machine.specs.Drivers as drivers
 use Rattle.ckpt_machine.specs.Entries.{WasMade}
 use Rattle.ckpt_machine.specs.InHand.{is_enter, IsInPlace, IsUpdateIn}
-use Rattle.ckpt_machine.specs.Invariant.{IsGoodClient, IsGoodIn, InvariantIn}
-use Rattle.ckpt_machine.specs.Machine.{Machine, CallState}
-use Rattle.ckpt_machine.specs.Steps.{driver_of, IsDriven, started_call, kept_at_beginning, declares_at}
+use Rattle.ckpt_machine.specs.Invariant.{AreCalls, IsGoodClient, IsGoodIn, InvariantIn}
+use Rattle.ckpt_machine.specs.Machine.{Machine, CallState, who}
+use Rattle.ckpt_machine.specs.Options.{is_all, if_declared}
 use Rattle.ckpt_machine.specs.Shape.{Shape, is_owner, IsSpread}
+use Rattle.ckpt_machine.specs.Steps.{driver_of, IsDriven, started_call, kept_at_beginning, declares_at}
+use Rattle.ckpt_machine.specs.Whose.{put_who}
+use Rattle.ckpt_machine.proofs.Actors.{same_actor-true}
 use Rattle.ckpt_machine.proofs.NodeLists.{has-none, slice_index-replicate}
-use Rattle.ckpt_machine.proofs.ReplicaSteps.{put_actor-cases, put_actor-other, held_by_other}
 use Rattle.ckpt_machine.proofs.OtherCalls.{IsIn-apart, IsGoodIn-apart}
 use Rattle.ckpt_machine.proofs.Owning.{is_owner-true}
-use Rattle.ckpt_machine.proofs.Actors.{same_actor-true, same_actor-refl}
-use Rattle.ckpt_machine.specs.Options.{is_all, if_declared}
-use Rattle.cluster_record.specs.LookUps.{declared_in}
+use Rattle.ckpt_machine.proofs.ReplicaSteps.{put_actor-here}
+use Rattle.ckpt_machine.proofs.Whose.{put_who-cases, put_who-other, held_by_other}
 
 -- ---- a client that is live, and its calls
 
@@ -44,58 +52,96 @@ live_call R c n live from = by_client (find_key client_key c R.clients) live fro
 
 -- ---- the state after a beginning
 
-module _ (m : Machine) (shapes : ℕ → Shape) (inv : InvariantIn shapes m) (call : CallId) (idle : m.in_hand call.actor ≡ None) where
-  abbrev then_machine : Option CallState → Machine
-  then_machine o = record m { next = put_actor m.next call.actor (m.next call.actor + 1); in_hand = put_actor m.in_hand call.actor o }
+module _ (m : Machine) (shapes : ℕ → Shape) (inv : InvariantIn shapes m) (call : CallId) (number : call.number ≡ m.next call.actor) where
+  abbrev then_next : ActorName → ℕ
+  then_next = put_actor m.next call.actor (m.next call.actor + 1)
+
+  -- the call goes by this name, and all that are not dispatched are these
+  abbrev then_machine : Who → (ActorName → PendingCalls) → Option CallState → Machine
+  then_machine w pending o = record m { next = then_next; pending = pending; in_hand = put_who m.in_hand w o }
+
+  -- its number is new, so it is in hand under no name
+  pub is_new : (w : Who) (z : CallState) → m.in_hand w ≡ Some z → z.call ≢ call
+  is_new w z held same =
+      let lower : z.call.number < m.next z.call.actor = (inv.hands w z held).number in
+      let number_is : z.call.number ≡ m.next z.call.actor = subst (λ (c : CallId). c.number ≡ m.next c.actor) (sym same) number in
+      omega (arith, lower, number_is)
+
+  -- nor is anything under its own
+  pub own_name_idle : (word : OpWord) → m.in_hand (Actor call.actor) ≡ None → m.in_hand (stepped_as call word) ≡ None
+  own_name_idle word idle = by_word (is_async word) where
+    by_state : (o : Option CallState) → m.in_hand (whos.Call call) ≡ o → m.in_hand (whos.Call call) ≡ None
+    by_state None none = none
+    by_state (Some z) held = absurd (is_new (whos.Call call) z held (by_name (is_async (word_of_op z.op)) (inv.hands (whos.Call call) z held).whose)) where
+      by_name : (b : Bool) → cond b (whos.Call z.call) (Actor z.call.actor) ≡ whos.Call call → z.call ≡ call
+      by_name true same = cc same
+      by_name false same = absurd (cc same)
+
+    by_word : (b : Bool) → m.in_hand (cond b (whos.Call call) (Actor call.actor)) ≡ None
+    by_word true = by_state (m.in_hand (whos.Call call)) refl
+    by_word false = idle
 
   -- numbers only rise
-  next_rises : (a : ActorName) (n : ℕ) → n < m.next a → n < put_actor m.next call.actor (m.next call.actor + 1) a
+  next_rises : (a : ActorName) (n : ℕ) → n < m.next a → n < then_next a
   next_rises a n below = elim (same_actor a call.actor) as (λ b. same_actor a call.actor ≡ b → n < cond b (m.next call.actor + 1) (m.next a)) [
     | true ↦ λ same. let at : m.next a ≡ m.next call.actor = ap m.next (same_actor-true a call.actor same) in omega (arith, below, at)
     | false ↦ λ other. below
   ] refl
 
-  -- a call in hand is of another actor
-  held_other : (a : ActorName) (z : CallState) → m.in_hand a ≡ Some z → same_actor a call.actor ≡ false
-  held_other a z held = held_by_other m.in_hand call.actor idle a z held
-
-  IfSome-rises : (c : ℕ) (o : Option LiveClient) → IfSome o (IsGoodClient m.next m.cluster c) → IfSome o (IsGoodClient (put_actor m.next call.actor (m.next call.actor + 1)) m.cluster c)
+  IfSome-rises : (c : ℕ) (o : Option LiveClient) → IfSome o (IsGoodClient m.next m.cluster c) → IfSome o (IsGoodClient then_next m.cluster c)
   IfSome-rises c None was = tt
   IfSome-rises c (Some live) was = (next_rises (Client c) live.initialize was.0, was.1)
 
+  -- the call that begins is so
+  pub record IsBeginning (word : OpWord) (z : CallState) : Type 0 where
+    pub call_is : z.call ≡ call
+    pub word_is : word_of_op z.op ≡ word
+    pub built : IsBuilt z.op
+    pub driven : IsDriven z
+    pub live : is_enter (driver_of z) ≡ false → is_live m.cluster z.call ≡ true
+    pub at : IsInPlace m shapes z (driver_of z)
+
   -- the invariant holds after it, where it holds of the call that begins
-  pub begun_keeps : (o : Option CallState) → IsClient call.actor → call.number ≡ m.next call.actor → ((z : CallState) → o ≡ Some z → (z.call ≡ call) × IsBuilt z.op × IsDriven z × (is_enter (driver_of z) ≡ false → is_live m.cluster z.call ≡ true) × IsInPlace m shapes z (driver_of z)) → InvariantIn shapes (then_machine o)
-  begun_keeps o client number own = record {
+  pub begun_keeps : (word : OpWord) (pending : ActorName → PendingCalls) (o : Option CallState) → m.in_hand (stepped_as call word) ≡ None → IsClient call.actor → AreCalls (put_who m.in_hand (stepped_as call word) o) pending then_next → ((z : CallState) → o ≡ Some z → IsBeginning word z) → InvariantIn shapes (then_machine (stepped_as call word) pending o)
+  begun_keeps word pending o idle client calls own = record {
     up = inv.up;
     none_live = inv.none_live;
     rises = inv.rises;
     up_to = inv.up_to;
     swept = inv.swept;
-    entries = λ k e found. IsGoodIn-apart m shapes (then_machine o).next (then_machine o).in_hand (λ k sh d own. put_actor-other m.in_hand call.actor o d.actor (held_other d.actor own.state own.in_hand)) (λ k marks own. put_actor-other m.in_hand call.actor o marks.call.actor (held_other marks.call.actor own.state own.in_hand)) (λ k active d own. put_actor-other m.in_hand call.actor o d.actor (held_other d.actor own.state own.in_hand)) (λ k d maker. put_actor-other m.in_hand call.actor o d.actor (held_other d.actor maker.state maker.in_hand))
+    entries = λ k e found. IsGoodIn-apart m shapes then_next pending (put_who m.in_hand w o) (λ k sh d own. stays own.state own.in_hand) (λ k marks own. stays own.state own.in_hand) (λ k active d own. stays own.state own.in_hand) (λ k d own. stays own.state own.in_hand)
         k (shapes k) e e.making (inv.entries k e found);
     replicas = inv.replicas;
     reserves = inv.reserves;
     handles = inv.handles;
     rest = inv.rest;
     clients = λ c. IfSome-rises c (find_key client_key c m.cluster.clients) (inv.clients c);
-    hands = λ a z there. elim (put_actor-cases m.in_hand call.actor o a z there) [
+    places = inv.places;
+    hands = λ v z there. elim (put_who-cases m.in_hand w o v z there) [
       | inl here ↦ (let mine = own z here.1 in record {
-        actor = ap (λ (c : CallId). c.actor) mine.0 ∙ sym here.0;
-        client = subst IsClient (sym (ap (λ (c : CallId). c.actor) mine.0)) client;
-        number = (let given : z.call.number ≡ m.next call.actor = ap (λ (c : CallId). c.number) mine.0 ∙ number in
-            subst (λ b. z.call.number < put_actor m.next call.actor (m.next call.actor + 1) b) (sym here.0) (subst (λ (n : ℕ). z.call.number < n) (sym (ap (λ b. cond b (m.next call.actor + 1) (m.next call.actor)) (same_actor-refl call.actor))) (omega (arith, given))));
-        built = mine.1;
-        driven = mine.2;
-        live = mine.3;
-        here = IsIn-apart m shapes (then_machine o).next (then_machine o).in_hand z (driver_of z) mine.4;
+        whose = (λ i. stepped_as (mine.call_is i) (mine.word_is i)) ∙ sym here.0;
+        client = subst IsClient (sym (ap (λ (c : CallId). c.actor) mine.call_is)) client;
+        number = subst (λ (c : CallId). c.number < then_next c.actor) (sym mine.call_is) (subst (λ n. call.number < n) (sym (put_actor-here m.next call.actor (m.next call.actor + 1))) (omega (arith, number)));
+        built = mine.built;
+        driven = mine.driven;
+        live = mine.live;
+        here = IsIn-apart m shapes then_next pending (put_who m.in_hand w o) z (driver_of z) mine.at;
       })
-      | inr other ↦ (let was = inv.hands a z other.1 in record { actor = was.actor; client = was.client; number = next_rises a z.call.number was.number; built = was.built; driven = was.driven; live = was.live; here = IsIn-apart m shapes (then_machine o).next (then_machine o).in_hand z (driver_of z) was.here })
+      | inr other ↦ (let was = inv.hands v z other.1 in record { whose = was.whose; client = was.client; number = next_rises z.call.actor z.call.number was.number; built = was.built; driven = was.driven; live = was.live; here = IsIn-apart m shapes then_next pending (put_who m.in_hand w o) z (driver_of z) was.here })
     ];
+    calls = calls;
   }
+    where
+      w : Who
+      w = stepped_as call word
+
+      -- what is in hand stays so
+      stays : (z : CallState) → m.in_hand (who z) ≡ Some z → put_who m.in_hand w o (who z) ≡ m.in_hand (who z)
+      stays z held = put_who-other m.in_hand w o (who z) (held_by_other m.in_hand w idle (who z) z held)
 
   -- it is live, where its client is
-  pub begun_live : (c : ℕ) → call.actor ≡ Client c → call.number ≡ m.next call.actor → is_live_client c m.cluster ≡ true → is_live m.cluster call ≡ true
-  begun_live c actor number live =
+  pub begun_live : (c : ℕ) → call.actor ≡ Client c → is_live_client c m.cluster ≡ true → is_live m.cluster call ≡ true
+  begun_live c actor live =
       let n : call.number ≡ m.next (Client c) = number ∙ ap m.next actor in
       (λ i. is_live m.cluster (record { actor = actor i; number = n i })) ∙ live_call m.cluster c (m.next (Client c)) live (inv.clients c)
 
@@ -110,7 +156,7 @@ module _ (m : Machine) (shapes : ℕ → Shape) (inv : InvariantIn shapes m) (ca
       by_test true owns =
           let good : IsSpread m k (shapes k) e = subst (IsGoodIn m k (shapes k) e) none (inv.entries k e found) in
           let own = good.owned r call (is_owner-true call ((shapes k).owners r) owns) in
-          absurd (let w : None ≡ Some own.state = sym idle ∙ own.in_hand in cc w)
+          absurd (is_new (who own.state) own.state own.in_hand own.call_is)
 
   all_there : (o : Option Entry) → if_declared is_all (declared_in o) ≡ true → IfSome o (λ e. is_all e.attributes ≡ true)
   all_there None all = tt

@@ -1,7 +1,15 @@
 -- Each call in hand began in the log before: with its operation, and on the checkpoint that it keeps.
-use Rattle.std.proofs.Common.{◌≡◌, ℕ, inl, inr, List, [], ◌∷◌, ◌++◌, Option, Some, None, refl, sym, ap, subst, ◌∙◌, append_assoc}
+use Rattle.std.proofs.Common.{◌≡◌, ℕ, inl, inr, List, [], ◌∷◌, ◌++◌, Option, Some, None, Bool, true, false, cond, refl, sym, ap, subst, ◌∙◌, append_assoc}
 use Rattle.std.proofs.lemmas.List.{append-nil}
 use Rattle.std.proofs.lemmas.Option.{same_Some}
+use Rattle.std.specs.Option.{option_map}
+use Rattle.ckpt_machine.proofs.Dropped.{held_as}
+use Rattle.ckpt_machine.proofs.Whose.{put_who-cases}
+use Rattle.node_msgs.specs.declared.details.Details.{Details}
+use Rattle.ckpt_types.specs.Asks.{asked}
+use Rattle.ckpt_types.specs.OpWord.{word_of_op, stepped_as}
+use Rattle.ckpt_machine.specs.Driving.{Kept, driver_start}
+use Rattle.ckpt_machine.specs.Steps.{goes_on, started_call}
 use Rattle.ckpt_types.specs.declared.answers.Outcome.{Outcome}
 use Rattle.ckpt_types.specs.declared.identities.CallId.{CallId}
 use Rattle.ckpt_types.specs.declared.operation.Op.{Op}
@@ -11,37 +19,59 @@ use Rattle.cluster_record.specs.Calls.{left}
 use Rattle.ckpt_machine.specs.Acknowledged.{HasBegun}
 use Rattle.ckpt_machine.specs.Guards.{Allowed, Row}
 use Rattle.ckpt_machine.specs.Invariant.{Invariant}
-use Rattle.ckpt_machine.specs.Machine.{Machine, Snapshot, CallState}
+use Rattle.ckpt_machine.specs.Machine.{Machine, Snapshot, CallState, who}
 use Rattle.ckpt_machine.specs.Runs.{last, IsRunFrom, IsRun}
 use Rattle.cluster_record.specs.StepDone.{StepDone}
 use Rattle.ckpt_machine.specs.Steps.{IsDue, call_begun, kept_behind, changed, step_of, after}
 use Rattle.ckpt_machine.proofs.Copying.{after_pull, after_put}
 use Rattle.ckpt_machine.proofs.Histories.{HasHistory, follows, keeps_history, history_empty}
 use Rattle.ckpt_machine.proofs.Lawful.{lawful}
-use Rattle.ckpt_machine.proofs.ReplicaSteps.{put_actor-cases}
 use Rattle.ckpt_machine.proofs.Runs.{last-push}
 use Rattle.ckpt_machine.proofs.Start.{invariant_empty}
 use Rattle.ckpt_machine.proofs.Starting.{first_kept, begun_as}
 
 -- each call that this state has in hand began in the log
-abbrev AllBegan : List Label → Machine → Type 0
-AllBegan log m = (s : CallState) → m.in_hand s.call.actor ≡ Some s → HasBegun log s.call s.op s.kept.ckpt
+abbrev pub AllBegan : List Label → Machine → Type 0
+AllBegan log m = (s : CallState) → m.in_hand (who s) ≡ Some s → HasBegun log s.call s.op s.kept.ckpt
 
 -- it did so in a longer log too
 pub begun_longer : (log : List Label) (l : Label) (call : CallId) (op : Op) (k : Option ℕ) → HasBegun log call op k → HasBegun (log ++ l ∷ []) call op k
 begun_longer log l call op k begun = record {
   before = begun.before;
   behind = begun.behind ++ l ∷ [];
-  log_is = ap (λ (xs : List Label). xs ++ l ∷ []) begun.log_is ∙ append_assoc begun.before (labels.Began call op None ∷ begun.behind) (l ∷ []);
+  end = begun.end;
+  details = begun.details;
+  log_is = ap (λ (xs : List Label). xs ++ l ∷ []) begun.log_is ∙ append_assoc begun.before (labels.Began call op begun.end begun.details ∷ begun.behind) (l ∷ []);
+  goes = begun.goes;
   ckpt_is = begun.ckpt_is;
 }
 
+-- and in one that goes on from it
+pub begun_more : (log more : List Label) (call : CallId) (op : Op) (k : Option ℕ) → HasBegun log call op k → HasBegun (log ++ more) call op k
+begun_more log more call op k begun = record {
+  before = begun.before;
+  behind = begun.behind ++ more;
+  end = begun.end;
+  details = begun.details;
+  log_is = ap (λ (xs : List Label). xs ++ more) begun.log_is ∙ append_assoc begun.before (labels.Began call op begun.end begun.details ∷ begun.behind) more;
+  goes = begun.goes;
+  ckpt_is = begun.ckpt_is;
+}
+
+-- a call that is in hand behind its beginning goes on
+goes_where_begun : (end : Option Outcome) (call : CallId) (op : Op) (kept : Kept) (s : CallState) → call_begun end call op kept ≡ Some s → goes_on (word_of_op op) end ≡ true
+goes_where_begun end call op kept s is = by_test (goes_on (word_of_op op) end) is
+  where
+    by_test : (b : Bool) → cond b (option_map (started_call call op kept) (driver_start call (asked op) kept)) None ≡ Some s → b ≡ true
+    by_test true there = refl
+    by_test false none = absurd (cc none)
+
 -- a call that begins and goes on begins there
-begins_there : (log : List Label) (call : CallId) (op : Op) (end : Option Outcome) (s : CallState) → call_begun end call op (first_kept (last log) call op) ≡ Some s → HasBegun (log ++ labels.Began call op end ∷ []) s.call s.op s.kept.ckpt
-begins_there log call op None s is =
-    let (d, driven, same) = begun_as None call op (first_kept (last log) call op) s is in
-    subst (λ (z : CallState). HasBegun (log ++ labels.Began call op None ∷ []) z.call z.op z.kept.ckpt) same (record { before = log; behind = []; log_is = refl; ckpt_is = refl })
-begins_there log call op (Some e) s is = absurd (cc is)
+begins_there : (log : List Label) (call : CallId) (op : Op) (end : Option Outcome) (details : Details) (s : CallState) → call_begun end call op (first_kept (last log) call op) ≡ Some s → HasBegun (log ++ labels.Began call op end details ∷ []) s.call s.op s.kept.ckpt
+begins_there log call op end details s is =
+    let (d, driven, same) = begun_as end call op (first_kept (last log) call op) s is in
+    subst (λ (z : CallState). HasBegun (log ++ labels.Began call op end details ∷ []) z.call z.op z.kept.ckpt) same
+    (record { before = log; behind = []; end = end; details = details; log_is = refl; goes = goes_where_begun end call op (first_kept (last log) call op) s is; ckpt_is = refl })
 
 -- a call that goes on after a step is the one that took it
 left_same : (log : List Label) (s : CallState) (steps : List StepDone) (created : Option (List ℕ)) (snapshot : Option Snapshot) (end : Option Outcome) (z : CallState) → HasBegun log s.call s.op s.kept.ckpt → left end (record s { steps = steps; created = created; snapshot = snapshot }) ≡ Some z → HasBegun log z.call z.op z.kept.ckpt
@@ -54,23 +84,23 @@ module _ (log : List Label) (inv : Invariant (last log)) (history : HasHistory (
 
   -- after any label that is allowed and due
   after_began : (l : Label) → Allowed (last log) l → IsDue (last log) l → AllBegan (log ++ l ∷ []) (after (last log) l)
-  after_began (labels.Began call op end) allowed due s held =
-      elim (put_actor-cases (last log).in_hand call.actor (call_begun end call op (first_kept (last log) call op)) s.call.actor s held) [
-        | inl own ↦ begins_there log call op end s own.1
-        | inr other ↦ longer (labels.Began call op end) s other.1
+  after_began (labels.Began call op end details) allowed due s held =
+      elim (put_who-cases (last log).in_hand (stepped_as call (word_of_op op)) (call_begun end call op (first_kept (last log) call op)) (who s) s held) [
+        | inl own ↦ begins_there log call op end details s own.1
+        | inr other ↦ longer (labels.Began call op end details) s other.1
       ]
   after_began (labels.Stepped call op verb k r reply end details) allowed due z in_hand =
       let s = due.state in
-      let held : (last log).in_hand s.call.actor ≡ Some s = ap (λ (c : CallId). (last log).in_hand c.actor) due.call_is ∙ due.in_hand in
+      let held : (last log).in_hand (who s) ≡ Some s = held_as (last log) call op s due.in_hand due.call_is due.word in
       let same : allowed.state ≡ s = same_Some allowed.state s (sym allowed.in_hand ∙ due.in_hand) in
       let then = follows (last log) inv history s held (record { verb = verb; ckpt = k; node = r; reply = reply; end = end; details = details }) (subst (λ z. Row (last log) z verb _) same allowed.row) in
-      let there = subst (λ o. (step_of (last log) o verb k r reply end).in_hand z.call.actor ≡ Some z) due.in_hand in_hand in
+      let there = subst (λ o. (step_of (last log) o verb k r reply end).in_hand (who z) ≡ Some z) due.in_hand in_hand in
       let behind : CallState = kept_behind (last log) s (changed (last log) s verb k r reply).cluster verb k r reply in
-      elim (put_actor-cases (changed (last log) s verb k r reply).in_hand s.call.actor (left end behind) z.call.actor z there) [
+      elim (put_who-cases (changed (last log) s verb k r reply).in_hand (who s) (left end behind) (who z) z there) [
         | inl own ↦ left_same (log ++ labels.Stepped call op verb k r reply end details ∷ []) s behind.steps behind.created behind.snapshot end z (longer (labels.Stepped call op verb k r reply end details) s held) own.1
-        | inr other ↦ longer (labels.Stepped call op verb k r reply end details) z (sym (then.in_hand z.call.actor) ∙ other.1)
+        | inr other ↦ longer (labels.Stepped call op verb k r reply end details) z (then.in_hand (who z) z other.1)
       ]
-  after_began (labels.Word who word said) allowed due s held = longer (labels.Word who word said) s held
+  after_began (labels.Word by word said) allowed due s held = longer (labels.Word by word said) s held
   after_began (labels.Nodes n) allowed due s held = longer (labels.Nodes n) s held
   after_began (labels.Moved t) allowed due s held = longer (labels.Moved t) s held
   after_began (labels.Shown k replicas) allowed due s held = longer (labels.Shown k replicas) s held
@@ -89,5 +119,5 @@ began_from log (l ∷ more) inv history began run =
     (subst (λ m. IsRunFrom m more) then run.2))
 
 -- so in a run
-pub all_began : (log : List Label) → IsRun log → (s : CallState) → (last log).in_hand s.call.actor ≡ Some s → HasBegun log s.call s.op s.kept.ckpt
+pub all_began : (log : List Label) → IsRun log → (s : CallState) → (last log).in_hand (who s) ≡ Some s → HasBegun log s.call s.op s.kept.ckpt
 all_began log run = began_from [] log invariant_empty history_empty (λ s held. absurd (cc held)) run

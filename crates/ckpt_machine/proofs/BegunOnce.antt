@@ -1,21 +1,27 @@
 -- A call begins once in a run: the number that it takes is not given again.
-use Rattle.std.proofs.Common.{◌≡◌, ◌⊎◌, ℕ, ◌+◌, ◌<◌, ◌≤◌, inl, inr, List, [], ◌∷◌, ◌++◌, Option, Some, None, Bool, true, false, cond, refl, sym, ap, subst, ◌∙◌, append_assoc, arith}
+use Rattle.std.proofs.Common.{◌≡◌, ◌⊎◌, ℕ, ◌+◌, ◌<◌, ◌≤◌, inl, inr, List, [], ◌∷◌, ◌++◌, Option, Some, Bool, true, false, cond, refl, sym, ap, subst, ◌∙◌, append_assoc, arith}
 use Rattle.std.proofs.lemmas.Option.{same_Some}
+use Rattle.ckpt_machine.proofs.Dropped.{held_as}
+use Rattle.node_msgs.specs.declared.details.Details.{Details}
 use Rattle.ckpt_types.specs.declared.answers.Outcome.{Outcome}
 use Rattle.ckpt_types.specs.declared.identities.ActorName.{ActorName}
 use Rattle.ckpt_types.specs.declared.identities.CallId.{CallId}
 use Rattle.ckpt_types.specs.declared.operation.Op.{Op}
+use Rattle.ckpt_types.specs.declared.words.OpWord.{OpWord}
+use Rattle.node_msgs.specs.declared.steps.StepReply.{StepReply}
+use Rattle.node_msgs.specs.declared.steps.Verb.{Verb}
 use Rattle.run_labels.specs.declared.labels.Label.{Label}
 use Rattle.run_labels.specs.declared.labels.Label.TheVariants as labels
 use Rattle.cluster_record.specs.Calls.{same_actor, put_actor}
 use Rattle.ckpt_machine.specs.Acknowledged.{HasBegun}
 use Rattle.ckpt_machine.specs.Guards.{Allowed, Row}
 use Rattle.ckpt_machine.specs.Invariant.{Invariant}
-use Rattle.ckpt_machine.specs.Machine.{Machine}
+use Rattle.ckpt_machine.specs.Machine.{Machine, who}
 use Rattle.ckpt_machine.specs.Runs.{last_from, last, IsRunFrom, IsRun}
 use Rattle.ckpt_machine.specs.Steps.{IsDue, asked_handle, step_of, after}
 use Rattle.ckpt_machine.specs.Tables.{ckpt_of_handle}
 use Rattle.ckpt_machine.proofs.Actors.{same_actor-true}
+use Rattle.ckpt_machine.proofs.BegunBefore.{all_began, begun_more}
 use Rattle.ckpt_machine.proofs.Copying.{after_pull, after_put}
 use Rattle.ckpt_machine.proofs.Histories.{HasHistory, follows, keeps_history, run_history}
 use Rattle.ckpt_machine.proofs.Lawful.{lawful}
@@ -34,15 +40,15 @@ counted_up m b a = by_test (same_actor a b) refl
 
 -- no label lets it fall
 next_after : (m : Machine) (l : Label) → Invariant m → HasHistory m → Allowed m l → IsDue m l → (a : ActorName) → m.next a ≤ (after m l).next a
-next_after m (labels.Began call op end) inv history allowed due a = counted_up m call.actor a
+next_after m (labels.Began call op end details) inv history allowed due a = counted_up m call.actor a
 next_after m (labels.Stepped call op verb k r reply end details) inv history allowed due a =
     let s = due.state in
-    let held : m.in_hand s.call.actor ≡ Some s = ap (λ (c : CallId). m.in_hand c.actor) due.call_is ∙ due.in_hand in
+    let held : m.in_hand (who s) ≡ Some s = held_as m call op s due.in_hand due.call_is due.word in
     let same : allowed.state ≡ s = same_Some allowed.state s (sym allowed.in_hand ∙ due.in_hand) in
     let then = follows m inv history s held (record { verb = verb; ckpt = k; node = r; reply = reply; end = end; details = details }) (subst (λ z. Row m z verb _) same allowed.row) in
     let it : (after m (labels.Stepped call op verb k r reply end details)).next a ≡ m.next a = ap (λ o. (step_of m o verb k r reply end).next a) due.in_hand ∙ then.next a in
     omega (arith, it)
-next_after m (labels.Word who word said) inv history allowed due a = omega arith
+next_after m (labels.Word by word said) inv history allowed due a = omega arith
 next_after m (labels.Nodes n) inv history allowed due a = omega arith
 next_after m (labels.Moved t) inv history allowed due a = omega arith
 next_after m (labels.Shown k replicas) inv history allowed due a = omega arith
@@ -59,9 +65,9 @@ next_from m (l ∷ log) inv history run a =
 
 -- ---- a call that has begun
 
-module _ (log before behind : List Label) (call : CallId) (op : Op) (end : Option Outcome) (is : log ≡ before ++ labels.Began call op end ∷ behind) (run : IsRun log) where
+module _ (log before behind : List Label) (call : CallId) (op : Op) (end : Option Outcome) (details : Details) (is : log ≡ before ++ labels.Began call op end details ∷ behind) (run : IsRun log) where
   abbrev l : Label
-  l = labels.Began call op end
+  l = labels.Began call op end details
 
   until : IsRun before × Allowed (last before) l × IsDue (last before) l
   until = run_before _ before l (run_front log (before ++ l ∷ []) behind (is ∙ sym (append_assoc before (l ∷ []) behind)) run)
@@ -103,18 +109,46 @@ stand (z ∷ xs) (w ∷ ys) x y us vs is =
 
 -- so a call begins once, with one operation and on one checkpoint
 pub begins_once : (log : List Label) → IsRun log → (call : CallId) (op other : Op) (k j : Option ℕ) → HasBegun log call op k → HasBegun log call other j → (other ≡ op) × (j ≡ k)
-begins_once log run call op other k j one two = elim (stand one.before two.before (labels.Began call op None) (labels.Began call other None) one.behind two.behind (sym one.log_is ∙ two.log_is)) [
+begins_once log run call op other k j one two = elim (stand one.before two.before (labels.Began call op one.end one.details) (labels.Began call other two.end two.details) one.behind two.behind (sym one.log_is ∙ two.log_is)) [
   | inl same ↦ (
       let ops : other ≡ op = (let both = same.1 in cc both) in
       (ops, two.ckpt_is ∙ ap (λ (xs : List Label). ckpt_of_handle (asked_handle (last xs) call.actor other)) (sym same.0) ∙ ap (λ (o : Op). ckpt_of_handle (asked_handle (last one.before) call.actor o)) ops ∙ sym one.ckpt_is))
   | inr (inl later) ↦ (
-      let run_two = (until log two.before two.behind call other None two.log_is run).0 in
-      let above : call.number < (last two.before).next call.actor = passed two.before one.before later.0 call op None later.1 run_two in
-      let taken : call.number ≡ (last two.before).next call.actor = took log two.before two.behind call other None two.log_is run in
+      let run_two = (until log two.before two.behind call other two.end two.details two.log_is run).0 in
+      let above : call.number < (last two.before).next call.actor = passed two.before one.before later.0 call op one.end one.details later.1 run_two in
+      let taken : call.number ≡ (last two.before).next call.actor = took log two.before two.behind call other two.end two.details two.log_is run in
       absurd (omega (arith, above, taken)))
   | inr (inr sooner) ↦ (
-      let run_one = (until log one.before one.behind call op None one.log_is run).0 in
-      let above : call.number < (last one.before).next call.actor = passed one.before two.before sooner.0 call other None sooner.1 run_one in
-      let taken : call.number ≡ (last one.before).next call.actor = took log one.before one.behind call op None one.log_is run in
+      let run_one = (until log one.before one.behind call op one.end one.details one.log_is run).0 in
+      let above : call.number < (last one.before).next call.actor = passed one.before two.before sooner.0 call other two.end two.details sooner.1 run_one in
+      let taken : call.number ≡ (last one.before).next call.actor = took log one.before one.behind call op one.end one.details one.log_is run in
       absurd (omega (arith, above, taken)))
 ]
+
+-- a call that takes a step began in front of it
+pub step_begun : (log : List Label) → IsRun log → (before behind : List Label) (d : CallId) (word : OpWord) (verb : Verb) (j q : Option ℕ) (reply : StepReply) (end : Option Outcome) (details : Details) (call : CallId) → log ≡ before ++ labels.Stepped d word verb j q reply end details ∷ behind → d ≡ call
+    → (op : Op) (ckpt : Option ℕ) → HasBegun log call op ckpt → HasBegun before call op ckpt
+step_begun log run before behind d word verb j q reply end details call is same op ckpt begun =
+    let step : Label = labels.Stepped d word verb j q reply end details in
+    let (front, allowed, due) = run_before _ before step (run_front log (before ++ step ∷ []) behind (is ∙ sym (append_assoc before (step ∷ []) behind)) run) in
+    let s = due.state in
+    let held : (last before).in_hand (who s) ≡ Some s = held_as (last before) d word s due.in_hand due.call_is due.word in
+    let first : HasBegun before call s.op s.kept.ckpt = subst (λ c. HasBegun before c s.op s.kept.ckpt) (due.call_is ∙ same) (all_began before front s held) in
+    let longer : HasBegun log call s.op s.kept.ckpt = subst (λ (xs : List Label). HasBegun xs call s.op s.kept.ckpt) (sym is) (begun_more before (step ∷ behind) call s.op s.kept.ckpt first) in
+    let one = begins_once log run call op s.op ckpt s.kept.ckpt begun longer in
+    subst (λ (o : Op). HasBegun before call o ckpt) one.0 (subst (HasBegun before call s.op) one.1 first)
+
+-- the number of a call that has begun is below that of its actor's next
+pub begun_below : (log : List Label) → IsRun log → (call : CallId) (op : Op) (k : Option ℕ) → HasBegun log call op k → call.number < (last log).next call.actor
+begun_below log run call op k begun = passed log begun.before begun.behind call op begun.end begun.details begun.log_is run
+
+-- and so is that of one that has taken a step
+pub step_below : (log : List Label) → IsRun log → (before behind : List Label) (d : CallId) (word : OpWord) (verb : Verb) (j q : Option ℕ) (reply : StepReply) (end : Option Outcome) (details : Details) (call : CallId) → log ≡ before ++ labels.Stepped d word verb j q reply end details ∷ behind → d ≡ call
+    → call.number < (last log).next call.actor
+step_below log run before behind d word verb j q reply end details call is same =
+    let step : Label = labels.Stepped d word verb j q reply end details in
+    let (front, allowed, due) = run_before _ before step (run_front log (before ++ step ∷ []) behind (is ∙ sym (append_assoc before (step ∷ []) behind)) run) in
+    let s = due.state in
+    let held : (last before).in_hand (who s) ≡ Some s = held_as (last before) d word s due.in_hand due.call_is due.word in
+    let first : HasBegun before call s.op s.kept.ckpt = subst (λ c. HasBegun before c s.op s.kept.ckpt) (due.call_is ∙ same) (all_began before front s held) in
+    begun_below log run call s.op s.kept.ckpt (subst (λ (xs : List Label). HasBegun xs call s.op s.kept.ckpt) (sym is) (begun_more before (step ∷ behind) call s.op s.kept.ckpt first))

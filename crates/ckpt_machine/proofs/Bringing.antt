@@ -6,8 +6,8 @@ use Rattle.std.specs.Prelude.{IsSomeAnd}
 use Rattle.std.proofs.lemmas.Bool.{ltb-false}
 use Rattle.std.proofs.lemmas.Option.{same_Some}
 use Rattle.ckpt_types.specs.declared.answers.Outcome.{Outcome}
-use Rattle.ckpt_types.specs.declared.identities.ActorName.{ActorName}
 use Rattle.ckpt_types.specs.declared.identities.CallId.{CallId}
+use Rattle.ckpt_types.specs.declared.identities.Who.{Who}
 use Rattle.ckpt_types.specs.declared.words.OpWord.{OpWord}
 use Rattle.ckpt_types.specs.Asks.{asked}
 use Rattle.ckpt_types.specs.Asks as asks
@@ -24,7 +24,7 @@ use Rattle.cluster_record.specs.StepDone.{StepDone, done_of, counting}
 use Rattle.ckpt_machine.specs.Driving.{Kept}
 use Rattle.ckpt_machine.specs.Guards.{PullOk, InstallOk, OnReplica, IsOnOwn, Row, is_service, serves}
 use Rattle.ckpt_machine.specs.Invariant.{Invariant}
-use Rattle.ckpt_machine.specs.Machine.{Machine, ReplicaState, Snapshot, CallState}
+use Rattle.ckpt_machine.specs.Machine.{Machine, ReplicaState, Snapshot, CallState, who}
 use Rattle.ckpt_machine.specs.Propagation.{copied, is_behind, replica_from}
 use Rattle.ckpt_machine.specs.Replays.{IsPrefix}
 use Rattle.ckpt_machine.specs.Runs.{last}
@@ -90,10 +90,10 @@ module _ (log : List Label) (l : Label) (inv : Invariant (last log)) (history : 
   abbrev m : Machine
   m = last log
 
-  module _ (s : CallState) (a : ActorName) (held : m.in_hand a ≡ Some s) (was : IsBringing log m.cluster.entries m.replicas s) (entries : List Entry) (replicas : ℕ → ℕ → Option ReplicaState) (goes : (k : ℕ) → k ≤ m.cluster.last_identity → GoesOnIn m k entries replicas) where
+  module _ (s : CallState) (a : Who) (held : m.in_hand a ≡ Some s) (was : IsBringing log m.cluster.entries m.replicas s) (entries : List Entry) (replicas : ℕ → ℕ → Option ReplicaState) (goes : (k : ℕ) → k ≤ m.cluster.last_identity → GoesOnIn m k entries replicas) where
     -- a snapshot in the hand of a call was pulled of the checkpoint that this keeps
     in_hand_of : (k : ℕ) (z : Snapshot) → s.kept.ckpt ≡ Some k → s.snapshot ≡ Some z → PulledInHand m.in_hand k z
-    in_hand_of k z ckpt snapshot = record { actor = a; state = s; in_hand = held; ckpt = ckpt; snapshot = snapshot }
+    in_hand_of k z ckpt snapshot = record { name = a; state = s; in_hand = held; ckpt = ckpt; snapshot = snapshot }
 
     -- the replica of each node that a call has served still has first what is in its hand
     still_served : (k : ℕ) (z : Snapshot) → s.kept.ckpt ≡ Some k → s.snapshot ≡ Some z → HaveServed entries replicas s.steps k z
@@ -128,7 +128,7 @@ module _ (log : List Label) (l : Label) (inv : Invariant (last log)) (history : 
 
 -- ---- its own step
 
-module _ (log : List Label) (inv : Invariant (last log)) (history : HasHistory (last log)) (each : Each (λ o r x. Unit {0}) (λ e s. Unit {0}) (last log)) (s : CallState) (held : (last log).in_hand s.call.actor ≡ Some s) (was : IsBringing log (last log).cluster.entries (last log).replicas s) where
+module _ (log : List Label) (inv : Invariant (last log)) (history : HasHistory (last log)) (each : Each (λ o r x. Unit {0}) (λ e s. Unit {0}) (last log)) (s : CallState) (held : (last log).in_hand (who s) ≡ Some s) (was : IsBringing log (last log).cluster.entries (last log).replicas s) where
   -- each checkpoint goes on by a step of the call
   abbrev GoesBy : Verb → Option ℕ → Option ℕ → StepReply → Type 0
   GoesBy verb j q reply = (k : ℕ) → k ≤ (last log).cluster.last_identity → GoesOn (last log) k (changed (last log) s verb j q reply)
@@ -145,7 +145,7 @@ module _ (log : List Label) (inv : Invariant (last log)) (history : HasHistory (
   unserving_brings : (l : Label) (verb : Verb) (j q : Option ℕ) (reply : StepReply) → GoesBy verb j q reply → is_service verb reply ≡ false → pulled_by (last log) s verb j q reply ≡ s.snapshot → BringsBy l verb j q reply
   unserving_brings l verb j q reply goes service snapshot =
       let n = changed (last log) s verb j q reply in
-      unserving log l inv history each s s.call.actor held was n.cluster.entries n.replicas goes (kept_step verb j q reply) (kept_behind (last log) s n.cluster verb j q reply) service refl refl refl snapshot
+      unserving log l inv history each s (who s) held was n.cluster.entries n.replicas goes (kept_step verb j q reply) (kept_behind (last log) s n.cluster verb j q reply) service refl refl refl snapshot
 
   -- a call brings what it pulls, where nothing was in its hand
   pull_brings : (l : Label) (j q : ℕ) (e : Entry) (x : ReplicaState) → IsPullOf l s.call j q → Some j ≡ s.kept.ckpt → s.snapshot ≡ None → entry_of j (last log).cluster.entries ≡ Some e → e.active ≡ Some q → (last log).replicas j q ≡ Some x → BringsBy l verbs.Pull (Some j) (Some q) words.Ok
@@ -184,7 +184,7 @@ module _ (log : List Label) (inv : Invariant (last log)) (history : HasHistory (
       n = changed (last log) s verbs.Install (Some j) (Some q) reply
 
       stays : IsBringing (log ++ l ∷ []) n.cluster.entries n.replicas s
-      stays = stays_bringing log l inv history each s s.call.actor held was n.cluster.entries n.replicas goes
+      stays = stays_bringing log l inv history each s (who s) held was n.cluster.entries n.replicas goes
 
   -- a call brings what it has pulled behind an installation onto a replica that was behind it
   installed_brings : (l : Label) (j q : ℕ) (t : Told) → GoesBy verbs.Install (Some j) (Some q) words.Ok → Some j ≡ s.kept.ckpt → OnReplica (last log) j q (InstallOk (last log) s q t true) → BringsBy l verbs.Install (Some j) (Some q) words.Ok
@@ -207,7 +207,7 @@ module _ (log : List Label) (inv : Invariant (last log)) (history : HasHistory (
   older_brings : (l : Label) (j q : ℕ) (t : Told) → GoesBy verbs.Install (Some j) (Some q) words.Older → Some j ≡ s.kept.ckpt → OnReplica (last log) j q (InstallOk (last log) s q t false) → BringsBy l verbs.Install (Some j) (Some q) words.Older
   older_brings l j q t goes own on =
       let (e, x, found, there, ok) = on_replica-there (last log) j q (InstallOk (last log) s q t false) on in
-      let has : PulledInHand (last log).in_hand j ok.pulled = record { actor = s.call.actor; state = s; in_hand = held; ckpt = sym own; snapshot = ok.in_hand } in
+      let has : PulledInHand (last log).in_hand j ok.pulled = record { name = who s; state = s; in_hand = held; ckpt = sym own; snapshot = ok.in_hand } in
       let now : x.generation ≡ e.generation = not_older e x ok.pulled (generation_there (last log) inv j q e x found there).within ok.present ok.behind_is in
       install_brings l j q words.Older goes own ok.pulled ok.in_hand (IsSomeAnd-from ((last log).replicas j q) (HasFirst ok.pulled) x there (now ∙ sym ok.present, other_first (last log) inv history.bare each j q e ok.pulled x found (inr has) there now ok.present ok.behind_is))
 

@@ -23,7 +23,7 @@ module _ (m : Machine) (shapes : ℕ → Shape) (inv : InvariantIn shapes m) (n 
   looks_up z = record {
     up = λ r up. none_up r up;
     lives = refl;
-    tables = refl;
+    handle = λ there. there;
     making = λ o at. none_up o.ask.node at.node;
     made = λ k was. was;
     later = λ k was e found. (e, found, LooksLater-refl z (shapes k).marks e);
@@ -44,5 +44,7 @@ module _ (m : Machine) (shapes : ℕ → Shape) (inv : InvariantIn shapes m) (n 
     handles = λ a h among. IsGoodHandle-later m.cluster (brought_up n m.cluster) (λ k was. was) (λ k was e found. (e, found, refl, λ r there. there)) a h refl (inv.handles a h among);
     rest = inv.rest;
     clients = λ c. subst (λ clients. IfSome (find_key client_key c clients) (IsGoodClient m.next (brought_up n m.cluster) c)) (sym (inv.none_live none)) tt;
+    places = inv.places;
     hands = λ a z held. let was = inv.hands a z held in IsInHand-alike m then_machine shapes shapes z (looks_up z) a (λ live. live_alike m.cluster (brought_up n m.cluster) z.call was.client refl ∙ live) was.number was;
+    calls = inv.calls;
   }

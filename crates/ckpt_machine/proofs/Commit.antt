@@ -1,5 +1,5 @@
 -- A commit at the highest node of the call.
-use Rattle.std.proofs.Common.{◌≡◌, ◌⊎◌, ℕ, ◌<◌, inl, inr, List, [], Option, Some, None, Bool, true, false, cond, not, ◌&&◌, ◌==◌, length, ◌∷◌, ◌++◌, refl, sym, ap, subst, ◌∙◌, arith}
+use Rattle.std.proofs.Common.{◌≡◌, ◌≢◌, ◌⊎◌, ℕ, ◌<◌, inl, inr, List, [], Option, Some, None, Bool, true, false, cond, not, ◌&&◌, ◌==◌, length, ◌∷◌, ◌++◌, refl, sym, ap, subst, ◌∙◌, arith}
 use Rattle.std.specs.Prelude.{is_some, IsSome, IsSomeAnd, slice_index, slice_set}
 use Rattle.std.proofs.lemmas.Bool.{eqb-true, eq-eqb}
 use Rattle.std.proofs.lemmas.Option.{same_Some}
@@ -10,7 +10,7 @@ use Rattle.ckpt_types.specs.Updates.{outcome}
 use Rattle.cluster_record.specs.declared.entries.Entry.{Entry}
 use Rattle.cluster_record.specs.declared.calls.UpdatePhase.TheVariants.{Committing}
 use Rattle.cluster_record.specs.DueUpdate.{UpdateState, done_if_none}
-use Rattle.cluster_record.specs.Calls.{same_actor, put_actor, left, same_call}
+use Rattle.cluster_record.specs.Calls.{left, same_call}
 use Rattle.cluster_record.specs.Places.{put, put2}
 use Rattle.cluster_record.specs.RecordState.{entry_of, complete_of}
 use Rattle.cluster_record.specs.StepDone.{StepDone, done_of, has, last_having}
@@ -23,8 +23,8 @@ use Rattle.ckpt_types.specs.Asks.{update_of}
 use Rattle.node_core.specs.Serving.{update_answer, told_id}
 use Rattle.replica.specs.Replicas.{or_same}
 use Rattle.ckpt_machine.specs.Driving.{driver_taken}
-use Rattle.ckpt_machine.specs.Machine.{Machine, Applied, Staged, ReplicaState, CallState}
-use Rattle.ckpt_machine.specs.Steps.{driver_of, stepped, kept_behind, created_by, ended_details, committed_slot, with_committed}
+use Rattle.ckpt_machine.specs.Machine.{Machine, Applied, Staged, ReplicaState, CallState, who}
+use Rattle.ckpt_machine.specs.Steps.{driver_of, left_in_hand, kept_behind, created_by, ended_details, committed_slot, with_committed}
 use Rattle.ckpt_machine.specs.Complete.{complete_replicas, replicas_from}
 use Rattle.ckpt_machine.specs.Guards.{HasSlotOrEffect, CommitOk, CommitRow, owns_slot, owned_elsewhere, ends_update}
 use Rattle.ckpt_machine.specs.Shape.{Shape, IsCompleteOn, IsShaped, is_owner, IsOwner, IsSpread, slot_by}
@@ -32,11 +32,14 @@ use Rattle.ckpt_machine.specs.InHand.{is_enter, IsInPlace, IsUpdateIn, IsInHand,
 use Rattle.ckpt_machine.specs.Invariant.{IsCompleteAt, InvariantIn, Invariant}
 use Rattle.ckpt_machine.proofs.NodeLists.{elsewhere-is, last_having-None, index-set, index-other, length-slice_set, index-within, had-there, has-none}
 use Rattle.ckpt_machine.proofs.OnComplete.{put_complete}
-use Rattle.ckpt_machine.proofs.ReplicaSteps.{IsMarker-other, put_actor-here, one_changed, step_keeps}
-use Rattle.ckpt_machine.proofs.Owning.{never_held, is_owner-true, is_owner-here, owner_alone, at, made, on_all, all_is}
+use Rattle.ckpt_machine.proofs.ReplicaSteps.{IsMarker-other, one_changed, step_keeps}
+use Rattle.ckpt_machine.proofs.Owning.{never_held, is_owner-here, owner_alone, at, made, on_all, all_is}
 use Rattle.ckpt_machine.proofs.OnAll.{shaped_replicas, by_shape}
 use Rattle.ckpt_machine.proofs.Stage.{IfSome-more, on_complete}
-use Rattle.ckpt_machine.proofs.Actors.{same_actor-refl, same_call-refl}
+use Rattle.ckpt_machine.specs.Whose.{put_who}
+use Rattle.ckpt_machine.proofs.Whose.{put_who-here}
+use Rattle.ckpt_machine.proofs.Actors.{same_call-refl, same_call-false}
+use Rattle.ckpt_machine.proofs.CallsKept.{IsSameCall, same_call-None, same_call-Some}
 
 -- the shape is of the call's own update; every replica without a slot has it, or each has a slot of the call
 pub record Commits (z : Shape) (s : CallState) (e : Entry) : Type 0 where
@@ -45,15 +48,8 @@ pub record Commits (z : Shape) (s : CallState) (e : Entry) : Type 0 where
   pub rest : (z.done ≡ true) ⊎ ((q : ℕ) → IsCompleteOn e q → z.owners q ≡ Some s.call)
 
 -- another actor's call owns no slot of this one
-pub not_own : (c d : CallId) → same_actor d.actor c.actor ≡ false → is_owner d (Some c) ≡ false
-not_own c d other = by_test (is_owner d (Some c)) refl
-  where
-    by_test : (b : Bool) → is_owner d (Some c) ≡ b → is_owner d (Some c) ≡ false
-    by_test false no_it = no_it
-    by_test true owns =
-        let w : Some c ≡ Some d = is_owner-true d (Some c) owns in
-        let same : c ≡ d = same_Some c d w in
-        absurd (let w : true ≡ false = sym (ap (λ (x : CallId). same_actor x.actor c.actor) (sym same) ∙ same_actor-refl c.actor) ∙ other in cc)
+pub not_own : (c d : CallId) → d ≢ c → is_owner d (Some c) ≡ false
+not_own c d other = same_call-false c d (λ same. other (sym same))
 
 -- whose slot it is, by its owner
 owns_slot-by : (z : Shape) (call : CallId) (o : Option CallId) → owns_slot call (slot_by z o) ≡ is_owner call o
@@ -69,7 +65,7 @@ details-by : (A : Answer) (P : Details) (last : Option ℕ) → ended_details (d
 details-by A P None = refl
 details-by A P (Some p) = refl
 
-module _ (m : Machine) (shapes : ℕ → Shape) (inv : InvariantIn shapes m) (s : CallState) (u : UpdateState) (held : m.in_hand s.call.actor ≡ Some s) (is : driver_of s ≡ drivers.Update u)
+module _ (m : Machine) (shapes : ℕ → Shape) (inv : InvariantIn shapes m) (s : CallState) (u : UpdateState) (held : m.in_hand (who s) ≡ Some s) (is : driver_of s ≡ drivers.Update u)
     (e : Entry) (found : entry_of u.ckpt m.cluster.entries ≡ Some e) (spread : IsSpread m u.ckpt (shapes u.ckpt) e) (commits : Commits (shapes u.ckpt) s e)
     (r : ℕ) (had : has (slice_index e.complete r) (slice_index u.owned r) ≡ true) (behind : (q : ℕ) → r < q → has (slice_index e.complete q) (slice_index u.owned q) ≡ false)
     (x : ReplicaState) (there : m.replicas u.ckpt r ≡ Some x) (shaped : IsShaped (shapes u.ckpt) (Some s.call) x) (own : (shapes u.ckpt).owners r ≡ Some s.call) where
@@ -169,7 +165,7 @@ module _ (m : Machine) (shapes : ℕ → Shape) (inv : InvariantIn shapes m) (s 
   then_driver = record { call = u.call; ckpt = u.ckpt; owned = owned_then; moment = u.moment; phase = Committing }
 
   abbrev then_machine : Option CallState → Machine
-  then_machine o = record m { replicas = put2 m.replicas u.ckpt r (Some with_commit); in_hand = put_actor m.in_hand s.call.actor o }
+  then_machine o = record m { replicas = put2 m.replicas u.ckpt r (Some with_commit); in_hand = put_who m.in_hand (who s) o }
 
   -- its generation stays
   with_commit-generation : with_commit.generation ≡ x.generation
@@ -254,17 +250,17 @@ module _ (m : Machine) (shapes : ℕ → Shape) (inv : InvariantIn shapes m) (s 
     held = λ d is_some. absurd (never_held m shapes inv s u held is e found d is_some);
   }
 
-  keeps_then : (call : CallId) (q : ℕ) → same_actor call.actor s.call.actor ≡ false → is_owner call (committed.owners q) ≡ is_owner call (z.owners q)
+  keeps_then : (call : CallId) (q : ℕ) → call ≢ s.call → is_owner call (committed.owners q) ≡ is_owner call (z.owners q)
   keeps_then call q other = elim (q == r) as (λ b. (q == r) ≡ b → is_owner call (cond b None (z.owners q)) ≡ is_owner call (z.owners q)) [
     | true ↦ λ same. sym (ap (λ (p : ℕ). is_owner call (z.owners p)) (eqb-true q r same) ∙ ap (is_owner call) own ∙ not_own s.call call other)
     | false ↦ λ same. refl
   ] refl
 
   keeps_all : (o : Option CallState) → ((q : ℕ) (d : CallId) → committed.owners q ≡ Some d → IsOwner (then_machine o) u.ckpt committed d)
-      → ((w : CallState) → o ≡ Some w → IsInHand (then_machine o) (put shapes u.ckpt committed) s.call.actor w) → Invariant (then_machine o)
-  keeps_all o owned hand = record {
+      → IsSameCall s o → ((w : CallState) → o ≡ Some w → IsInHand (then_machine o) (put shapes u.ckpt committed) (who s) w) → Invariant (then_machine o)
+  keeps_all o owned same hand = record {
     shapes = put shapes u.ckpt committed;
-    holds = step_keeps m shapes inv s u held is (put2 m.replicas u.ckpt r (Some with_commit)) o committed (one_changed m shapes inv s u held is with_commit r) (refl, keeps_then)
+    holds = step_keeps m shapes inv s u held is (put2 m.replicas u.ckpt r (Some with_commit)) o committed (one_changed m shapes inv s u held is with_commit r) (refl, keeps_then) same
         (λ f there none. subst (IsSpread (then_machine o) u.ckpt committed) (same_Some e f (sym found ∙ there)) (spread_then o owned)) hand (made m shapes inv s u held is)
         (put_complete m.cluster m.replicas u.ckpt r with_commit (subst (IsCompleteAt m.cluster u.ckpt r) (sym with_commit-generation) (inv.replicas u.ckpt r x there)) inv.replicas);
   }
@@ -273,13 +269,13 @@ module _ (m : Machine) (shapes : ℕ → Shape) (inv : InvariantIn shapes m) (s 
   ended : left_then ≡ None → Invariant (then_machine None)
   ended none = keeps_all None
       (λ q d owns. absurd (let w : true ≡ false = sym (has_left q d owns) ∙ last_having-None 0 e.complete owned_then (length-slice_set u.owned r 0 ∙ same_length) none q in cc))
-      (λ w gone. absurd (cc gone))
+      (same_call-None s) (λ w gone. absurd (cc gone))
 
   -- else it goes on
   owner_then : IsOwner (then_machine (Some then_state)) u.ckpt committed s.call
   owner_then = record {
     state = then_state;
-    in_hand = put_actor-here m.in_hand s.call.actor (Some then_state);
+    in_hand = put_who-here m.in_hand (who s) (Some then_state);
     call_is = refl;
     driver = then_driver;
     driver_is = driver_then;
@@ -309,8 +305,8 @@ module _ (m : Machine) (shapes : ℕ → Shape) (inv : InvariantIn shapes m) (s 
 
   goes_on : (p : ℕ) → left_then ≡ Some p → Invariant (then_machine (Some then_state))
   goes_on p some = keeps_all (Some then_state) (λ q d owns. subst (IsOwner (then_machine (Some then_state)) u.ckpt committed) (sym (owners_left q d owns).2) owner_then)
-      (λ w same. let hand = inv.hands s.call.actor s held in subst (IsInHand (then_machine (Some then_state)) (put shapes u.ckpt committed) s.call.actor) (same_Some then_state w same) (record {
-        actor = refl;
+      (same_call-Some s then_state refl refl) (λ w same. let hand = inv.hands (who s) s held in subst (IsInHand (then_machine (Some then_state)) (put shapes u.ckpt committed) (who s)) (same_Some then_state w same) (record {
+        whose = refl;
         client = hand.client;
         number = hand.number;
         built = hand.built;
@@ -319,7 +315,7 @@ module _ (m : Machine) (shapes : ℕ → Shape) (inv : InvariantIn shapes m) (s 
         here = subst (IsInPlace (then_machine (Some then_state)) (put shapes u.ckpt committed) then_state) (sym driver_then) (here_then p some);
       }))
 
-  pub commit_leads : Invariant (stepped (record m { replicas = put2 m.replicas u.ckpt r (Some with_commit) }) (kept_behind m s m.cluster verbs.Commit (Some u.ckpt) (Some r) words.Ok) (done_if_none A left_then))
+  pub commit_leads : Invariant (left_in_hand (record m { replicas = put2 m.replicas u.ckpt r (Some with_commit) }) (kept_behind m s m.cluster verbs.Commit (Some u.ckpt) (Some r) words.Ok) (done_if_none A left_then))
   unfolding commit_done
   commit_leads = by_left left_then refl
     where

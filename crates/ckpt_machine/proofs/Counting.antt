@@ -1,7 +1,7 @@
 -- Each label counts up by at most one.
 use Rattle.std.proofs.Common.{◌≡◌, ◌⊎◌, ℕ, zero, suc, ◌+◌, ◌-◌, ◌≤◌, inl, inr, List, [], ◌∷◌, ◌++◌, filter, length, Option, Some, None, Bool, true, false, cond, not, ◌==◌, ◌&&◌, ℤ, refl, sym, ap, subst, ◌∙◌, arith}
 use Rattle.std.specs.Option.{option_map}
-use Rattle.std.specs.Prelude.{slice_index, slice_set}
+use Rattle.std.specs.Prelude.{slice_index, slice_set, if◌then◌else◌}
 use Rattle.std.proofs.lemmas.List.{length_push}
 use Rattle.std.proofs.lemmas.Option.{same_Some}
 use Rattle.ckpt_types.specs.declared.answers.Outcome.{Outcome}
@@ -15,7 +15,7 @@ use Rattle.ckpt_types.specs.declared.update.Update.{Update}
 use Rattle.ckpt_types.specs.Reads.{NextGiven}
 use Rattle.section_iter.specs.KeptIds.{KeptIds}
 use Rattle.section_iter.specs.declared.room.Room.{Room}
-use Rattle.client_handles.specs.ClientState.{ClientState, emptied}
+use Rattle.client_handles.specs.ClientState.{ClientState, bound, emptied, can_stand_for}
 use Rattle.client_handles.specs.declared.handle_view.HandleView.{HandleView}
 use Rattle.weak_marks.specs.Marks.{Marked}
 use Rattle.node_msgs.specs.declared.steps.Verb.{Verb}
@@ -40,21 +40,29 @@ use Rattle.ckpt_machine.proofs.SettingActive.{with_hold-identity, with_active-id
 use Rattle.cluster_record.proofs.IdentityLaws.{KeepsIdentity, IdentitiesRise-change_key, IdentitiesRise-filter, IdentitiesRise-map, IdentitiesRise-push}
 use Rattle.ckpt_types.specs.Asks.{Ask, asked, update_of}
 use Rattle.ckpt_types.specs.Asks as asks
-use Rattle.ckpt_machine.specs.Machine.{Machine, Applied, ReplicaState, Snapshot, Staged, CallState, empty_cluster}
+use Rattle.ckpt_machine.specs.Machine.{Machine, Applied, ReplicaState, Snapshot, Staged, CallState, empty_cluster, who}
 use Rattle.ckpt_machine.specs.Laws.{CountsUp}
 use Rattle.ckpt_machine.specs.Propagation.{source_at, copied, with_pulled, target_at, replica_from, with_put}
 use Rattle.ckpt_machine.specs.Runs.{Counts}
-use Rattle.ckpt_machine.specs.Steps.{given_at, chosen_at}
+use Rattle.ckpt_machine.specs.Steps.{given_at, chosen_at, with_pending, with_closed, goes_with, without_syncs, left_over, left_in_hand, ended_calls}
+use Rattle.ckpt_machine.specs.Whose.{is_of}
+use Rattle.call_dispatch.specs.PendingCalls.{PendingCalls, no_pending, given_by}
+use Rattle.call_dispatch.specs.declared.async_call.EndedCall.{EndedCall}
+use Rattle.ckpt_types.specs.declared.calls.AsyncKind.{AsyncKind}
+use Rattle.ckpt_types.specs.declared.calls.AsyncKind.TheVariants as kinds
 use Rattle.ckpt_machine.specs.Steps.{with_record, record_step, with_tables, with_given, with_started, with_gone_on, ids_asked, seen_at, created_for, retained_for, change_replica, with_committed, committed_slot, with_applied, with_marks, without_marks, marks_ended, with_installed, with_lead, effect_of, after_beginning, begun_call, call_begun, changed, pulled_by, kept_behind, step_of, on_ok, on_look, without_making, at_some, replica_under, snapshot_under, opened_state}
-use Rattle.ckpt_machine.specs.Tables.{handle_given, with_iteration, started, with_next, gone_on, closing, ended_at_once}
+use Rattle.ckpt_machine.specs.Tables.{handle_given, handle_closed, registering, place_set, places_set, with_iteration, started, with_next, gone_on, closing, ended_at_once}
 use Rattle.ckpt_machine.proofs.References.{released-identity, released_all-identity}
 use Rattle.ckpt_machine.proofs.Joining.{opened_with-identity}
 use Rattle.ckpt_machine.proofs.Entries.{ComesOf, ComesOf-filter, ComesOf-change_key, ComesOf-map}
 use Rattle.ckpt_machine.proofs.Follows.{element_effects}
 use Rattle.ckpt_machine.proofs.NodeLists.{slice_index-replicate}
 use Rattle.ckpt_machine.proofs.Propagated.{source_there}
-use Rattle.ckpt_machine.proofs.ReplicaSteps.{put_actor-cases}
+use Rattle.ckpt_machine.proofs.Dropped.{left_was, held_as}
 use Rattle.ckpt_machine.proofs.Starting.{first_kept, begun_as}
+use Rattle.ckpt_types.specs.OpWord.{stepped_as, word_of_op}
+use Rattle.ckpt_types.specs.declared.identities.Who.{Who}
+use Rattle.ckpt_machine.proofs.Whose.{put_who-cases}
 use Rattle.ckpt_machine.proofs.Sync.{left_is}
 
 -- ---- what counts up
@@ -317,8 +325,13 @@ record CountsOne (t after_it : ClientState) : Type 0 where
   iterations : after_it.last_iteration ≤ t.last_iteration + 1
 
 CountsOne-given : (ask : Ask) (k creation_flags : ℕ) (t : ClientState) → CountsOne t (handle_given ask k creation_flags t)
-CountsOne-given (asks.Open place name flags timeout a) k creation_flags t = record { handles = omega arith; iterations = omega arith }
+CountsOne-given (asks.Open place name flags (Some timeout) a) k creation_flags t = record { handles = omega arith; iterations = omega arith }
+CountsOne-given (asks.Open place name flags None a) k creation_flags t = record { handles = omega arith; iterations = omega arith }
 CountsOne-given ask k creation_flags t = record { handles = omega arith; iterations = omega arith }
+
+CountsOne-registering : (ask : Ask) (t : ClientState) → CountsOne t (registering ask t)
+CountsOne-registering (asks.Enter r version callbacks) t = record { handles = omega arith; iterations = omega arith }
+CountsOne-registering ask t = record { handles = omega arith; iterations = omega arith }
 
 CountsOne-with_iteration : (iteration : ℕ) (h : Option HandleView) (kept : KeptIds) (t : ClientState) → CountsOne t (with_iteration iteration h kept t)
 CountsOne-with_iteration iteration None kept t = record { handles = omega arith; iterations = omega arith }
@@ -340,15 +353,48 @@ CountsOne-closing : (ask : Ask) (t : ClientState) → CountsOne t (closing ask t
 CountsOne-closing (asks.Close place) t = record { handles = omega arith; iterations = omega arith }
 CountsOne-closing ask t = record { handles = omega arith; iterations = omega arith }
 
-CountsOne-ended_at_once : (end : Option Outcome) (ask : Ask) (t : ClientState) → CountsOne t (ended_at_once end ask t)
-CountsOne-ended_at_once (Some (outcomes.Done answer)) (asks.EndIteration iteration) t = record { handles = omega arith; iterations = omega arith }
-CountsOne-ended_at_once end ask t = record { handles = omega arith; iterations = omega arith }
+-- callbacks number none
+abbrev NumbersSame : ClientState → ClientState → Type 0
+NumbersSame t after_it = (after_it.last_number ≡ t.last_number) × (after_it.last_iteration ≡ t.last_iteration)
+
+place_numbers : (call : EndedCall) (t : ClientState) → NumbersSame t (place_set call t)
+place_numbers call t = by_kind call.asked.kind
+  where
+    by_open : (b : Bool) (place : ℕ) → NumbersSame t (cond b (bound place call.asked.handle t) t)
+    by_open true place = (refl, refl)
+    by_open false place = (refl, refl)
+
+    by_kind : (kind : AsyncKind) → NumbersSame t (place_set (record call { asked = record call.asked { kind = kind } }) t)
+    by_kind (kinds.Open place) = by_open (can_stand_for place call.asked.handle t) place
+    by_kind kinds.Sync = (refl, refl)
+
+places_numbers : (calls : List EndedCall) (t : ClientState) → NumbersSame t (places_set calls t)
+places_numbers [] t = (refl, refl)
+places_numbers (call ∷ calls) t =
+    let first = place_numbers call t in
+    let rest = places_numbers calls (place_set call t) in
+    (rest.0 ∙ first.0, rest.1 ∙ first.1)
+
+CountsOne-ended_at_once : (end : Option Outcome) (ask : Ask) (p : PendingCalls) (t : ClientState) → CountsOne t (ended_at_once end ask p t)
+CountsOne-ended_at_once (Some (outcomes.Done answer)) (asks.EndIteration iteration) p t = record { handles = omega arith; iterations = omega arith }
+CountsOne-ended_at_once (Some (outcomes.Done answer)) (asks.Dispatch flags) p t =
+    let (handles, iterations) = places_numbers (given_by flags p) t in
+    record { handles = omega (arith, handles); iterations = omega (arith, iterations) }
+CountsOne-ended_at_once end ask p t = record { handles = omega arith; iterations = omega arith }
 
 -- ---- the machine
 
 -- other calls in hand, whose snapshots have no more
-Counts-in_hand : (m : Machine) (f : ActorName → Option CallState) (n : ℕ) → Counts m n → ((a : ActorName) (s : CallState) (x : Snapshot) → f a ≡ Some s → s.snapshot ≡ Some x → length x.effects ≤ n) → Counts (record m { in_hand = f }) n
+Counts-in_hand : (m : Machine) (f : Who → Option CallState) (n : ℕ) → Counts m n → ((a : Who) (s : CallState) (x : Snapshot) → f a ≡ Some s → s.snapshot ≡ Some x → length x.effects ≤ n) → Counts (record m { in_hand = f }) n
 Counts-in_hand m f n counts few = record { copies = few; next = counts.next; last_handles = counts.last_handles; last_iterations = counts.last_iterations; effects = counts.effects; snapshots = counts.snapshots; identity = counts.identity; generations = counts.generations; references = counts.references }
+
+-- other calls that are not dispatched
+Counts-pending : (m : Machine) (a : ActorName) (change : PendingCalls → PendingCalls) (n : ℕ) → Counts m n → Counts (with_pending a change m) n
+Counts-pending m a change n counts = record { next = counts.next; last_handles = counts.last_handles; last_iterations = counts.last_iterations; effects = counts.effects; snapshots = counts.snapshots; copies = counts.copies; identity = counts.identity; generations = counts.generations; references = counts.references }
+
+-- some calls are in hand no more
+Counts-dropped : (m : Machine) (drops : Who → Bool) (n : ℕ) → Counts m n → Counts (record m { in_hand = λ w. if drops w then None else m.in_hand w }) n
+Counts-dropped m drops n counts = Counts-in_hand m (λ w. if drops w then None else m.in_hand w) n counts (λ w s x held is. counts.copies w s x (left_was (drops w) (m.in_hand w) s held) is)
 
 module _ (m : Machine) (n : ℕ) (counts : Counts m n) where
   more : Counts m (n + 1)
@@ -408,7 +454,7 @@ module _ (m : Machine) (n : ℕ) (counts : Counts m n) where
   pulled_on k reply o is = more
 
   -- an installation gives a replica what a snapshot in hand has
-  installed_on : (a : ActorName) (s : CallState) → m.in_hand a ≡ Some s → (k r : ℕ) (x : Option ReplicaState) → m.replicas k r ≡ x → Counts (change_replica m k r x (with_installed s.snapshot)) (n + 1)
+  installed_on : (a : Who) (s : CallState) → m.in_hand a ≡ Some s → (k r : ℕ) (x : Option ReplicaState) → m.replicas k r ≡ x → Counts (change_replica m k r x (with_installed s.snapshot)) (n + 1)
   installed_on a s held k r None there = more
   installed_on a s held k r (Some x) there = by_snapshot s.snapshot refl
     where
@@ -417,7 +463,7 @@ module _ (m : Machine) (n : ℕ) (counts : Counts m n) where
       by_snapshot (Some p) is = Counts-replica m k r (replica_from p x) n counts (more.copies a s p held is)
 
   -- so does one that leads from then on, of the record after a step
-  led_on : (a : ActorName) (s : CallState) → m.in_hand a ≡ Some s → (b : Machine) → Counts b (n + 1) → (k r generation : ℕ) (x : Option ReplicaState) → b.replicas k r ≡ x → Counts (change_replica b k r x (with_lead s.snapshot generation)) (n + 1)
+  led_on : (a : Who) (s : CallState) → m.in_hand a ≡ Some s → (b : Machine) → Counts b (n + 1) → (k r generation : ℕ) (x : Option ReplicaState) → b.replicas k r ≡ x → Counts (change_replica b k r x (with_lead s.snapshot generation)) (n + 1)
   led_on a s held b on k r generation None there = on
   led_on a s held b on k r generation (Some x) there = by_snapshot s.snapshot refl
     where
@@ -431,7 +477,7 @@ module _ (m : Machine) (n : ℕ) (counts : Counts m n) where
   copy_few k r x (Some y) there same = subst (λ (z : Snapshot). length z.effects ≤ n) (same_Some (copied y) x same) (counts.effects k r y there)
 
   -- what a call has in its hand behind a step is what it had, or a copy of a replica
-  pulled_few : (a : ActorName) (s : CallState) → m.in_hand a ≡ Some s → (verb : Verb) (k r : Option ℕ) (reply : StepReply) (x : Snapshot) → pulled_by m s verb k r reply ≡ Some x → length x.effects ≤ n
+  pulled_few : (a : Who) (s : CallState) → m.in_hand a ≡ Some s → (verb : Verb) (k r : Option ℕ) (reply : StepReply) (x : Snapshot) → pulled_by m s verb k r reply ≡ Some x → length x.effects ≤ n
   pulled_few a s held verbs.Pull (Some k) (Some r) words.Ok x is = copy_few k r x (m.replicas k r) refl is
   pulled_few a s held verbs.Hold (Some k) (Some r) words.Ok x is = copy_few k r x (m.replicas k r) refl is
   pulled_few a s held verb k r reply x is = counts.copies a s x held is
@@ -489,7 +535,7 @@ unmarked_few x = by_marks x.marks
     by_marks (Some marked) = let a = length_push x.effects (Applied marked.call marked.update marked.moment) in omega (arith, a)
 
 -- a step counts up by at most one
-module _ (m : Machine) (n : ℕ) (rises : IdentitiesRise m.cluster.entries) (up_to : AllUpTo m.cluster.last_identity m.cluster.entries) (counts : Counts m n) (s : CallState) (held : m.in_hand s.call.actor ≡ Some s) where
+module _ (m : Machine) (n : ℕ) (rises : IdentitiesRise m.cluster.entries) (up_to : AllUpTo m.cluster.last_identity m.cluster.entries) (counts : Counts m n) (s : CallState) (held : m.in_hand (who s) ≡ Some s) where
   -- one entry is changed
   abbrev changing : ℕ → (Entry → Entry) → RecordState → RecordState
   changing k f R = record R { entries = change_key identity_of k f R.entries }
@@ -514,15 +560,23 @@ module _ (m : Machine) (n : ℕ) (rises : IdentitiesRise m.cluster.entries) (up_
       let next = given_at (ids_asked m s) m.cluster.moment (seen_at m k r) in
       tables_on m n counts m (more m n counts) s.call.actor (gone_on (asked s.op) next) (CountsOne-gone_on (asked s.op) next (m.tables s.call.actor))
 
+  -- a handle ends, with the synchronisations over it
+  closed_counts : (then_machine : Machine) → Counts then_machine (n + 1) → then_machine.tables s.call.actor ≡ m.tables s.call.actor → Counts (with_closed s then_machine) (n + 1)
+  closed_counts then_machine on same =
+      let a = s.call.actor in
+      let handle = handle_closed (asked s.op) (then_machine.tables a) in
+      let dropped = Counts-dropped then_machine (goes_with handle a (then_machine.pending a)) (n + 1) on in
+      tables_on m n counts (without_syncs handle a then_machine) (Counts-pending _ a (left_over handle) (n + 1) dropped) a (closing (asked s.op)) (subst (λ t. CountsOne (m.tables a) (closing (asked s.op) t)) (sym same) (CountsOne-closing (asked s.op) (m.tables a)))
+
   changed_counts : (verb : Verb) (k r : Option ℕ) (reply : StepReply) → Counts (changed m s verb k r reply) (n + 1)
-  changed_counts verbs.Enter k r reply = ok_on m n counts reply _ (some_on m n counts r _ (λ r. on_step m n counts (entered (client_of s.call) r s.call.number) (record { rises = rises; last = omega arith; few = (same_on m.cluster rises up_to).few; low = (same_on m.cluster rises up_to).low })))
-  changed_counts verbs.Leave k r reply = ok_on m n counts reply _ (tables_on m n counts _ (on_step m n counts (departed (client_of s.call)) (departed_on m.cluster rises up_to (client_of s.call))) s.call.actor emptied (record { handles = omega arith; iterations = omega arith }))
+  changed_counts verbs.Enter k r reply = ok_on m n counts reply _ (some_on m n counts r _ (λ r. tables_on m n counts _ (on_step m n counts (entered (client_of s.call) r s.call.number) (record { rises = rises; last = omega arith; few = (same_on m.cluster rises up_to).few; low = (same_on m.cluster rises up_to).low })) s.call.actor (registering (asked s.op)) (CountsOne-registering (asked s.op) (m.tables s.call.actor))))
+  changed_counts verbs.Leave k r reply = ok_on m n counts reply _ (Counts-pending _ s.call.actor (λ p. no_pending) (n + 1) (Counts-dropped _ (is_of s.call.actor) (n + 1) (tables_on m n counts _ (on_step m n counts (departed (client_of s.call)) (departed_on m.cluster rises up_to (client_of s.call))) s.call.actor emptied (record { handles = omega arith; iterations = omega arith }))))
   changed_counts verbs.Create k r reply = ok_on m n counts reply _ (on_step m n counts (created_for s.call (asked s.op)) (created_for_on m.cluster rises up_to s.call (asked s.op)))
   changed_counts verbs.Reserve k r reply = ok_on m n counts reply _ (both_on m n counts k r _ (λ k r. let c = more m n counts in record { next = c.next; last_handles = c.last_handles; last_iterations = c.last_iterations; effects = c.effects; snapshots = c.snapshots; copies = c.copies; identity = c.identity; generations = c.generations; references = c.references }))
   changed_counts verbs.Finish k r reply = ok_on m n counts reply _ (some_on m n counts k _ (λ k. entry_given k (made_with (home_of (client_of s.call) m.cluster) m.cluster.up (client_of s.call)) (λ e. refl) (OneMore-made (home_of (client_of s.call) m.cluster) m.cluster.up (client_of s.call))))
   changed_counts verbs.Undo k r reply = ok_on m n counts reply _ (some_on m n counts k _ (undone_on m n counts rises up_to))
   changed_counts verbs.Open k r reply = ok_on m n counts reply _ (some_on m n counts k _ (λ k. entry_given k (opened_with (home_of (client_of s.call) m.cluster) m.cluster.up (client_of s.call)) (opened_with-identity (home_of (client_of s.call) m.cluster) m.cluster.up (client_of s.call)) (OneMore-opened (home_of (client_of s.call) m.cluster) m.cluster.up (client_of s.call))))
-  changed_counts verbs.Close k r reply = ok_on m n counts reply _ (some_on m n counts k _ (λ k. tables_on m n counts _ (entry_changed k (unreferred (client_of s.call) m.cluster.moment) (released-identity (client_of s.call) m.cluster.moment) (OneMore-released (client_of s.call) m.cluster.moment)) s.call.actor (closing (asked s.op)) (CountsOne-closing (asked s.op) (m.tables s.call.actor))))
+  changed_counts verbs.Close k r reply = ok_on m n counts reply _ (some_on m n counts k _ (λ k. closed_counts _ (entry_changed k (unreferred (client_of s.call) m.cluster.moment) (released-identity (client_of s.call) m.cluster.moment) (OneMore-released (client_of s.call) m.cluster.moment)) refl))
   changed_counts verbs.Unlink k r reply = ok_on m n counts reply _ (some_on m n counts k _ (λ k. entry_changed k unnamed (λ e. refl) (λ e. OneMore-fewer e (unnamed e) (λ c. omega arith) refl)))
   changed_counts verbs.Retain k r reply = ok_on m n counts reply _ (some_on m n counts k _ (λ k. on_step m n counts (retained_for (asked s.op) k) (retained_for_on m.cluster rises up_to (asked s.op) k)))
   changed_counts verbs.Stage k r reply = ok_on m n counts reply _ (both_on m n counts k r _ (λ k r. replica_on m n counts k r (m.replicas k r) refl _ (λ x. omega arith)))
@@ -531,15 +585,15 @@ module _ (m : Machine) (n : ℕ) (rises : IdentitiesRise m.cluster.entries) (up_
   changed_counts verbs.Mark k r reply = ok_on m n counts reply _ (both_on m n counts k r _ (λ k r. replica_on m n counts k r (m.replicas k r) refl (with_marks s.call (update_of s.op) m.cluster.moment) (λ x. omega arith)))
   changed_counts verbs.Element k r reply = ok_on m n counts reply _ (both_on m n counts k r _ (λ k r. replica_on m n counts k r (m.replicas k r) refl _ (λ x. let same = ap length (element_effects (entry_of k m.cluster.entries) x) in omega (arith, same))))
   changed_counts verbs.Unmark k r reply = ok_on m n counts reply _ (both_on m n counts k r _ (λ k r. replica_on m n counts k r (m.replicas k r) refl _ unmarked_few))
-  changed_counts verbs.Install k r reply = ok_on m n counts reply _ (both_on m n counts k r _ (λ k r. installed_on m n counts s.call.actor s held k r (m.replicas k r) refl))
+  changed_counts verbs.Install k r reply = ok_on m n counts reply _ (both_on m n counts k r _ (λ k r. installed_on m n counts (who s) s held k r (m.replicas k r) refl))
   changed_counts verbs.Hold k r reply = ok_on m n counts reply _ (some_on m n counts k _ (λ k. entry_changed k (with_hold s.call) (with_hold-identity s.call) (OneMore-held s.call)))
   changed_counts verbs.Activate k r reply = ok_on m n counts reply _ (both_on m n counts k r _ (λ k r.
       let b = record_step (active_set k r) m in
-      led_on m n counts s.call.actor s held b (entry_changed k (with_active r) (with_active-identity r) (OneMore-led r)) k r (generation_in (entry_of k b.cluster.entries)) (b.replicas k r) refl))
+      led_on m n counts (who s) s held b (entry_changed k (with_active r) (with_active-identity r) (OneMore-led r)) k r (generation_in (entry_of k b.cluster.entries)) (b.replicas k r) refl))
   changed_counts verbs.Iter k r reply = ok_on m n counts reply _ (both_on m n counts k r _ started_counts)
   changed_counts verbs.Next k r reply = ok_on m n counts reply _ (both_on m n counts k r _ gone_on_counts)
   changed_counts verbs.Look k r reply =
-      looked_on m n counts reply _ _ (tables_on m n counts m (more m n counts) s.call.actor (closing (asked s.op)) (CountsOne-closing (asked s.op) (m.tables s.call.actor))) (without_making_on m n counts rises up_to (making_of s.call m.cluster))
+      looked_on m n counts reply _ _ (closed_counts m (more m n counts) refl) (without_making_on m n counts rises up_to (making_of s.call m.cluster))
   changed_counts verb k r reply = more m n counts
 
 -- a beginning counts one number on
@@ -550,7 +604,7 @@ begun_counts m call op end n counts = tables_on m n counts (begun_call m call op
   last_iterations = λ a. omega (arith, counts.last_iterations a);
   effects = λ k r x is. omega (arith, counts.effects k r x is);
   snapshots = λ k s is. omega (arith, counts.snapshots k s is);
-  copies = λ a s x held is. elim (put_actor-cases m.in_hand call.actor (call_begun end call op (first_kept m call op)) a s held) [
+  copies = λ a s x held is. elim (put_who-cases m.in_hand (stepped_as call (word_of_op op)) (call_begun end call op (first_kept m call op)) a s held) [
     | inl own ↦ (
         let (driver, starts, same) = begun_as end call op (first_kept m call op) s own.1 in
         absurd (let w : None ≡ Some x = ap (λ (z : CallState). z.snapshot) same ∙ is in cc w))
@@ -559,26 +613,26 @@ begun_counts m call op end n counts = tables_on m n counts (begun_call m call op
   identity = omega arith;
   generations = λ k e is. omega (arith, counts.generations k e is);
   references = λ k e c is. omega (arith, counts.references k e c is);
-}) call.actor (ended_at_once end (asked op)) (CountsOne-ended_at_once end (asked op) (m.tables call.actor))
+}) call.actor (ended_at_once end (asked op) (m.pending call.actor)) (CountsOne-ended_at_once end (asked op) (m.pending call.actor) (m.tables call.actor))
 
 -- ---- any label
 
 pub counts_up : CountsUp
-counts_up m (labels.Began call op end) n inv is few = begun_counts m call op end n few
+counts_up m (labels.Began call op end details) n inv is few = begun_counts m call op end n few
 counts_up m (labels.Stepped call op verb k r reply end details) n inv is few =
     let s = is.state in
-    let held : m.in_hand s.call.actor ≡ Some s = ap (λ (c : CallId). m.in_hand c.actor) is.call_is ∙ is.in_hand in
+    let held : m.in_hand (who s) ≡ Some s = held_as m call op s is.in_hand is.call_is is.word in
     let behind = changed m s verb k r reply in
     let on = changed_counts m n inv.holds.rises inv.holds.up_to few s held verb k r reply in
     subst (λ o. Counts (step_of m o verb k r reply end) (n + 1)) (sym is.in_hand)
-    (Counts-in_hand behind _ (n + 1) on (λ a z x in_hand has. elim (put_actor-cases behind.in_hand s.call.actor (left end (kept_behind m s behind.cluster verb k r reply)) a z in_hand) [
+    (Counts-pending (left_in_hand behind (kept_behind m s behind.cluster verb k r reply) end) s.call.actor (ended_calls s end (behind.tables s.call.actor)) (n + 1) (Counts-in_hand behind _ (n + 1) on (λ a z x in_hand has. elim (put_who-cases behind.in_hand (who s) (left end (kept_behind m s behind.cluster verb k r reply)) a z in_hand) [
       | inl own ↦ (
           let same = left_is end (kept_behind m s behind.cluster verb k r reply) z own.1 in
-          let a = pulled_few m n few s.call.actor s held verb k r reply x (ap (λ (z : CallState). z.snapshot) same ∙ has) in
+          let a = pulled_few m n few (who s) s held verb k r reply x (ap (λ (z : CallState). z.snapshot) same ∙ has) in
           omega (arith, a))
       | inr other ↦ on.copies a z x other.1 has
-    ]))
-counts_up m (labels.Word who word said) n inv is few = more m n few
+    ])))
+counts_up m (labels.Word by word said) n inv is few = more m n few
 counts_up m (labels.Nodes nodes) n inv is few = let c = more m n few in record { next = c.next; last_handles = c.last_handles; last_iterations = c.last_iterations; effects = c.effects; snapshots = c.snapshots; copies = c.copies; identity = c.identity; generations = c.generations; references = c.references }
 counts_up m (labels.Moved t) n inv is few = on_record m n few (moved t m.cluster) (record { rises = IdentitiesRise-filter (stays t) m.cluster.entries inv.holds.rises; last = omega arith; few = λ n few k e c found. let a = Few-filter n (stays t) m.cluster.entries inv.holds.rises few k e c found in omega (arith, a); low = λ n low k e found. let a = Low-filter n (stays t) m.cluster.entries inv.holds.rises low k e found in omega (arith, a) })
 counts_up m (labels.Shown k replicas) n inv is few = more m n few

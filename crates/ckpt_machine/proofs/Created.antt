@@ -1,5 +1,5 @@
 -- A checkpoint is created: one entry more, in the making by a call that made nothing before; what holds of every other call and of every other checkpoint stays.
-use Rattle.std.proofs.Common.{◌≡◌, ℕ, ◌+◌, ◌≤◌, inl, inr, List, Option, Some, None, Bool, true, false, cond, ◌==◌, refl, sym, ap, subst, ◌∙◌, arith}
+use Rattle.std.proofs.Common.{◌≡◌, ℕ, ◌+◌, ◌<◌, ◌≤◌, length, inl, inr, List, Option, Some, None, Bool, true, false, cond, ◌==◌, refl, sym, ap, subst, ◌∙◌, arith}
 use Rattle.std.specs.Prelude.{is_some, IsSome, IsSomeAnd, IfSome, slice_index}
 use Rattle.std.proofs.lemmas.Bool.{eqb-true, eq-eqb}
 use Rattle.std.proofs.lemmas.List.{length-replicate}
@@ -10,7 +10,14 @@ use Rattle.ckpt_types.specs.Attributes.{is_malformed}
 use Rattle.cluster_record.specs.declared.calls.Making.{Making}
 use Rattle.cluster_record.specs.declared.entries.Entry.{Entry}
 use Rattle.cluster_record.specs.DueOpen.{OpenState}
-use Rattle.cluster_record.specs.Calls.{put_actor}
+use Rattle.cluster_record.specs.Calls.{IsClient, client_of}
+use Rattle.cluster_record.specs.Makings.{makings_of}
+use Rattle.cluster_record.proofs.MakingCounts.{is_call_of-own, is_call_of-other, makings_of-created_own, makings_of-created_other}
+use Rattle.ckpt_types.specs.declared.identities.ActorName.TheVariants.{Client}
+use Rattle.ckpt_types.specs.Limits.{handles_max}
+use Rattle.ckpt_types.specs.OpWord.{word_of_op, stepped_as}
+use Rattle.ckpt_machine.proofs.CallsKept.{same_call-Some, calls_left}
+use Rattle.ckpt_machine.proofs.EndedTables.{client_by_number}
 use Rattle.cluster_record.specs.RecordState.{RecordState, entry_of, identity_of, complete_of, new_entry, created_as}
 use Rattle.cluster_record.proofs.IdentityLaws.{entry_of-beyond, AllUpTo-push, IdentitiesRise-push}
 use Rattle.ckpt_types.specs.Asks.{asked}
@@ -18,7 +25,7 @@ use Rattle.ckpt_machine.specs.Drivers as drivers
 use Rattle.ckpt_machine.specs.Entries.{WasMade}
 use Rattle.ckpt_machine.specs.InHand.{attributes_asked, IsMakingIn, IsInHand}
 use Rattle.ckpt_machine.specs.Invariant.{IsMaker, IsGoodIn, IsOfGeneration, InvariantIn}
-use Rattle.ckpt_machine.specs.Machine.{Machine, CallState}
+use Rattle.ckpt_machine.specs.Machine.{Machine, CallState, who}
 use Rattle.ckpt_machine.specs.Steps.{driver_of, with_record, replica_under, reservation_under, opened_state}
 use Rattle.ckpt_machine.specs.Shape.{Shape, IsCompleteOn}
 use Rattle.ckpt_machine.proofs.NodeLists.{slice_index-replicate}
@@ -26,13 +33,14 @@ use Rattle.ckpt_machine.proofs.EntryLists.{entry_of-given, find_key-push, AllSta
 use Rattle.ckpt_machine.proofs.Handles.{IsGoodHandle-later}
 use Rattle.ckpt_machine.proofs.OtherCalls.{LooksAlike, LooksLater-refl, making_still, IsInHand-alike, IsGoodIn-alike}
 use Rattle.ckpt_machine.proofs.OptionLemmas.{IsSomeAnd-at, IsSomeAnd-from}
-use Rattle.ckpt_machine.proofs.ReplicaSteps.{put_actor-cases, put_actor-here, put_actor-other}
 use Rattle.ckpt_machine.proofs.OnComplete.{under_complete}
 use Rattle.ckpt_machine.proofs.ReservedUnder.{was_reserved}
+use Rattle.ckpt_machine.specs.Whose.{put_who}
+use Rattle.ckpt_machine.proofs.Whose.{put_who-cases, put_who-other, put_who-here}
 use Rattle.ckpt_machine.proofs.PlainCalls.{is_plain, owner_apart, marker_apart, holder_apart, maker_apart}
 
-module _ (m : Machine) (shapes : ℕ → Shape) (inv : InvariantIn shapes m) (s : CallState) (held : m.in_hand s.call.actor ≡ Some s) (plain : is_plain (driver_of s) s.snapshot ≡ true) (name : List ℕ) (a : CreationAttributes) (good : is_malformed a ≡ false)
-    (w : CallState) (call_is : w.call ≡ s.call) (v : OpenState) (driver_is : driver_of w ≡ drivers.Open v) (making : Making) (makes : v.making ≡ Some making) (ckpt : making.ckpt ≡ m.cluster.last_identity + 1) where
+module _ (m : Machine) (shapes : ℕ → Shape) (inv : InvariantIn shapes m) (s : CallState) (held : m.in_hand (who s) ≡ Some s) (plain : is_plain (driver_of s) s.snapshot ≡ true) (name : List ℕ) (a : CreationAttributes) (good : is_malformed a ≡ false)
+    (w : CallState) (call_is : w.call ≡ s.call) (op_is : w.op ≡ s.op) (client : IsClient s.call.actor) (room : length (m.tables s.call.actor).handles + makings_of (client_of s.call) m.cluster.entries < handles_max) (v : OpenState) (driver_is : driver_of w ≡ drivers.Open v) (making : Making) (makes : v.making ≡ Some making) (ckpt : making.ckpt ≡ m.cluster.last_identity + 1) where
   -- the next identity
   abbrev next : ℕ
   next = m.cluster.last_identity + 1
@@ -47,7 +55,7 @@ module _ (m : Machine) (shapes : ℕ → Shape) (inv : InvariantIn shapes m) (s 
 
   -- the state with this left of the call
   abbrev then_machine : Machine
-  then_machine = record (with_record m R) { in_hand = put_actor m.in_hand s.call.actor (Some w) }
+  then_machine = record (with_record m R) { in_hand = put_who m.in_hand (who s) (Some w) }
 
   -- ---- entries
 
@@ -90,7 +98,7 @@ module _ (m : Machine) (shapes : ℕ → Shape) (inv : InvariantIn shapes m) (s 
 
   -- the call is the maker of the new one
   maker_new : IsMaker then_machine next s.call
-  maker_new = record { state = w; in_hand = put_actor-here m.in_hand s.call.actor (Some w); call_is = call_is; driver = v; driver_is = driver_is; making = making; making_is = makes; ckpt = ckpt }
+  maker_new = record { state = w; in_hand = ap (put_who m.in_hand (who s) (Some w)) (λ i. stepped_as (call_is i) (word_of_op (op_is i))) ∙ put_who-here m.in_hand (who s) (Some w); call_is = call_is; driver = v; driver_is = driver_is; making = making; making_is = makes; ckpt = ckpt }
 
   -- a replica on a complete node stays
   replica_other : (j r : ℕ) (e : Entry) → entry_of j m.cluster.entries ≡ Some e → IsCompleteOn e r → then_machine.replicas j r ≡ m.replicas j r
@@ -102,7 +110,8 @@ module _ (m : Machine) (shapes : ℕ → Shape) (inv : InvariantIn shapes m) (s 
   -- a checkpoint that was there is as it was
   IsGoodIn-then : (j : ℕ) (sh : Shape) (e : Entry) (maker : Option CallId) → entry_of j m.cluster.entries ≡ Some e → IsGoodIn m j sh e maker → IsGoodIn then_machine j sh e maker
   IsGoodIn-then j sh e maker found was = IsGoodIn-alike m then_machine j sh e (λ r there. replica_other j r e found there)
-      (λ d own. put_actor-other m.in_hand s.call.actor (Some w) d.actor (owner_apart m shapes inv s held plain j sh d own)) (λ marks own. put_actor-other m.in_hand s.call.actor (Some w) marks.call.actor (marker_apart m shapes inv s held plain j marks own)) (λ active d own. put_actor-other m.in_hand s.call.actor (Some w) d.actor (holder_apart m shapes inv s held plain j active d own)) (λ d own. put_actor-other m.in_hand s.call.actor (Some w) d.actor (maker_apart m shapes inv s held plain j d own)) maker was
+      (λ d own. put_who-other m.in_hand (who s) (Some w) (who own.state) (owner_apart m shapes inv s held plain j sh d own)) (λ marks own. put_who-other m.in_hand (who s) (Some w) (who own.state) (marker_apart m shapes inv s held plain j marks own))
+      (λ active d own. put_who-other m.in_hand (who s) (Some w) (who own.state) (holder_apart m shapes inv s held plain j active d own)) (λ d own. put_who-other m.in_hand (who s) (Some w) (who own.state) (maker_apart m shapes inv s held plain j d own)) maker was
 
   -- the new one is as it was created
   good_new : (sh : Shape) → IsGoodIn then_machine next sh new (Some s.call)
@@ -137,7 +146,7 @@ module _ (m : Machine) (shapes : ℕ → Shape) (inv : InvariantIn shapes m) (s 
     looks_then = record {
       up = λ r up. up;
       lives = refl;
-      tables = refl;
+      handle = λ there. there;
       making = λ x at. making_still m then_machine z x making_then at;
       made = WasMade-then;
       later = λ j was e found. (e, sym (entry_other j (given_apart j was.given)) ∙ found, LooksLater-refl z (shapes j).marks e);
@@ -154,8 +163,23 @@ module _ (m : Machine) (shapes : ℕ → Shape) (inv : InvariantIn shapes m) (s 
       let new_is : new ≡ f = same_Some new f (sym entry_new ∙ ap (λ n. entry_of n R.entries) (sym (eqb-true j next same)) ∙ found) in
       ap (λ (x : Entry). is_some x.making) (sym new_is)
 
+  -- its client has room for a handle of it, and other clients make what they made
+  places_then : (d : ℕ) → length (m.tables (Client d)).handles + makings_of d R.entries ≤ handles_max
+  places_then d =
+      let few : length (m.tables (Client d)).handles + makings_of d m.cluster.entries ≤ handles_max = inv.places d in
+      by_client d few (d == client_of s.call) refl
+    where
+      by_client : (d : ℕ) → length (m.tables (Client d)).handles + makings_of d m.cluster.entries ≤ handles_max → (b : Bool) → (d == client_of s.call) ≡ b → length (m.tables (Client d)).handles + makings_of d R.entries ≤ handles_max
+      by_client d few true same = subst (λ n. length (m.tables (Client n)).handles + makings_of n R.entries ≤ handles_max) (sym (eqb-true d (client_of s.call) same))
+          (let own : makings_of (client_of s.call) R.entries ≡ makings_of (client_of s.call) m.cluster.entries + 1 = makings_of-created_own (client_of s.call) s.call name m.cluster (Some a) refl (is_call_of-own s.call client) in
+          let there : length (m.tables (Client (client_of s.call))).handles + makings_of (client_of s.call) m.cluster.entries < handles_max = subst (λ b. length (m.tables b).handles + makings_of (client_of s.call) m.cluster.entries < handles_max) (client_by_number s.call.actor client) room in
+          omega (arith, own, there))
+      by_client d few false other =
+          let apart : makings_of d R.entries ≡ makings_of d m.cluster.entries = makings_of-created_other d s.call name m.cluster (Some a) (is_call_of-other s.call d (λ same. (let w : true ≡ false = sym (eq-eqb d (client_of s.call) (sym same)) ∙ other in cc w))) in
+          omega (arith, few, apart)
+
   -- the invariant holds after it, where it holds of the call
-  pub created_keeps : IsInHand then_machine shapes s.call.actor w → InvariantIn shapes then_machine
+  pub created_keeps : IsInHand then_machine shapes (who s) w → InvariantIn shapes then_machine
   created_keeps own = record {
     up = inv.up;
     none_live = inv.none_live;
@@ -168,10 +192,12 @@ module _ (m : Machine) (shapes : ℕ → Shape) (inv : InvariantIn shapes m) (s 
     handles = λ b h among. IsGoodHandle-later m.cluster R WasMade-then (λ j was e found. (e, sym (entry_other j (given_apart j was.given)) ∙ found, refl, λ r there. there)) b h refl (inv.handles b h among);
     rest = inv.rest;
     clients = inv.clients;
-    hands = λ b z there. elim (put_actor-cases m.in_hand s.call.actor (Some w) b z there) [
-      | inl here ↦ subst (λ c. IsInHand then_machine shapes c z) (sym here.0) (subst (IsInHand then_machine shapes s.call.actor) (same_Some w z here.1) own)
+    places = places_then;
+    hands = λ b z there. elim (put_who-cases m.in_hand (who s) (Some w) b z there) [
+      | inl here ↦ subst (λ c. IsInHand then_machine shapes c z) (sym here.0) (subst (IsInHand then_machine shapes (who s)) (same_Some w z here.1) own)
       | inr other ↦ (let was = inv.hands b z other.1 in IsInHand-alike m then_machine shapes shapes z (looks_then z) b (λ live. live) was.number was)
     ];
+    calls = calls_left m.in_hand m.pending m.next inv.calls s held (Some w) (same_call-Some s w call_is op_is);
   }
     where
       by_test : (j : ℕ) (e : Entry) → entry_of j R.entries ≡ Some e → (b : Bool) → (j == next) ≡ b → IsGoodIn then_machine j (shapes j) e e.making

@@ -1,17 +1,17 @@
 -- What is to be shown of a due step.
-use Rattle.std.proofs.Common.{◌≡◌, ◌<◌, Some, None}
+use Rattle.std.proofs.Common.{◌≡◌, ◌<◌, None}
 use Rattle.ckpt_machine.specs.Drivers.{Driver}
 use Rattle.cluster_record.specs.StepDone.{done_of, counting}
 use Rattle.ckpt_machine.specs.Driving.{driver_taken}
 use Rattle.ckpt_machine.specs.Machine.{Machine, CallState}
-use Rattle.ckpt_machine.specs.Steps.{Told, counted_at, step_of}
+use Rattle.ckpt_machine.specs.Steps.{Told, counted_at, changed, kept_behind, left_in_hand}
 use Rattle.ckpt_machine.specs.Guards.{Row}
 use Rattle.ckpt_machine.specs.Left.{steps_left}
 use Rattle.ckpt_machine.specs.Invariant.{Invariant}
 
--- the state after a step of a call
+-- the state after a step of a call, before its client is told of the end of an asynchronous one
 abbrev pub after_step : Machine → CallState → Told → Machine
-after_step m s t = step_of m (Some s) t.verb t.ckpt t.node t.reply t.end
+after_step m s t = let behind = changed m s t.verb t.ckpt t.node t.reply in left_in_hand behind (kept_behind m s behind.cluster t.verb t.ckpt t.node t.reply) t.end
 
 -- a due step of the call is allowed, and the invariant holds after it
 pub record Moves (m : Machine) (s : CallState) (t : Told) : Type 0 where

@@ -4,8 +4,8 @@ use Rattle.std.specs.Option.{option_map}
 use Rattle.std.specs.Prelude.{IsSome, IsSomeAnd, IfSome, slice_index}
 use Rattle.std.proofs.lemmas.List.{append-nil}
 use Rattle.std.proofs.lemmas.Option.{same_Some}
+use Rattle.ckpt_machine.proofs.Dropped.{held_as}
 use Rattle.ckpt_types.specs.declared.answers.Outcome.{Outcome}
-use Rattle.ckpt_types.specs.declared.identities.ActorName.{ActorName}
 use Rattle.ckpt_types.specs.declared.identities.CallId.{CallId}
 use Rattle.ckpt_types.specs.declared.operation.Op.{Op}
 use Rattle.ckpt_types.specs.declared.update.Update.{Update}
@@ -19,7 +19,7 @@ use Rattle.node_msgs.specs.declared.steps.StepReply.TheVariants as words
 use Rattle.run_labels.specs.declared.labels.Label.{Label}
 use Rattle.run_labels.specs.declared.labels.Label.TheVariants as labels
 use Rattle.cluster_record.specs.declared.entries.Entry.{Entry}
-use Rattle.cluster_record.specs.Calls.{client_of, put_actor, left}
+use Rattle.cluster_record.specs.Calls.{client_of, left}
 use Rattle.cluster_record.specs.Makings.{making_of}
 use Rattle.cluster_record.specs.Places.{change_key, put, put2}
 use Rattle.cluster_record.specs.RecordState.{RecordState, entry_of, identity_of, complete_of, stays, swept, moved, entered, finished, home_of, opened_with, unreferred, unnamed, departed, undone, with_hold, hold_set, active_set}
@@ -29,7 +29,7 @@ use Rattle.ckpt_machine.specs.BeginRows.{has_bad_arguments}
 use Rattle.ckpt_machine.specs.Driving.{Kept}
 use Rattle.ckpt_machine.specs.Guards.{CommitOk, ApplyOk, MarkOk, AreMarksOf, PullOk, HoldOk, OnAll, OnActive, IsOnOwn, Row, Allowed}
 use Rattle.ckpt_machine.specs.Invariant.{Invariant}
-use Rattle.ckpt_machine.specs.Machine.{Machine, Effect, Applied, ReplicaState, Snapshot, CallState, empty_cluster}
+use Rattle.ckpt_machine.specs.Machine.{Machine, Effect, Applied, ReplicaState, Snapshot, CallState, empty_cluster, who}
 use Rattle.ckpt_machine.specs.Options.{is_all, is_weak, is_by_element}
 use Rattle.ckpt_machine.specs.Propagation.{copied, replica_from}
 use Rattle.ckpt_machine.specs.Replays.{IsPrefix}
@@ -38,33 +38,39 @@ use Rattle.ckpt_machine.specs.Shape.{IsCompleteOn, IsApart, IsShapedBy}
 use Rattle.ckpt_machine.specs.Steps.{Told, IsDone, IsDue, due, with_record, record_step, created_for, retained_for, change_replica, having_taken, committed_slot, with_committed, with_applied, with_slot, with_marks, next_element_written, with_next_element, marks_ended, without_marks, with_lead, changed, on_ok, on_look, without_making, at_some, replica_under, snapshot_under, opened_state, pulled_by, kept_behind, step_of, call_begun, after_beginning, staged_moment, after}
 use Rattle.ckpt_machine.proofs.Activating.{Leads, leader, with_leader, made_where_complete, led_by, led_goes, found_led, led_made, led_entry, leader-cases, after_activate}
 use Rattle.ckpt_machine.proofs.ActiveNode.{active_complete}
+use Rattle.ckpt_machine.specs.Acknowledged.{HasBegun}
+use Rattle.ckpt_machine.proofs.BegunBefore.{AllBegan, all_began, begun_more}
 use Rattle.ckpt_machine.proofs.Copying.{IsSource, IsOfSource, IsPulledFrom, IsPutOn, TakesOver, not_active, after_pull, after_put_over, put-cases, put2-cases}
 use Rattle.ckpt_machine.proofs.Entries.{ComesOf-filter}
-use Rattle.ckpt_machine.proofs.EntryLists.{entry_of-given}
+use Rattle.ckpt_machine.proofs.EntryLists.{entry_of-given, find_key-key}
 use Rattle.ckpt_machine.proofs.Follows.{under, snapshot_was, element_effects}
 use Rattle.ckpt_machine.proofs.GoodArguments.{HaveGoodArguments, good_arguments}
 use Rattle.ckpt_machine.proofs.Generations.{generation_there}
 use Rattle.ckpt_machine.proofs.Histories.{HasHistory, shaped_there, on_replica-there, follows, run_history}
 use Rattle.ckpt_machine.proofs.Installed.{after_install}
 use Rattle.ckpt_machine.proofs.Joining.{collocated_apart, opened_with-identity}
-use Rattle.ckpt_machine.proofs.OneReplica.{StepsOn, DeclaresAll, IsActiveOf, CanBeMarked, IsMarkedFor, Grows, committed_generation, element_generation, committed_more, no_marks_at, grows_same}
+use Rattle.ckpt_machine.proofs.OneReplica.{StepsOn, DeclaresAll, IsActiveOf, CanBeMarked, IsMarkedFor, Grows, committed_generation, element_generation, committed_more, no_marks_at, grows_same, update_word}
 use Rattle.ckpt_machine.proofs.OptionLemmas.{IsSomeAnd-at, IsSomeAnd-from, IfSome-from, IfSome-at}
 use Rattle.ckpt_machine.proofs.OwnMaking.{making_there}
 use Rattle.ckpt_machine.proofs.Prefixes.{prefix_of_same, prefix_of_none, prefix_then}
 use Rattle.ckpt_machine.proofs.References.{released-identity}
-use Rattle.ckpt_machine.proofs.ReplicaSteps.{put_actor-cases}
 use Rattle.ckpt_machine.proofs.Runs.{last-push, IsRunFrom-front, IsRunFrom-back}
 use Rattle.ckpt_machine.proofs.Starting.{first_kept, begun_as}
 use Rattle.ckpt_machine.proofs.Sync.{left_is}
+use Rattle.ckpt_machine.specs.Whose.{put_who}
+use Rattle.ckpt_types.specs.declared.identities.Who.{Who}
+use Rattle.ckpt_types.specs.OpWord.{stepped_as, word_of_op}
+use Rattle.ckpt_machine.specs.Steps.{with_closed}
+use Rattle.ckpt_machine.proofs.Whose.{put_who-cases}
 use Rattle.ckpt_machine.proofs.StaysMade.{StaysMade, StaysMade-same, StaysMade-kept, GoesOnMade, StaysMade-goes, held_made, held-identity, released_made, opened_made, MadeOn, MadeOn-swept, changed_on, filter_on, departed_on, created_for_on, retained_for_on, finished_on}
 
 -- ---- snapshots in hands
 
 -- a call in hand, on this checkpoint, has pulled this snapshot
-pub record PulledInHand (hands : ActorName → Option CallState) (k : ℕ) (s : Snapshot) : Type 0 where
-  pub actor : ActorName
+pub record PulledInHand (hands : Who → Option CallState) (k : ℕ) (s : Snapshot) : Type 0 where
+  pub name : Who
   pub state : CallState
-  pub in_hand : hands actor ≡ Some state
+  pub in_hand : hands name ≡ Some state
   pub ckpt : state.kept.ckpt ≡ Some k
   pub snapshot : state.snapshot ≡ Some s
 
@@ -73,7 +79,7 @@ begun_empty : (end : Option Outcome) (call : CallId) (op : Op) (kept : Kept) (z 
 begun_empty end call op kept z s is pulled = let (d, driven, same) = begun_as end call op kept z is in let w : None ≡ Some s = ap (λ (z : CallState). z.snapshot) same ∙ pulled in cc w
 
 -- each replica of the checkpoint, and each snapshot of it, that is of this generation has only what this one has taken first
-pub record IsAhead (k g : ℕ) (replicas : ℕ → ℕ → Option ReplicaState) (snapshots : ℕ → Option Snapshot) (hands : ActorName → Option CallState) (y : ReplicaState) : Type 0 where
+pub record IsAhead (k g : ℕ) (replicas : ℕ → ℕ → Option ReplicaState) (snapshots : ℕ → Option Snapshot) (hands : Who → Option CallState) (y : ReplicaState) : Type 0 where
   pub replica : (q : ℕ) (x : ReplicaState) → replicas k q ≡ Some x → x.generation ≡ g → IsPrefix x.effects y.effects
   pub snapshot : (s : Snapshot) → snapshots k ≡ Some s → s.generation ≡ g → IsPrefix s.effects y.effects
   pub in_hand : (s : Snapshot) → PulledInHand hands k s → s.generation ≡ g → IsPrefix s.effects y.effects
@@ -82,7 +88,7 @@ pub record IsAhead (k g : ℕ) (replicas : ℕ → ℕ → Option ReplicaState) 
 
 module _ (Q : Option Entry → ℕ → ReplicaState → Type 0) (S : Entry → Snapshot → Type 0) where
   -- it holds of each replica and each snapshot; a snapshot is of a checkpoint that is made, and whose updates go to an active alone, but the checkpoint of one in a hand may be gone; and no replica and no snapshot of its generation is ahead of such an active
-  pub record EachIn (last : ℕ) (entries : List Entry) (replicas : ℕ → ℕ → Option ReplicaState) (snapshots : ℕ → Option Snapshot) (hands : ActorName → Option CallState) : Type 0 where
+  pub record EachIn (last : ℕ) (entries : List Entry) (replicas : ℕ → ℕ → Option ReplicaState) (snapshots : ℕ → Option Snapshot) (hands : Who → Option CallState) : Type 0 where
     pub replica : (k r : ℕ) (x : ReplicaState) → replicas k r ≡ Some x → Q (entry_of k entries) r x
     pub snapshot : (k : ℕ) (s : Snapshot) → snapshots k ≡ Some s → IsSomeAnd (entry_of k entries) (λ e. IsOfSource e s × S e s)
     pub in_hand : (k : ℕ) (s : Snapshot) → PulledInHand hands k s → (k ≤ last) × IfSome (entry_of k entries) (λ e. IsOfSource e s × S e s)
@@ -92,10 +98,13 @@ module _ (Q : Option Entry → ℕ → ReplicaState → Type 0) (S : Entry → S
   Each m = EachIn m.cluster.last_identity m.cluster.entries m.replicas m.snapshots m.in_hand
 
   -- a call in hand may have this snapshot
-  record MayHave (n : Machine) (k : ℕ) (s : Snapshot) : Type 0 where
-    given : k ≤ n.cluster.last_identity
-    so : IfSome (entry_of k n.cluster.entries) (λ e. IsOfSource e s × S e s)
-    behind : (r : ℕ) (e : Entry) (y : ReplicaState) → entry_of k n.cluster.entries ≡ Some e → is_all e.attributes ≡ false → e.active ≡ Some r → n.replicas k r ≡ Some y → s.generation ≡ e.generation → IsPrefix s.effects y.effects
+  record MayHaveIn (last : ℕ) (entries : List Entry) (replicas : ℕ → ℕ → Option ReplicaState) (k : ℕ) (s : Snapshot) : Type 0 where
+    given : k ≤ last
+    so : IfSome (entry_of k entries) (λ e. IsOfSource e s × S e s)
+    behind : (r : ℕ) (e : Entry) (y : ReplicaState) → entry_of k entries ≡ Some e → is_all e.attributes ≡ false → e.active ≡ Some r → replicas k r ≡ Some y → s.generation ≡ e.generation → IsPrefix s.effects y.effects
+
+  abbrev MayHave : Machine → ℕ → Snapshot → Type 0
+  MayHave n k s = MayHaveIn n.cluster.last_identity n.cluster.entries n.replicas k s
 
   -- a call in hand may have what one has
   still_has : (n : Machine) → Each n → (k : ℕ) (s : Snapshot) → PulledInHand n.in_hand k s → MayHave n k s
@@ -106,7 +115,7 @@ module _ (Q : Option Entry → ℕ → ReplicaState → Type 0) (S : Entry → S
   }
 
   -- it holds with other calls in hand, which have what they may
-  hands_each : (n : Machine) → Each n → (hands : ActorName → Option CallState) → ((k : ℕ) (s : Snapshot) → PulledInHand hands k s → MayHave n k s) → Each (record n { in_hand = hands })
+  hands_each : (n : Machine) → Each n → (hands : Who → Option CallState) → ((k : ℕ) (s : Snapshot) → PulledInHand hands k s → MayHave n k s) → Each (record n { in_hand = hands })
   hands_each n each hands may = record {
     replica = each.replica;
     snapshot = each.snapshot;
@@ -117,19 +126,19 @@ module _ (Q : Option Entry → ℕ → ReplicaState → Type 0) (S : Entry → S
   }
 
   -- it holds of what a checkpoint's opening makes, whatever becomes of its entry, and where it holds it does behind a stage, a commit, an update in one step, and what is done for a weak write: its marks, each element and its end; and so it does of a snapshot of the active, of a replica that takes it, and of one that leads its checkpoint anew
-  pub record IsKept : Type 0 where
+  pub record IsKept (log : List Label) : Type 0 where
     pub opened : (e : Entry) (r : ℕ) → Q (Some e) r (opened_state e)
-    pub stays : (e f : Entry) (r : ℕ) (x : ReplicaState) → GoesOnMade e f → e.making ≡ None → Q (Some e) r x → Q (Some f) r x
-    pub stays_copied : (e f : Entry) (s : Snapshot) → GoesOnMade e f → IsSource e → S e s → S f s
-    pub led : (e f : Entry) (r : ℕ) (o : Option Snapshot) (x : ReplicaState) → GoesOnMade e f → e.making ≡ None → x.slot ≡ None → x.marks ≡ None → IfSome o (S e) → Q (Some e) r x → Q (Some f) r (with_lead o f.generation x)
+    pub stays : (e f : Entry) (r : ℕ) (x : ReplicaState) → f.identity ≡ e.identity → GoesOnMade e f → e.making ≡ None → Q (Some e) r x → Q (Some f) r x
+    pub stays_copied : (e f : Entry) (s : Snapshot) → f.identity ≡ e.identity → GoesOnMade e f → IsSource e → S e s → S f s
+    pub led : (e f : Entry) (r : ℕ) (o : Option Snapshot) (x : ReplicaState) → f.identity ≡ e.identity → GoesOnMade e f → e.making ≡ None → x.slot ≡ None → x.marks ≡ None → IfSome o (S e) → Q (Some e) r x → Q (Some f) r (with_lead o f.generation x)
     pub pulled : (e : Entry) (r : ℕ) (x : ReplicaState) → IsSource e → e.active ≡ Some r → x.marks ≡ None → Q (Some e) r x → S e (copied x)
     pub put : (e : Entry) (r : ℕ) (s : Snapshot) (x : ReplicaState) → s.generation ≡ e.generation → x.slot ≡ None → x.marks ≡ None → S e s → Q (Some e) r x → Q (Some e) r (replica_from s x)
-    pub staged : (m : Machine) (s : CallState) (k r : ℕ) (x : ReplicaState) → StepsOn m s verbs.Stage k r x → Q (entry_of k m.cluster.entries) r x → Q (entry_of k m.cluster.entries) r (with_slot s.call (update_of s.op) (staged_moment m k) x)
-    pub committed : (m : Machine) (s : CallState) (k r : ℕ) (x : ReplicaState) (e : Entry) → StepsOn m s verbs.Commit k r x → DeclaresAll m k e → Q (Some e) r x → Q (Some e) r (committed_slot e.attributes x x.slot)
-    pub applied : (m : Machine) (s : CallState) (k r : ℕ) (x : ReplicaState) (e : Entry) → StepsOn m s verbs.Apply k r x → IsActiveOf m k r e → x.marks ≡ None → Q (Some e) r x → Q (Some e) r (having_taken e.attributes s.call (update_of s.op) m.cluster.moment x)
-    pub marked : (m : Machine) (s : CallState) (k r : ℕ) (x : ReplicaState) (e : Entry) → StepsOn m s verbs.Mark k r x → IsActiveOf m k r e → CanBeMarked e (update_of s.op) m.cluster.moment x → Q (Some e) r x → Q (Some e) r (with_marks s.call (update_of s.op) m.cluster.moment x)
-    pub element : (m : Machine) (s : CallState) (k r : ℕ) (x : ReplicaState) (e : Entry) (marks : Marked) → StepsOn m s verbs.Element k r x → IsActiveOf m k r e → IsMarkedFor s.call (update_of s.op) true x marks → Q (Some e) r x → Q (Some e) r (next_element_written e.attributes x (Some marks))
-    pub unmarked : (m : Machine) (s : CallState) (k r : ℕ) (x : ReplicaState) (e : Entry) (marks : Marked) → StepsOn m s verbs.Unmark k r x → IsActiveOf m k r e → IsMarkedFor s.call (update_of s.op) false x marks → Q (Some e) r x → Q (Some e) r (marks_ended x (Some marks))
+    pub staged : (m : Machine) (s : CallState) (k r : ℕ) (x : ReplicaState) → StepsOn log m s verbs.Stage k r x → Q (entry_of k m.cluster.entries) r x → Q (entry_of k m.cluster.entries) r (with_slot s.call (update_of s.op) (staged_moment m k) x)
+    pub committed : (m : Machine) (s : CallState) (k r : ℕ) (x : ReplicaState) (e : Entry) → StepsOn log m s verbs.Commit k r x → DeclaresAll m k e → Q (Some e) r x → Q (Some e) r (committed_slot e.attributes x x.slot)
+    pub applied : (m : Machine) (s : CallState) (k r : ℕ) (x : ReplicaState) (e : Entry) → StepsOn log m s verbs.Apply k r x → IsActiveOf m k r e → x.marks ≡ None → Q (Some e) r x → Q (Some e) r (having_taken e.attributes s.call (update_of s.op) m.cluster.moment x)
+    pub marked : (m : Machine) (s : CallState) (k r : ℕ) (x : ReplicaState) (e : Entry) → StepsOn log m s verbs.Mark k r x → IsActiveOf m k r e → CanBeMarked e (update_of s.op) m.cluster.moment x → Q (Some e) r x → Q (Some e) r (with_marks s.call (update_of s.op) m.cluster.moment x)
+    pub element : (m : Machine) (s : CallState) (k r : ℕ) (x : ReplicaState) (e : Entry) (marks : Marked) → StepsOn log m s verbs.Element k r x → IsActiveOf m k r e → IsMarkedFor s.call (update_of s.op) true x marks → Q (Some e) r x → Q (Some e) r (next_element_written e.attributes x (Some marks))
+    pub unmarked : (m : Machine) (s : CallState) (k r : ℕ) (x : ReplicaState) (e : Entry) (marks : Marked) → StepsOn log m s verbs.Unmark k r x → IsActiveOf m k r e → IsMarkedFor s.call (update_of s.op) false x marks → Q (Some e) r x → Q (Some e) r (marks_ended x (Some marks))
 
   -- a checkpoint of which snapshots are taken stays so, and its generation does not fall
   IsOfSource-goes : (e f : Entry) (s : Snapshot) → GoesOnMade e f → IsOfSource e s → IsOfSource f s
@@ -145,7 +154,11 @@ module _ (Q : Option Entry → ℕ → ReplicaState → Type 0) (S : Entry → S
     | false ↦ λ some. subst (λ b. cond b (Some (opened_state e)) old ≡ Some y) complete some
   ] is
 
-  module _ (kept : IsKept) (m : Machine) (inv : Invariant m) (history : HasHistory m) (arguments : HaveGoodArguments m) (each : Each m) where
+  module _ (log : List Label) (kept : IsKept log) (m : Machine) (began : AllBegan log m) (inv : Invariant m) (history : HasHistory m) (arguments : HaveGoodArguments m) (each : Each m) where
+    -- it holds after a step, of what was in hand before it
+    abbrev EachHeld : Machine → Type 0
+    EachHeld n = EachIn n.cluster.last_identity n.cluster.entries n.replicas n.snapshots m.in_hand
+
     -- a checkpoint that has a replica is made
     made_where_complete_at : (k r : ℕ) (x : ReplicaState) (e : Entry) → entry_of k m.cluster.entries ≡ Some e → m.replicas k r ≡ Some x → e.making ≡ None
     made_where_complete_at k r x e found there =
@@ -157,6 +170,10 @@ module _ (Q : Option Entry → ℕ → ReplicaState → Type 0) (S : Entry → S
     entry_there k r x was =
         let (e, there, complete) = IsSomeAnd-at (entry_of k m.cluster.entries) (λ e. IsCompleteOn e r) (history.bare.complete k r x was) in
         (e, there, made_where_complete m inv k r e there complete)
+
+    -- a checkpoint that is there still has its identity
+    same_identity : (R : RecordState) (k : ℕ) (e f : Entry) → entry_of k m.cluster.entries ≡ Some e → entry_of k R.entries ≡ Some f → f.identity ≡ e.identity
+    same_identity R k e f there found = find_key-key identity_of k R.entries f found ∙ sym (find_key-key identity_of k m.cluster.entries e there)
 
     -- the entry of a background snapshot that is there
     copied_there : (k : ℕ) (s : Snapshot) → m.snapshots k ≡ Some s → (e : Entry) × (entry_of k m.cluster.entries ≡ Some e) × (IsOfSource e s × S e s)
@@ -174,7 +191,7 @@ module _ (Q : Option Entry → ℕ → ReplicaState → Type 0) (S : Entry → S
       stayed : (k r : ℕ) (x : ReplicaState) (f : Entry) → entry_of k R.entries ≡ Some f → m.replicas k r ≡ Some x → Q (Some f) r x
       stayed k r x f found was =
           let (e, there, made) = entry_there k r x was in
-          kept.stays e f r x (goes_on k e f there found) made (subst (λ o. Q o r x) there (each.replica k r x was))
+          kept.stays e f r x (same_identity R k e f there found) (goes_on k e f there found) made (subst (λ o. Q o r x) there (each.replica k r x was))
 
       -- a background snapshot
       snapshot_goes : (k : ℕ) (s : Snapshot) → snapshot_under (entry_of k R.entries) (m.snapshots k) ≡ Some s → IsSomeAnd (entry_of k R.entries) (λ e. IsOfSource e s × S e s)
@@ -182,14 +199,14 @@ module _ (Q : Option Entry → ℕ → ReplicaState → Type 0) (S : Entry → S
           let (f, found, was) = IsSomeAnd-at (entry_of k R.entries) (λ e. m.snapshots k ≡ Some s) (snapshot_was (entry_of k R.entries) (m.snapshots k) s is) in
           let (e, there, is_so) = copied_there k s was in
           let goes = goes_on k e f there found in
-          IsSomeAnd-from (entry_of k R.entries) (λ e. IsOfSource e s × S e s) f found (IsOfSource-goes e f s goes is_so.0, kept.stays_copied e f s goes is_so.0.source is_so.1)
+          IsSomeAnd-from (entry_of k R.entries) (λ e. IsOfSource e s × S e s) f found (IsOfSource-goes e f s goes is_so.0, kept.stays_copied e f s (same_identity R k e f there found) goes is_so.0.source is_so.1)
 
       -- a snapshot of which the checkpoint was given, and that was so where it was there, is so where it is there still
       copy_goes : (k : ℕ) (s : Snapshot) → k ≤ m.cluster.last_identity → IfSome (entry_of k m.cluster.entries) (λ e. IsOfSource e s × S e s) → IfSome (entry_of k R.entries) (λ e. IsOfSource e s × S e s)
       copy_goes k s given so = IfSome-from (entry_of k R.entries) (λ e. IsOfSource e s × S e s) (λ f found. (
           let (e, there, goes) = comes k given f found in
           let is_so = IfSome-at (entry_of k m.cluster.entries) (λ e. IsOfSource e s × S e s) so e there in
-          (IsOfSource-goes e f s goes is_so.0, kept.stays_copied e f s goes is_so.0.source is_so.1)))
+          (IsOfSource-goes e f s goes is_so.0, kept.stays_copied e f s (same_identity R k e f there found) goes is_so.0.source is_so.1)))
 
       -- as one in a hand is
       hand_goes : (k : ℕ) (s : Snapshot) → PulledInHand m.in_hand k s → (k ≤ R.last_identity) × IfSome (entry_of k R.entries) (λ e. IsOfSource e s × S e s)
@@ -256,7 +273,7 @@ module _ (Q : Option Entry → ℕ → ReplicaState → Type 0) (S : Entry → S
     undone_each : (j : ℕ) → Each (record_step (undone j) m)
     undone_each j = step_each (undone j) (λ k given. filter_on k m.cluster given inv.holds.rises inv.holds.up_to (λ e. not (e.identity == j)))
 
-    making_each : (j : Option ℕ) → Each (without_making j m)
+    making_each : (j : Option ℕ) → EachHeld (without_making j m)
     making_each None = each
     making_each (Some j) = undone_each j
 
@@ -266,7 +283,7 @@ module _ (Q : Option Entry → ℕ → ReplicaState → Type 0) (S : Entry → S
       grows : Grows m k r x y
 
     -- one replica changed
-    replica_each : (k r : ℕ) (o : Option ReplicaState) → m.replicas k r ≡ o → (change : ReplicaState → ReplicaState) → ((x : ReplicaState) → m.replicas k r ≡ Some x → BecomesThere k r x (change x)) → Each (change_replica m k r o change)
+    replica_each : (k r : ℕ) (o : Option ReplicaState) → m.replicas k r ≡ o → (change : ReplicaState → ReplicaState) → ((x : ReplicaState) → m.replicas k r ≡ Some x → BecomesThere k r x (change x)) → EachHeld (change_replica m k r o change)
     replica_each k r None there change becomes = each
     replica_each k r (Some x) there change becomes = record {
       replica = λ j q z is. elim (put2-cases m.replicas k r (change x) j q z is) [
@@ -420,14 +437,14 @@ module _ (Q : Option Entry → ℕ → ReplicaState → Type 0) (S : Entry → S
         -- what is in the hand of the call is so
         copied_so : IfSome s.snapshot (S lead.entry)
         copied_so = IfSome-from s.snapshot (S lead.entry) (λ z is. (
-            let has : PulledInHand m.in_hand k z = record { actor = s.call.actor; state = s; in_hand = lead.held; ckpt = lead.ckpt; snapshot = is } in
+            let has : PulledInHand m.in_hand k z = record { name = (who s); state = s; in_hand = lead.held; ckpt = lead.ckpt; snapshot = is } in
             (IfSome-at (entry_of k m.cluster.entries) (λ e. IsOfSource e z × S e z) (each.in_hand k z has).1 lead.entry lead.found).1))
 
         -- the replica that leads
         own : Q (entry_of k n.cluster.entries) r (leader m s k r lead)
         own =
             let apart = put_apart k r lead.replica (record { entry = lead.entry; found = lead.found; alone = collocated_apart lead.entry.attributes lead.collocated; other = lead.other; there = lead.there }) in
-            subst (λ o. Q o r (leader m s k r lead)) (sym lead.set) (kept.led lead.entry (led_by r lead.entry) r s.snapshot lead.replica (led_goes r lead.entry) lead.made apart.free apart.marks_are copied_so (subst (λ o. Q o r lead.replica) lead.found (each.replica k r lead.replica lead.there)))
+            subst (λ o. Q o r (leader m s k r lead)) (sym lead.set) (kept.led lead.entry (led_by r lead.entry) r s.snapshot lead.replica (same_identity n.cluster k lead.entry (led_by r lead.entry) lead.found lead.set) (led_goes r lead.entry) lead.made apart.free apart.marks_are copied_so (subst (λ o. Q o r lead.replica) lead.found (each.replica k r lead.replica lead.there)))
 
         replica : (j q : ℕ) (z : ReplicaState) → n.replicas j q ≡ Some z → Q (entry_of j n.cluster.entries) q z
         replica j q z is = elim (leader-cases m inv s k r lead j q z is) [
@@ -476,20 +493,20 @@ module _ (Q : Option Entry → ℕ → ReplicaState → Type 0) (S : Entry → S
         ]
 
     -- what is done on OK alone, and at a checkpoint and a node that are named
-    ok_each : (reply : StepReply) (n : Machine) → Each n → Each (on_ok reply m n)
+    ok_each : (reply : StepReply) (n : Machine) → EachHeld n → EachHeld (on_ok reply m n)
     ok_each words.Ok n then = then
     ok_each reply n then = each
 
-    look_each : (reply : StepReply) (done refused : Machine) → Each done → Each refused → Each (on_look reply m done refused)
+    look_each : (reply : StepReply) (done refused : Machine) → EachHeld done → EachHeld refused → EachHeld (on_look reply m done refused)
     look_each words.Done done refused after_done after_refused = after_done
     look_each words.Refused done refused after_done after_refused = after_refused
     look_each reply done refused after_done after_refused = each
 
-    one_each : (j : Option ℕ) (change : ℕ → Machine) → ((j : ℕ) → Each (change j)) → Each (at_some j m change)
+    one_each : (j : Option ℕ) (change : ℕ → Machine) → ((j : ℕ) → EachHeld (change j)) → EachHeld (at_some j m change)
     one_each None change then = each
     one_each (Some j) change then = then j
 
-    both_each : (j q : Option ℕ) (change : ℕ → ℕ → Machine) → ((j q : ℕ) → Each (change j q)) → Each (at_some j m (λ j. at_some q m (change j)))
+    both_each : (j q : Option ℕ) (change : ℕ → ℕ → Machine) → ((j q : ℕ) → EachHeld (change j q)) → EachHeld (at_some j m (λ j. at_some q m (change j)))
     both_each j q change then = one_each j _ (λ j. one_each q (change j) (then j))
 
     -- one entry changed, that stays made
@@ -510,23 +527,23 @@ module _ (Q : Option Entry → ℕ → ReplicaState → Type 0) (S : Entry → S
     Needs s verbs.Mark k r reply = Becomes k r reply (λ k. with_marks s.call (update_of s.op) m.cluster.moment)
     Needs s verbs.Element k r reply = Becomes k r reply (λ k. with_next_element (entry_of k m.cluster.entries))
     Needs s verbs.Unmark k r reply = Becomes k r reply (λ k. without_marks)
-    Needs s verbs.Install k r reply = Each (changed m s verbs.Install k r reply)
-    Needs s verbs.Activate k r reply = Each (changed m s verbs.Activate k r reply)
+    Needs s verbs.Install k r reply = EachHeld (changed m s verbs.Install k r reply)
+    Needs s verbs.Activate k r reply = EachHeld (changed m s verbs.Activate k r reply)
     Needs s verb k r reply = Unit {0}
 
-    finished_each : (s : CallState) (j q : Option ℕ) (reply : StepReply) → Needs s verbs.Finish j q reply → Each (changed m s verbs.Finish j q reply)
+    finished_each : (s : CallState) (j q : Option ℕ) (reply : StepReply) → Needs s verbs.Finish j q reply → EachHeld (changed m s verbs.Finish j q reply)
     finished_each s (Some j) q words.Ok by = step_each (finished j (client_of s.call)) (λ k given. finished_on k m.cluster given inv.holds.rises inv.holds.up_to s.call j (client_of s.call) by)
     finished_each s None q words.Ok by = each
     finished_each s j q reply by = each
 
-    becomes_each : (k r : Option ℕ) (reply : StepReply) (change : ℕ → ReplicaState → ReplicaState) → Becomes k r reply change → Each (on_ok reply m (at_some k m (λ k. at_some r m (λ r. change_replica m k r (m.replicas k r) (change k)))))
+    becomes_each : (k r : Option ℕ) (reply : StepReply) (change : ℕ → ReplicaState → ReplicaState) → Becomes k r reply change → EachHeld (on_ok reply m (at_some k m (λ k. at_some r m (λ r. change_replica m k r (m.replicas k r) (change k)))))
     becomes_each (Some k) (Some r) words.Ok change becomes = replica_each k r (m.replicas k r) refl (change k) becomes
     becomes_each (Some k) None words.Ok change becomes = each
     becomes_each None r words.Ok change becomes = each
     becomes_each k r reply change becomes = each
 
     -- any step
-    changed_each : (s : CallState) (verb : Verb) (j q : Option ℕ) (reply : StepReply) → Needs s verb j q reply → Each (changed m s verb j q reply)
+    changed_each : (s : CallState) (verb : Verb) (j q : Option ℕ) (reply : StepReply) → Needs s verb j q reply → EachHeld (changed m s verb j q reply)
     changed_each s verbs.Enter j q reply needs = ok_each reply _ (one_each q _ (λ q. step_each (entered (client_of s.call) q s.call.number) (λ k given. record { last = omega arith; rises = inv.holds.rises; made = λ f found. (f, found, StaysMade-same f) })))
     changed_each s verbs.Open j q reply needs = ok_each reply _ (one_each j _ (λ j. entry_each j (λ R. opened_with (home_of (client_of s.call) R) R.up (client_of s.call)) (opened_with-identity (home_of (client_of s.call) m.cluster) m.cluster.up (client_of s.call)) (opened_made (home_of (client_of s.call) m.cluster) m.cluster.up (client_of s.call))))
     changed_each s verbs.Create j q reply needs = ok_each reply _ (step_each (created_for s.call (asked s.op)) (λ k given. created_for_on k m.cluster given inv.holds.rises inv.holds.up_to s.call (asked s.op)))
@@ -548,11 +565,20 @@ module _ (Q : Option Entry → ℕ → ReplicaState → Type 0) (S : Entry → S
     changed_each s verbs.Close j q reply needs = ok_each reply _ (one_each j _ (λ j. entry_each j (λ R. unreferred (client_of s.call) R.moment) (released-identity (client_of s.call) m.cluster.moment) (released_made (client_of s.call) m.cluster.moment)))
     changed_each s verbs.Unlink j q reply needs = ok_each reply _ (one_each j _ (λ j. entry_each j (λ R. unnamed) (λ e. refl) (λ e. StaysMade-kept e (unnamed e) refl refl refl refl refl refl)))
     changed_each s verbs.Retain j q reply needs = ok_each reply _ (one_each j _ (λ j. step_each (retained_for (asked s.op) j) (λ k given. retained_for_on k m.cluster given inv.holds.rises inv.holds.up_to (asked s.op) j)))
-    changed_each s verbs.Look j q reply needs = look_each reply _ _ each (making_each (making_of s.call m.cluster))
+    changed_each s verbs.Look j q reply needs = look_each reply (with_closed s m) (without_making (making_of s.call m.cluster) m) each (making_each (making_of s.call m.cluster))
     changed_each s verb j q reply needs = each
 
-    steps_on : (s : CallState) → m.in_hand s.call.actor ≡ Some s → (t : Told) → IsDone m s (due m s) t → (verb : Verb) → t.verb ≡ verb → (k r : ℕ) (x : ReplicaState) → m.replicas k r ≡ Some x → StepsOn m s verb k r x
-    steps_on s held t done verb is k r x there = record { inv = inv; history = history; held = held; there = there; told = t; verb_is = is; done = done }
+    steps_on : (s : CallState) → m.in_hand (who s) ≡ Some s → (t : Told) → IsDone m s (due m s) t → (verb : Verb) → t.verb ≡ verb → (k r : ℕ) (x : ReplicaState) → m.replicas k r ≡ Some x → Some k ≡ s.kept.ckpt → (place : ℕ) (update : Update) → asked s.op ≡ asks.Change place update → StepsOn log m s verb k r x
+    steps_on s held t done verb is k r x there own place update asks_is = record {
+      inv = inv;
+      history = history;
+      held = held;
+      there = there;
+      told = t;
+      verb_is = is;
+      done = done;
+      asked = record { op = s.op; asks = update_word s.op place update asks_is; begun = subst (HasBegun log s.call s.op) (sym own) (began s held); update_is = refl };
+    }
 
     -- what a row says of the active and its replica
     on_active-there : (update : Update) (by_element : Bool) (k r : ℕ) (P : Entry → ReplicaState → Type 0) → OnActive m update by_element k r P → (x : ReplicaState) → m.replicas k r ≡ Some x → (e : Entry) × IsActiveOf m k r e × (is_by_element (is_weak e.attributes) update ≡ by_element) × P e x
@@ -573,7 +599,7 @@ module _ (Q : Option Entry → ℕ → ReplicaState → Type 0) (S : Entry → S
       grows_active : (e : Entry) (y : ReplicaState) (new : List Effect) → IsActiveOf m k r e → y.effects ≡ x.effects ++ new → y.generation ≡ x.generation → Grows m k r x y
       grows_active e y new active is generation = record { generation = generation; more = (new, is); other = λ f found alone. inl (ap (λ (e : Entry). e.active) (same_Some f e (sym found ∙ active.found)) ∙ active.active) }
 
-      committed_needs : (t : Told) → StepsOn m s verbs.Commit k r x → OnAll m k r (λ e x. CommitOk m s.call update k r t.end t.details x) → BecomesThere k r x (with_committed (entry_of k m.cluster.entries) x)
+      committed_needs : (t : Told) → StepsOn log m s verbs.Commit k r x → OnAll m k r (λ e x. CommitOk m s.call update k r t.end t.details x) → BecomesThere k r x (with_committed (entry_of k m.cluster.entries) x)
       committed_needs t step on =
           let (e, y, found, at, facts) = on_replica-there m k r (λ e x. (is_all e.attributes ≡ true) × CommitOk m s.call update k r t.end t.details x) on in
           record {
@@ -585,7 +611,7 @@ module _ (Q : Option Entry → ℕ → ReplicaState → Type 0) (S : Entry → S
             };
           }
 
-      applied_needs : (t : Told) → StepsOn m s verbs.Apply k r x → OnActive m update false k r (ApplyOk m update t) → BecomesThere k r x (with_applied s.call (update_of s.op) m.cluster.moment (entry_of k m.cluster.entries) x)
+      applied_needs : (t : Told) → StepsOn log m s verbs.Apply k r x → OnActive m update false k r (ApplyOk m update t) → BecomesThere k r x (with_applied s.call (update_of s.op) m.cluster.moment (entry_of k m.cluster.entries) x)
       applied_needs t step on =
           let (e, active, at_once, ok) = on_active-there update false k r (ApplyOk m update t) on x there in
           record {
@@ -593,7 +619,7 @@ module _ (Q : Option Entry → ℕ → ReplicaState → Type 0) (S : Entry → S
             grows = grows_active e _ (Applied s.call (update_of s.op) m.cluster.moment ∷ []) active (ap (λ o. (with_applied s.call (update_of s.op) m.cluster.moment o x).effects) active.found) (ap (λ o. (with_applied s.call (update_of s.op) m.cluster.moment o x).generation) active.found);
           }
 
-      marked_needs : (t : Told) → StepsOn m s verbs.Mark k r x → OnActive m update true k r (MarkOk m update t) → BecomesThere k r x (with_marks s.call (update_of s.op) m.cluster.moment x)
+      marked_needs : (t : Told) → StepsOn log m s verbs.Mark k r x → OnActive m update true k r (MarkOk m update t) → BecomesThere k r x (with_marks s.call (update_of s.op) m.cluster.moment x)
       marked_needs t step on =
           let (e, active, by_element, ok) = on_active-there update true k r (MarkOk m update t) on x there in
           let good : update_is_bad update ≡ false = sym (ap has_bad_arguments asks_is) ∙ arguments s step.held in
@@ -610,7 +636,7 @@ module _ (Q : Option Entry → ℕ → ReplicaState → Type 0) (S : Entry → S
           let (marks, is, are) = IsSomeAnd-at x.marks (AreMarksOf s.call update left) stand in
           (e, marks, active, record { stand = is; are = subst (λ update. AreMarksOf s.call update left marks) own are })
 
-      element_needs : StepsOn m s verbs.Element k r x → OnActive m update true k r (λ e x. IsSomeAnd x.marks (AreMarksOf s.call update true)) → BecomesThere k r x (with_next_element (entry_of k m.cluster.entries) x)
+      element_needs : StepsOn log m s verbs.Element k r x → OnActive m update true k r (λ e x. IsSomeAnd x.marks (AreMarksOf s.call update true)) → BecomesThere k r x (with_next_element (entry_of k m.cluster.entries) x)
       element_needs step on =
           let (e, marks, active, stand) = marks_there true on in
           let then = kept.element m s k r x e marks step active stand (there_by e active.found) in
@@ -619,7 +645,7 @@ module _ (Q : Option Entry → ℕ → ReplicaState → Type 0) (S : Entry → S
             grows = grows_same m k r x _ (element_effects (entry_of k m.cluster.entries) x) (element_generation (entry_of k m.cluster.entries) x);
           }
 
-      unmarked_needs : StepsOn m s verbs.Unmark k r x → OnActive m update true k r (λ e x. IsSomeAnd x.marks (AreMarksOf s.call update false)) → BecomesThere k r x (without_marks x)
+      unmarked_needs : StepsOn log m s verbs.Unmark k r x → OnActive m update true k r (λ e x. IsSomeAnd x.marks (AreMarksOf s.call update false)) → BecomesThere k r x (without_marks x)
       unmarked_needs step on =
           let (e, marks, active, stand) = marks_there false on in
           let then = kept.unmarked m s k r x e marks step active stand (there_by e active.found) in
@@ -629,18 +655,18 @@ module _ (Q : Option Entry → ℕ → ReplicaState → Type 0) (S : Entry → S
           }
 
     -- what it needs is in its row
-    row_needs : (s : CallState) → m.in_hand s.call.actor ≡ Some s → (t : Told) → IsDone m s (due m s) t → (verb : Verb) (k r : Option ℕ) (reply : StepReply) → t.verb ≡ verb → IsOnOwn verb k s.kept.ckpt → Row m s verb (record t { verb = verb; ckpt = k; node = r; reply = reply }) → Needs s verb k r reply
+    row_needs : (s : CallState) → m.in_hand (who s) ≡ Some s → (t : Told) → IsDone m s (due m s) t → (verb : Verb) (k r : Option ℕ) (reply : StepReply) → t.verb ≡ verb → IsOnOwn verb k s.kept.ckpt → Row m s verb (record t { verb = verb; ckpt = k; node = r; reply = reply }) → Needs s verb k r reply
     row_needs s held t done verbs.Finish (Some j) None words.Ok verb _ row = making_there m.cluster inv.holds.rises s.call j row.0.3.0
     row_needs s held t done verbs.Finish (Some j) (Some q) words.Ok verb own row = absurd row.0
-    row_needs s held t done verbs.Stage (Some k) (Some r) words.Ok verb own row = λ x there. record { so = kept.staged m s k r x (steps_on s held t done verbs.Stage verb k r x there) (each.replica k r x there); grows = grows_same m k r x _ refl refl }
-    row_needs s held t done verbs.Commit (Some k) (Some r) words.Ok verb own row = λ x there. committed_needs s k r x there row.0 row.1 row.2 t (steps_on s held t done verbs.Commit verb k r x there) row.3
-    row_needs s held t done verbs.Apply (Some k) (Some r) words.Ok verb own row = λ x there. applied_needs s k r x there row.0 row.1 row.2 (record t { verb = verbs.Apply; ckpt = Some k; node = Some r; reply = words.Ok }) (steps_on s held t done verbs.Apply verb k r x there) row.3
-    row_needs s held t done verbs.Mark (Some k) (Some r) words.Ok verb own row = λ x there. marked_needs s k r x there row.0 row.1 row.2 (record t { verb = verbs.Mark; ckpt = Some k; node = Some r; reply = words.Ok }) (steps_on s held t done verbs.Mark verb k r x there) row.3
-    row_needs s held t done verbs.Element (Some k) (Some r) words.Ok verb own row = λ x there. element_needs s k r x there row.0 row.1 row.2 (steps_on s held t done verbs.Element verb k r x there) row.3.0
-    row_needs s held t done verbs.Unmark (Some k) (Some r) words.Ok verb own row = λ x there. unmarked_needs s k r x there row.0 row.1 row.2 (steps_on s held t done verbs.Unmark verb k r x there) row.3.0
-    row_needs s held t done verbs.Install j q reply verb own row = after_install Each m s t j q reply row each (λ k r z x is in_hand over. (
-        put_each k r z x (still_has m each k z (record { actor = s.call.actor; state = s; in_hand = held; ckpt = sym own ∙ is; snapshot = in_hand })) over))
-    row_needs s held t done verbs.Activate j q reply verb own row = after_activate Each m inv history.bare s held t j q reply own row each (λ k r on. record_each (swept (active_set k r m.cluster)) (λ j given. on j)) (leads_each s)
+    row_needs s held t done verbs.Stage (Some k) (Some r) words.Ok verb own row = λ x there. record { so = kept.staged m s k r x (steps_on s held t done verbs.Stage verb k r x there own row.0.0 row.0.1 row.0.2) (each.replica k r x there); grows = grows_same m k r x _ refl refl }
+    row_needs s held t done verbs.Commit (Some k) (Some r) words.Ok verb own row = λ x there. committed_needs s k r x there row.0 row.1 row.2 t (steps_on s held t done verbs.Commit verb k r x there own row.0 row.1 row.2) row.3
+    row_needs s held t done verbs.Apply (Some k) (Some r) words.Ok verb own row = λ x there. applied_needs s k r x there row.0 row.1 row.2 (record t { verb = verbs.Apply; ckpt = Some k; node = Some r; reply = words.Ok }) (steps_on s held t done verbs.Apply verb k r x there own row.0 row.1 row.2) row.3
+    row_needs s held t done verbs.Mark (Some k) (Some r) words.Ok verb own row = λ x there. marked_needs s k r x there row.0 row.1 row.2 (record t { verb = verbs.Mark; ckpt = Some k; node = Some r; reply = words.Ok }) (steps_on s held t done verbs.Mark verb k r x there own row.0 row.1 row.2) row.3
+    row_needs s held t done verbs.Element (Some k) (Some r) words.Ok verb own row = λ x there. element_needs s k r x there row.0 row.1 row.2 (steps_on s held t done verbs.Element verb k r x there own row.0 row.1 row.2) row.3.0
+    row_needs s held t done verbs.Unmark (Some k) (Some r) words.Ok verb own row = λ x there. unmarked_needs s k r x there row.0 row.1 row.2 (steps_on s held t done verbs.Unmark verb k r x there own row.0 row.1 row.2) row.3.0
+    row_needs s held t done verbs.Install j q reply verb own row = after_install EachHeld m s t j q reply row each (λ k r z x is in_hand over. (
+        put_each k r z x (still_has m each k z (record { name = (who s); state = s; in_hand = held; ckpt = sym own ∙ is; snapshot = in_hand })) over))
+    row_needs s held t done verbs.Activate j q reply verb own row = after_activate EachHeld m inv history.bare s held t j q reply own row each (λ k r on. record_each (swept (active_set k r m.cluster)) (λ j given. on j)) (leads_each s)
     row_needs s held t done verb k r reply verb_is own row = tt
 
     -- a call may have a copy of what the active has, where no marks stand
@@ -659,21 +685,21 @@ module _ (Q : Option Entry → ℕ → ReplicaState → Type 0) (S : Entry → S
     kept_may n s j q k x z own there ckpt is may = subst (MayHave n k) (same_Some (copied x) z (sym (ap (option_map copied) there) ∙ is)) (subst (λ j. MayHave n j (copied x)) (same_Some j k (own ∙ ckpt)) may)
 
     -- what a call has in hand behind a step, by its pull, by its hold or from before, it may have
-    pulled_may : (s : CallState) → m.in_hand s.call.actor ≡ Some s → (t : Told) (verb : Verb) (j q : Option ℕ) (reply : StepReply) → IsOnOwn verb j s.kept.ckpt → Row m s verb (record t { verb = verb; ckpt = j; node = q; reply = reply })
-        → ((a : ActorName) → (changed m s verb j q reply).in_hand a ≡ m.in_hand a) → Each (changed m s verb j q reply) → (k : ℕ) (z : Snapshot) → s.kept.ckpt ≡ Some k → pulled_by m s verb j q reply ≡ Some z → MayHave (changed m s verb j q reply) k z
-    pulled_may s held t verbs.Pull (Some j) (Some q) words.Ok own row same then k z ckpt is =
+    pulled_may : (s : CallState) → m.in_hand (who s) ≡ Some s → (t : Told) (verb : Verb) (j q : Option ℕ) (reply : StepReply) → IsOnOwn verb j s.kept.ckpt → Row m s verb (record t { verb = verb; ckpt = j; node = q; reply = reply })
+        → EachHeld (changed m s verb j q reply) → (k : ℕ) (z : Snapshot) → s.kept.ckpt ≡ Some k → pulled_by m s verb j q reply ≡ Some z → MayHave (changed m s verb j q reply) k z
+    pulled_may s held t verbs.Pull (Some j) (Some q) words.Ok own row then k z ckpt is =
         let (e, x, found, there, ok) = on_replica-there m j q (PullOk m s q (record t { verb = verbs.Pull; ckpt = Some j; node = Some q; reply = words.Ok })) row.0.3 in
         kept_may m s j q k x z own there ckpt is (active_may j q e x found there ok.alone ok.active ok.unmarked)
-    pulled_may s held t verbs.Hold (Some j) (Some q) words.Ok own row same then k z ckpt is =
+    pulled_may s held t verbs.Hold (Some j) (Some q) words.Ok own row then k z ckpt is =
         let (e, x, found, there, ok) = on_replica-there m j q (HoldOk s q t.end) row.0.2 in
         let may = active_may j q e x found there (collocated_apart e.attributes ok.collocated) ok.active ok.unmarked in
         let on : (k : ℕ) → k ≤ m.cluster.last_identity → MadeOn k m.cluster (swept (hold_set j s.call m.cluster)) = λ k given. MadeOn-swept k m.cluster (hold_set j s.call m.cluster) (changed_on k m.cluster given inv.holds.rises inv.holds.up_to j (with_hold s.call) (held-identity s.call) (held_made s.call)) in
         kept_may (record_step (hold_set j s.call) m) s j q k x z own there ckpt is (still_may (swept (hold_set j s.call m.cluster)) on j (copied x) may)
-    pulled_may s held t verb j q reply _ row same then k z ckpt is = still_has (changed m s verb j q reply) then k z (record { actor = s.call.actor; state = s; in_hand = same s.call.actor ∙ held; ckpt = ckpt; snapshot = is })
+    pulled_may s held t verb j q reply _ row then k z ckpt is = still_has (record (changed m s verb j q reply) { in_hand = m.in_hand }) then k z (record { name = who s; state = s; in_hand = held; ckpt = ckpt; snapshot = is })
 
     -- a step leaves in the hand of its call what this may have
-    stepped_each : (s : CallState) → m.in_hand s.call.actor ≡ Some s → (t : Told) → IsOnOwn t.verb t.ckpt s.kept.ckpt → Row m s t.verb t → (end : Option Outcome) → Each (changed m s t.verb t.ckpt t.node t.reply) → Each (step_of m (Some s) t.verb t.ckpt t.node t.reply end)
-    stepped_each s held t own row end then = hands_each n then (put_actor n.in_hand s.call.actor (left end behind)) may
+    stepped_each : (s : CallState) → m.in_hand (who s) ≡ Some s → (t : Told) → IsOnOwn t.verb t.ckpt s.kept.ckpt → Row m s t.verb t → (end : Option Outcome) → EachHeld (changed m s t.verb t.ckpt t.node t.reply) → Each (step_of m (Some s) t.verb t.ckpt t.node t.reply end)
+    stepped_each s held t own row end then = hands_each (record n { in_hand = m.in_hand }) then (put_who n.in_hand (who s) (left end behind)) may
       where
         n : Machine
         n = changed m s t.verb t.ckpt t.node t.reply
@@ -681,22 +707,22 @@ module _ (Q : Option Entry → ℕ → ReplicaState → Type 0) (S : Entry → S
         behind : CallState
         behind = kept_behind m s n.cluster t.verb t.ckpt t.node t.reply
 
-        same : (a : ActorName) → n.in_hand a ≡ m.in_hand a
-        same = (follows m inv history s held t row).in_hand
+        was : (w : Who) (z : CallState) → n.in_hand w ≡ Some z → m.in_hand w ≡ Some z
+        was = (follows m inv history s held t row).in_hand
 
-        may : (k : ℕ) (z : Snapshot) → PulledInHand (put_actor n.in_hand s.call.actor (left end behind)) k z → MayHave n k z
-        may k z has = elim (put_actor-cases n.in_hand s.call.actor (left end behind) has.actor has.state has.in_hand) [
+        may : (k : ℕ) (z : Snapshot) → PulledInHand (put_who n.in_hand (who s) (left end behind)) k z → MayHave n k z
+        may k z has = elim (put_who-cases n.in_hand (who s) (left end behind) has.name has.state has.in_hand) [
           | inl own_hand ↦ (
               let is = left_is end behind has.state own_hand.1 in
-              pulled_may s held t t.verb t.ckpt t.node t.reply own row same then k z (ap (λ (z : CallState). z.kept.ckpt) is ∙ has.ckpt) (ap (λ (z : CallState). z.snapshot) is ∙ has.snapshot))
-          | inr other ↦ still_has n then k z (record { actor = has.actor; state = has.state; in_hand = other.1; ckpt = has.ckpt; snapshot = has.snapshot })
+              pulled_may s held t t.verb t.ckpt t.node t.reply own row then k z (ap (λ (z : CallState). z.kept.ckpt) is ∙ has.ckpt) (ap (λ (z : CallState). z.snapshot) is ∙ has.snapshot))
+          | inr other ↦ still_has (record n { in_hand = m.in_hand }) then k z (record { name = has.name; state = has.state; in_hand = was has.name has.state other.1; ckpt = has.ckpt; snapshot = has.snapshot })
         ]
 
     -- a call that begins has nothing in hand
     begun_each : (call : CallId) (op : Op) (end : Option Outcome) → Each (after_beginning m call op end)
-    begun_each call op end = hands_each m each (put_actor m.in_hand call.actor begun) (λ k z has. elim (put_actor-cases m.in_hand call.actor begun has.actor has.state has.in_hand) [
+    begun_each call op end = hands_each m each (put_who m.in_hand (stepped_as call (word_of_op op)) begun) (λ k z has. elim (put_who-cases m.in_hand (stepped_as call (word_of_op op)) begun has.name has.state has.in_hand) [
       | inl own ↦ absurd (begun_empty end call op (first_kept m call op) has.state z own.1 has.snapshot)
-      | inr other ↦ still_has m each k z (record { actor = has.actor; state = has.state; in_hand = other.1; ckpt = has.ckpt; snapshot = has.snapshot })
+      | inr other ↦ still_has m each k z (record { name = has.name; state = has.state; in_hand = other.1; ckpt = has.ckpt; snapshot = has.snapshot })
     ])
       where
         begun : Option CallState
@@ -704,16 +730,16 @@ module _ (Q : Option Entry → ℕ → ReplicaState → Type 0) (S : Entry → S
 
     -- any label that is allowed and due
     after_each : (l : Label) → Allowed m l → IsDue m l → Each (after m l)
-    after_each (labels.Began d op end) allowed is = begun_each d op end
+    after_each (labels.Began d op end details) allowed is = begun_each d op end
     after_each (labels.Stepped d op verb j q reply end details) allowed step =
         let s = step.state in
         let t : Told = record { verb = verb; ckpt = j; node = q; reply = reply; end = end; details = details } in
-        let held : m.in_hand s.call.actor ≡ Some s = ap (λ (c : CallId). m.in_hand c.actor) step.call_is ∙ step.in_hand in
+        let held : m.in_hand (who s) ≡ Some s = held_as m d op s step.in_hand step.call_is step.word in
         let same : allowed.state ≡ s = same_Some allowed.state s (sym allowed.in_hand ∙ step.in_hand) in
         let row = subst (λ z. Row m z verb t) same allowed.row in
         let own = subst (λ (z : CallState). IsOnOwn verb j z.kept.ckpt) same allowed.own in
         subst (λ o. Each (step_of m o verb j q reply end)) (sym step.in_hand) (stepped_each s held t own row end (changed_each s verb j q reply (row_needs s held t step.done verb j q reply refl own row)))
-    after_each (labels.Word who line said) allowed is = each
+    after_each (labels.Word by line said) allowed is = each
     after_each (labels.Nodes n) allowed is = each
     after_each (labels.Moved t) allowed is = record_each (moved t m.cluster) (λ k given. record { last = omega arith; rises = IdentitiesRise-filter (stays t) m.cluster.entries inv.holds.rises; made = ComesOf-filter StaysMade StaysMade-same (stays t) m.cluster.entries inv.holds.rises k })
     after_each (labels.Shown j replicas) allowed is = each
@@ -722,26 +748,27 @@ module _ (Q : Option Entry → ℕ → ReplicaState → Type 0) (S : Entry → S
     after_each l allowed is = absurd is
 
   -- so it holds in a run
-  run_from : IsKept → (front more : List Label) → IsRun (front ++ more) → Each (last front) → Each (last (front ++ more))
-  run_from kept front [] run each = subst (λ (log : List Label). Each (last log)) (sym (append-nil front)) each
-  run_from kept front (l ∷ more) run each =
+  run_from : (log : List Label) → IsKept log → (front more : List Label) → log ≡ front ++ more → IsRun (front ++ more) → Each (last front) → Each (last (front ++ more))
+  run_from log kept front [] is run each = subst (λ (log : List Label). Each (last log)) (sym (append-nil front)) each
+  run_from log kept front (l ∷ more) is run each =
       let before : IsRun front = IsRunFrom-front empty_cluster front (l ∷ more) run in
       let there = IsRunFrom-back empty_cluster front (l ∷ more) run in
       let (inv, history) = run_history front before in
-      let then = after_each kept (last front) inv history (good_arguments front before) each l there.0 there.1 in
+      let began : AllBegan log (last front) = λ s held. subst (λ (log : List Label). HasBegun log s.call s.op s.kept.ckpt) (sym is) (begun_more front (l ∷ more) s.call s.op s.kept.ckpt (all_began front before s held)) in
+      let then = after_each log kept (last front) began inv history (good_arguments front before) each l there.0 there.1 in
       let longer = append_assoc front (l ∷ []) more in
-      subst (λ (log : List Label). Each (last log)) longer (run_from kept (front ++ l ∷ []) more (subst IsRun (sym longer) run) (subst Each (sym (last-push front l)) then))
+      subst (λ (log : List Label). Each (last log)) longer (run_from log kept (front ++ l ∷ []) more (is ∙ sym longer) (subst IsRun (sym longer) run) (subst Each (sym (last-push front l)) then))
 
-  pub run_each : IsKept → (log : List Label) → IsRun log → Each (last log)
-  run_each kept log run = run_from kept [] log run (record { replica = λ k r x is. absurd (cc is); snapshot = λ k s is. absurd (cc is); in_hand = λ k s has. absurd (let none = has.in_hand in cc none); ahead = λ k r e y found. absurd (cc found) })
+  pub run_each : (log : List Label) → IsKept log → IsRun log → Each (last log)
+  run_each log kept run = run_from log kept [] log refl run (record { replica = λ k r x is. absurd (cc is); snapshot = λ k s is. absurd (cc is); in_hand = λ k s has. absurd (let none = has.in_hand in cc none); ahead = λ k r e y found. absurd (cc found) })
 
 -- where nothing is said
-kept_nothing : IsKept (λ o r x. Unit {0}) (λ e s. Unit {0})
-kept_nothing = record {
+kept_nothing : (log : List Label) → IsKept (λ o r x. Unit {0}) (λ e s. Unit {0}) log
+kept_nothing log = record {
   opened = λ e r. tt;
-  stays = λ e f r x stays made is. tt;
-  stays_copied = λ e f s stays source is. tt;
-  led = λ e f r o x goes made free none copied is. tt;
+  stays = λ e f r x same stays made is. tt;
+  stays_copied = λ e f s same stays source is. tt;
+  led = λ e f r o x same goes made free none copied is. tt;
   pulled = λ e r x source active none is. tt;
   put = λ e r s x present free none copied is. tt;
   staged = λ m s k r x step is. tt;
@@ -754,4 +781,4 @@ kept_nothing = record {
 
 -- each snapshot is of a checkpoint that is made, and no replica and no snapshot is ahead of the active
 pub run_copies : (log : List Label) → IsRun log → Each (λ o r x. Unit {0}) (λ e s. Unit {0}) (last log)
-run_copies log run = run_each (λ o r x. Unit {0}) (λ e s. Unit {0}) kept_nothing log run
+run_copies log run = run_each (λ o r x. Unit {0}) (λ e s. Unit {0}) log (kept_nothing log) run

@@ -98,8 +98,8 @@ commits_or_looks m s u t is phase done = by_entry (entry_of u.ckpt m.cluster.ent
         (subst (λ ph. IsDone m s (by_phase u m.cluster.moment (first_lacking 0 e.complete u.owned) (last_having 0 e.complete u.owned) ph) t) phase step)
 
 -- so the replica has no effect of a call that takes another on it
-none_yet : (m : Machine) (s : CallState) (verb : Verb) (k r : ℕ) (x : ReplicaState) → StepsOn m s verb k r x → verbs.Commit ≢ verb → verbs.Look ≢ verb → HasEffect s.call x.effects → ⊥
-none_yet m s verb k r x step no_commit no_look has =
+none_yet : (log : List Label) (m : Machine) (s : CallState) (verb : Verb) (k r : ℕ) (x : ReplicaState) → StepsOn log m s verb k r x → verbs.Commit ≢ verb → verbs.Look ≢ verb → HasEffect s.call x.effects → ⊥
+none_yet log m s verb k r x step no_commit no_look has =
     let at : IsCommittingAt k (driver_of s) = step.history.commits k r s step.held (record { replica = x; there = step.there; effect = has }) in
     elim (commits_or_looks m s at.update step.told at.driver_is at.phase step.done) [
       | commit is ↦ no_commit (sym is ∙ step.verb_is)
@@ -113,32 +113,32 @@ alone_free m inv bare k r x e there found alone = (subst (λ all. IsShapedBy all
 -- ---- every step
 
 -- it is so of each replica, whatever its checkpoint declares
-kept_once : IsKept (λ o r x. IsOnce x) (λ e s. EachCallOnce s.effects)
-kept_once = record {
+kept_once : (log : List Label) → IsKept (λ o r x. IsOnce x) (λ e s. EachCallOnce s.effects) log
+kept_once log = record {
   opened = λ e r. record { each = tt; fresh = λ slot none. absurd (cc none) };
-  stays = λ e f r x stays made once. once;
-  stays_copied = λ e f s stays source once. once;
-  led = λ e f r o x goes made free none copied once. led_once o f.generation x free copied once;
+  stays = λ e f r x same stays made once. once;
+  stays_copied = λ e f s same stays source once. once;
+  led = λ e f r o x same goes made free none copied once. led_once o f.generation x free copied once;
   pulled = λ e r x source active none once. once.each;
   put = λ e r s x present free none copied once. record { each = copied; fresh = λ slot staged. absurd (let w : None ≡ Some slot = sym free ∙ staged in cc w) };
   staged = λ m s k r x step once. record {
     each = once.each;
     fresh = λ slot is has.
         let same = same_Some (record { owner = s.call; origin = s.call; update = update_of s.op; moment = staged_moment m k }) slot is in
-        none_yet m s verbs.Stage k r x step (λ is. cc is) (λ is. cc is) (subst (λ d. HasEffect d x.effects) (sym (ap (λ (z : Staged). z.origin) same)) has);
+        none_yet log m s verbs.Stage k r x step (λ is. cc is) (λ is. cc is) (subst (λ d. HasEffect d x.effects) (sym (ap (λ (z : Staged). z.origin) same)) has);
   };
   committed = λ m s k r x e step all once. committed_once e.attributes x once;
   applied = λ m s k r x e step active none once.
       let y = having_taken e.attributes s.call (update_of s.op) m.cluster.moment x in
-      one_effect_more x y (Applied s.call (update_of s.op) m.cluster.moment) refl (alone_free m step.inv step.history.bare k r x e step.there active.found active.alone) (none_yet m s verbs.Apply k r x step (λ is. cc is) (λ is. cc is)) once;
+      one_effect_more x y (Applied s.call (update_of s.op) m.cluster.moment) refl (alone_free m step.inv step.history.bare k r x e step.there active.found active.alone) (none_yet log m s verbs.Apply k r x step (λ is. cc is) (λ is. cc is)) once;
   -- a weak write is no effect until its end
   marked = λ m s k r x e step active can once. record { each = once.each; fresh = once.fresh };
   element = λ m s k r x e marks step active stand once. record { each = once.each; fresh = once.fresh };
   unmarked = λ m s k r x e marks step active stand once.
-      let none = none_yet m s verbs.Unmark k r x step (λ is. cc is) (λ is. cc is) in
+      let none = none_yet log m s verbs.Unmark k r x step (λ is. cc is) (λ is. cc is) in
       one_effect_more x (marks_ended x (Some marks)) (Applied marks.call marks.update marks.moment) refl (alone_free m step.inv step.history.bare k r x e step.there active.found active.alone) (λ has. none (subst (λ d. HasEffect d x.effects) stand.are.call_is has)) once;
 }
 
 -- THE LAW: no replica has two effects of one call
 pub run_once : (log : List Label) → IsRun log → (k r : ℕ) (x : ReplicaState) → (last log).replicas k r ≡ Some x → EachCallOnce x.effects
-run_once log run k r x there = ((run_each (λ o r x. IsOnce x) (λ e s. EachCallOnce s.effects) kept_once log run).replica k r x there).each
+run_once log run k r x there = ((run_each (λ o r x. IsOnce x) (λ e s. EachCallOnce s.effects) log (kept_once log) run).replica k r x there).each

@@ -14,7 +14,6 @@ use Rattle.ckpt_types.specs.declared.operation.Op.{Op}
 use Rattle.ckpt_types.specs.declared.operation.Op.TheVariants as ops
 use Rattle.ckpt_types.specs.declared.update.ReadElement.{ReadElement}
 use Rattle.ckpt_types.specs.Reads.{NextGiven, given}
-use Rattle.client_handles.specs.declared.handle_view.HandleView.{HandleView}
 use Rattle.node_msgs.specs.declared.steps.StepReply.{StepReply}
 use Rattle.node_msgs.specs.declared.steps.StepReply.TheVariants as words
 use Rattle.node_msgs.specs.declared.steps.Verb.{Verb}
@@ -26,8 +25,9 @@ use Rattle.ckpt_types.specs.OpWord.{word_of_op}
 use Rattle.cluster_record.specs.Calls.{client_of}
 use Rattle.cluster_record.specs.RecordState.{entry_of}
 use Rattle.ckpt_types.specs.declared.update.Update.{Update}
-use Rattle.ckpt_types.specs.Asks.{Ask, asked, takes_room}
+use Rattle.ckpt_types.specs.Asks.{Ask, asked}
 use Rattle.ckpt_types.specs.Asks as asks
+use Rattle.ckpt_machine.specs.Beginning.{takes_memory_at_once, Standing}
 use Rattle.ckpt_machine.specs.BeginRows.{BeginRow}
 use Rattle.ckpt_machine.specs.Complete.{complete_replicas}
 use Rattle.ckpt_machine.specs.Driving.{refused_cause}
@@ -54,15 +54,18 @@ may_lack ask = false
 lacks_memory : (op : Op) → may_lack (asked op) ≡ true → may_lack_memory (word_of_op op) ≡ true
 lacks_memory (ops.Client r version callbacks) is = refl
 lacks_memory (ops.Open place name flags timeout a) is = refl
+lacks_memory (ops.OpenAsync place invocation name flags a) is = refl
 lacks_memory (ops.Iter iteration place chosen time) is = refl
 lacks_memory (ops.Sync place timeout) is = refl
+lacks_memory (ops.SyncAsync place invocation) is = refl
 lacks_memory (ops.Active place) is = refl
 lacks_memory op is = absurd (cc is)
 
 open_lacks : (s : CallState) (name : List ℕ) (a : Option CreationAttributes) → AsksToOpen s name a → may_lack_memory (word_of_op s.op) ≡ true
 open_lacks s name a opens = lacks_memory s.op (ap may_lack opens.asks)
 
-room_lacks : (ask : Ask) → takes_room ask ≡ true → may_lack ask ≡ true
+room_lacks : (ask : Ask) → takes_memory_at_once ask ≡ true → may_lack ask ≡ true
+room_lacks (asks.Open place name flags timeout a) takes = refl
 room_lacks (asks.Iterate iteration place chosen time) takes = refl
 room_lacks (asks.Synchronize place timeout) takes = refl
 room_lacks (asks.SetActive place) takes = refl
@@ -256,16 +259,16 @@ module _ (m : Machine) (s : CallState) (end : Option Outcome) (amiss : EndsAmiss
 -- ---- the law
 
 -- a beginning lacks_memory memory where it takes the room of an iteration or of a snapshot
-begin_ends : (live : Bool) (h : Option HandleView) (op : Op) (end : Option Outcome) → BeginRow live h (asked op) end → IfSome end (IsEndOf (word_of_op op))
-begin_ends live h op None row = tt
-begin_ends live h op (Some (Done answer)) row = tt
-begin_ends live h op (Some (Refused error cause)) row = tt
-begin_ends live h op (Some NoMemory) row = lacks_memory op (room_lacks (asked op) row.1)
-begin_ends live h op (Some outcome) row = absurd row
+begin_ends : (st : Standing) (op : Op) (end : Option Outcome) → BeginRow st (asked op) end → IfSome end (IsEndOf (word_of_op op))
+begin_ends st op None row = tt
+begin_ends st op (Some (Done answer)) row = tt
+begin_ends st op (Some (Refused error cause)) row = tt
+begin_ends st op (Some NoMemory) row = lacks_memory op (room_lacks (asked op) row.1)
+begin_ends st op (Some outcome) row = absurd row
 
 -- THE LAW: a label that the machine allows ends a call only as it may
 pub ends_as_it_may : EndsAsItMay
-ends_as_it_may m (labels.Began call op end) allowed = begin_ends _ _ op end allowed.row
+ends_as_it_may m (labels.Began call op end details) allowed = begin_ends _ op end allowed.row
 ends_as_it_may m (labels.Stepped call word verb k r reply end details) allowed =
     let s = allowed.state in
     subst (λ (w : OpWord). IfSome end (IsEndOf w)) allowed.word (not_amiss (word_of_op s.op) end (λ amiss. row_ends m s end amiss verb k r reply details allowed.row))

@@ -10,18 +10,28 @@ use Rattle.ckpt_types.specs.declared.identities.ActorName.TheVariants.{Client}
 use Rattle.node_msgs.specs.declared.next.RecordStep.TheVariants as events
 use Rattle.node_msgs.specs.declared.next.Next.TheVariants.{Event, End}
 use Rattle.cluster_record.specs.declared.clients.LiveClient.{LiveClient}
-use Rattle.cluster_record.specs.Calls.{number_of, client_of}
+use Rattle.cluster_record.specs.Calls.{same_actor, number_of, client_of}
 use Rattle.cluster_record.specs.DueOnce.{Enter, enter_next}
 use Rattle.cluster_record.specs.Places.{find_key}
 use Rattle.cluster_record.specs.RecordState.{RecordState, client_key, is_live_client, entered}
+use Rattle.ckpt_types.specs.Asks.{asked, is_async_ask}
+use Rattle.ckpt_types.specs.OpWord.{is_async, word_of_op}
+use Rattle.ckpt_types.specs.declared.identities.Who.{Who}
+use Rattle.ckpt_types.specs.declared.identities.Who.TheVariants.{Actor}
 use Rattle.ckpt_machine.specs.Drivers as drivers
-use Rattle.ckpt_machine.specs.InHand.{IsEnterAt, IsInPlace}
+use Rattle.ckpt_machine.specs.Tables.{registering}
+use Rattle.ckpt_machine.specs.Whose.{same_who}
+use Rattle.ckpt_machine.proofs.Actors.{same_actor-true}
+use Rattle.ckpt_machine.proofs.AsyncCalls.{own_name, ended_idle, async_no_enter}
+use Rattle.ckpt_machine.proofs.OpenReady.{client_live}
+use Rattle.ckpt_machine.proofs.Whose.{stepped_as-plain, same_who-refl}
+use Rattle.ckpt_machine.specs.InHand.{IsEnterAt, IsInPlace, IsInHand}
 use Rattle.ckpt_machine.specs.Invariant.{IsGoodClient, InvariantIn, Invariant}
-use Rattle.ckpt_machine.specs.Machine.{Machine, CallState}
-use Rattle.ckpt_machine.specs.Steps.{Told, IsDone, IsEvent, driver_of, record_step}
+use Rattle.ckpt_machine.specs.Machine.{Machine, CallState, who}
+use Rattle.ckpt_machine.specs.Steps.{Told, IsDone, IsEvent, driver_of, with_tables, record_step}
 use Rattle.ckpt_machine.specs.Guards.{LookRefused, MayEnter}
 use Rattle.ckpt_machine.specs.Shape.{Shape}
-use Rattle.ckpt_machine.proofs.EndedTables.{live_alike, client_by_number, other_client}
+use Rattle.ckpt_machine.proofs.EndedTables.{live_alike, client_by_number, other_number, registering_keeps}
 use Rattle.ckpt_machine.proofs.Moment.{IsLaterEntry-refl}
 use Rattle.ckpt_machine.proofs.PlainCalls.{is_plain, ending, plain_ends, look_goes, swept_keeps}
 use Rattle.ckpt_machine.proofs.DueStep.{Goes}
@@ -34,12 +44,12 @@ none_of : {X : Type 0} (o : Option X) → is_some o ≡ false → o ≡ None
 none_of None is = refl
 none_of (Some x) is = absurd (cc is)
 
-module _ (m : Machine) (shapes : ℕ → Shape) (inv : InvariantIn shapes m) (s : CallState) (r : ℕ) (held : m.in_hand s.call.actor ≡ Some s) (is : driver_of s ≡ drivers.Once (Enter r)) where
+module _ (m : Machine) (shapes : ℕ → Shape) (inv : InvariantIn shapes m) (s : CallState) (r : ℕ) (held : m.in_hand (who s) ≡ Some s) (is : driver_of s ≡ drivers.Once (Enter r)) where
   abbrev c : ℕ
   c = client_of s.call
 
   at_enter : IsEnterAt m s r
-  at_enter = subst (λ d. IsInPlace m shapes s d) is (inv.hands s.call.actor s held).here
+  at_enter = subst (λ d. IsInPlace m shapes s d) is (inv.hands (who s) s held).here
 
   abbrev new : LiveClient
   new = record { client = c; node = r; incarnation = slice_index m.cluster.up r; initialize = s.call.number }
@@ -63,23 +73,52 @@ module _ (m : Machine) (shapes : ℕ → Shape) (inv : InvariantIn shapes m) (s 
 
   -- its number was given
   given : s.call.number < m.next (Client c)
-  given = subst (λ a. s.call.number < m.next a) (client_by_number s.call.actor at_enter.client) (inv.hands s.call.actor s held).number
+  given = subst (λ a. s.call.number < m.next a) (client_by_number s.call.actor at_enter.client) (inv.hands (who s) s held).number
 
-  -- the client is live
-  enter_keeps : Invariant (ending s (record_step (entered c r s.call.number) m))
-  enter_keeps = record {
-    shapes = shapes;
-    holds = swept_keeps m shapes inv s held (ap (λ d. is_plain d s.snapshot) is) R inv.rises inv.up_to refl refl (λ k f found. (f, found, IsLaterEntry-refl f))
-        (λ none. absurd (let w : false ≡ true = sym (is_up-none r m.cluster none) ∙ at_enter.up in cc w))
-        (λ d. subst (λ o. IfSome o (IsGoodClient m.next R d)) (sym (found_then d)) (elim (d == c) as (λ b. (d == c) ≡ b → IfSome (cond b (Some new) (find_key client_key d m.cluster.clients)) (IsGoodClient m.next R d)) [
-          | true ↦ λ same. (subst (λ (n : ℕ). s.call.number < m.next (Client n)) (sym (eqb-true d c same)) given, at_enter.up)
-          | false ↦ λ other. inv.clients d
-        ] refl))
-        (λ a z other at live. let apart = other_client m shapes s.call.actor inv at_enter.client a z other at in live_alike m.cluster R z.call apart.0 (found_other (client_of z.call) apart.1) ∙ live)
-        (λ a z other at. let apart = other_client m shapes s.call.actor inv at_enter.client a z other at in found_other (client_of z.call) apart.1)
-        (λ a z k e other at was by. ap is_some was)
-        (λ a h among. found_other (number_of a) (not_entering a (inv.handles a h among).live));
-  }
+  -- it is no asynchronous call
+  plain : is_async_ask (asked s.op) ≡ false
+  plain = ap is_async_ask at_enter.asks
+
+  -- a call in hand is another client's: a client that is not live has no asynchronous one
+  others_actor : (w : Who) (z : CallState) → same_who w (who s) ≡ false → m.in_hand w ≡ Some z → same_actor z.call.actor s.call.actor ≡ false
+  others_actor w z other at = by_actor (same_actor z.call.actor s.call.actor) refl
+    where
+      was : IsInHand m shapes w z
+      was = inv.hands w z at
+
+      by_word : z.call.actor ≡ s.call.actor → (b : Bool) → is_async (word_of_op z.op) ≡ b → ⊥
+      by_word same false is_plain_call =
+          let name : w ≡ who s = sym was.whose ∙ stepped_as-plain z.call (word_of_op z.op) is_plain_call ∙ ap Actor same ∙ sym (own_name s plain) in
+          let it : true ≡ false = sym (same_who-refl (who s)) ∙ ap (λ v. same_who v (who s)) (sym name) ∙ other in
+          cc it
+      by_word same true async =
+          let live = client_live m.cluster z.call was.client (was.live (async_no_enter m shapes z async (driver_of z) was.here)) in
+          let it : true ≡ false = sym live ∙ ap (λ a. is_live_client (number_of a) m.cluster) same ∙ at_enter.not_live in
+          cc it
+
+      by_actor : (b : Bool) → same_actor z.call.actor s.call.actor ≡ b → same_actor z.call.actor s.call.actor ≡ false
+      by_actor false apart = apart
+      by_actor true same = absurd (by_word (same_actor-true z.call.actor s.call.actor same) (is_async (word_of_op z.op)) refl)
+
+  others_client : (w : Who) (z : CallState) → same_who w (who s) ≡ false → m.in_hand w ≡ Some z → (client_of z.call == c) ≡ false
+  others_client w z other at = other_number z.call.actor s.call.actor (inv.hands w z at).client at_enter.client (others_actor w z other at)
+
+  -- the client is in the record
+  entered_keeps : InvariantIn shapes (ending s (record_step (entered c r s.call.number) m))
+  entered_keeps = swept_keeps m shapes inv s held (ap (λ d. is_plain d s.snapshot) is) R inv.rises inv.up_to refl refl (λ k f found. (f, found, IsLaterEntry-refl f))
+      (λ none. absurd (let w : false ≡ true = sym (is_up-none r m.cluster none) ∙ at_enter.up in cc w))
+      (λ d. subst (λ o. IfSome o (IsGoodClient m.next R d)) (sym (found_then d)) (elim (d == c) as (λ b. (d == c) ≡ b → IfSome (cond b (Some new) (find_key client_key d m.cluster.clients)) (IsGoodClient m.next R d)) [
+        | true ↦ λ same. (subst (λ (n : ℕ). s.call.number < m.next (Client n)) (sym (eqb-true d c same)) given, at_enter.up)
+        | false ↦ λ other. inv.clients d
+      ] refl))
+      (λ w z other at live. live_alike m.cluster R z.call (inv.hands w z at).client (found_other (client_of z.call) (others_client w z other at)) ∙ live)
+      (λ w z other at. found_other (client_of z.call) (others_client w z other at))
+      (λ a z k e other at was by. ap is_some was)
+      (λ a h among. found_other (number_of a) (not_entering a (inv.handles a h among).live))
+
+  -- the client is live, with its callbacks
+  enter_keeps : Invariant (ending s (with_tables s.call.actor (registering (asked s.op)) (record_step (entered c r s.call.number) m)))
+  enter_keeps = record { shapes = shapes; holds = registering_keeps (ending s (record_step (entered c r s.call.number) m)) shapes entered_keeps s.call.actor (ended_idle m s plain) (asked s.op) }
 
   may_enter : length m.cluster.clients < 64 → MayEnter m c r
   may_enter room = record { up = at_enter.up; not_live = at_enter.not_live; few = room }

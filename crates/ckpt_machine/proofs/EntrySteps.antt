@@ -1,57 +1,57 @@
 -- A step of the setting of an active changes the entry of its checkpoint, and may change a replica of it: what holds of every other call and of every other checkpoint stays.
-use Rattle.std.proofs.Common.{◌≡◌, ℕ, inl, inr, Option, Some, None, Bool, true, false, cond, ◌==◌, refl, sym, ap, subst, ◌∙◌}
+use Rattle.std.proofs.Common.{◌≡◌, ◌≢◌, ℕ, ◌+◌, ◌≤◌, length, arith, inl, inr, Option, Some, None, Bool, true, false, cond, ◌==◌, refl, sym, ap, subst, ◌∙◌}
 use Rattle.std.specs.Prelude.{is_some, IsSome, IsSomeAnd, IfSome, slice_index}
 use Rattle.std.proofs.lemmas.Bool.{eqb-true, eq-eqb}
 use Rattle.std.proofs.lemmas.Option.{same_Some}
-use Rattle.ckpt_types.specs.declared.identities.ActorName.{ActorName}
+use Rattle.ckpt_types.specs.declared.identities.ActorName.TheVariants.{Client}
 use Rattle.ckpt_types.specs.declared.identities.CallId.{CallId}
+use Rattle.ckpt_types.specs.declared.identities.Who.{Who}
 use Rattle.ckpt_types.specs.Asks.{asked}
+use Rattle.ckpt_types.specs.Limits.{handles_max}
 use Rattle.weak_marks.specs.Marks.{Marked}
 use Rattle.cluster_record.specs.declared.calls.Making.{Making}
 use Rattle.cluster_record.specs.declared.entries.Entry.{Entry}
-use Rattle.cluster_record.specs.Calls.{same_actor, put_actor}
+use Rattle.cluster_record.specs.Makings.{makings_of}
 use Rattle.cluster_record.specs.DueSync.{SyncState}
 use Rattle.cluster_record.specs.Places.{change_key}
-use Rattle.cluster_record.specs.RecordState.{RecordState, entry_of, identity_of, complete_of, stays, swept}
+use Rattle.cluster_record.specs.RecordState.{RecordState, entry_of, identity_of, complete_of, is_call_of, stays, swept}
 use Rattle.cluster_record.proofs.IdentityLaws.{KeepsIdentity, IdentitiesRise-change_key, AllUpTo-change_key}
+use Rattle.cluster_record.proofs.MakingCounts.{one_if, makings_of-changed}
 use Rattle.ckpt_machine.specs.Drivers as drivers
 use Rattle.ckpt_machine.specs.Entries.{AllStay, WasMade}
 use Rattle.ckpt_machine.specs.InHand.{attributes_asked, IsMakingIn, IsInHand}
-use Rattle.ckpt_machine.specs.Invariant.{IsMaker, IsGoodIn, IsOfGeneration, IsCompleteAt, InvariantIn}
-use Rattle.ckpt_machine.specs.Machine.{Machine, ReplicaState, Snapshot, CallState}
+use Rattle.ckpt_machine.specs.Invariant.{IsMaker, IsGoodIn, IsOfGeneration, IsCompleteAt, HasPlaces, InvariantIn}
+use Rattle.ckpt_machine.specs.Machine.{Machine, ReplicaState, Snapshot, CallState, who}
 use Rattle.ckpt_machine.specs.Shape.{Shape, IsCompleteOn, IsOwner, IsMarker, IsHolder, IsSpread}
 use Rattle.ckpt_machine.specs.Steps.{driver_of, with_record, opened_state, replica_under, reservation_under, snapshot_under}
-use Rattle.ckpt_machine.proofs.Actors.{same_actor-true}
+use Rattle.ckpt_machine.proofs.CallsKept.{IsSameCall, same_call-None, apart_from, calls_left}
 use Rattle.ckpt_machine.proofs.EntryLists.{find_key-change_key, AllStay-change_key, swept-all}
 use Rattle.ckpt_machine.proofs.Handles.{IsGoodHandle-later}
 use Rattle.ckpt_machine.proofs.NodeLists.{slice_index-replicate}
 use Rattle.ckpt_machine.proofs.OptionLemmas.{IsSomeAnd-at}
 use Rattle.ckpt_machine.proofs.OtherCalls.{LooksAlike, LooksLater, LooksLater-refl, making_still, IsIn-apart, IsInHand-alike, IsGoodIn-alike}
-use Rattle.ckpt_machine.proofs.ReplicaSteps.{put_actor-cases, put_actor-other}
+use Rattle.ckpt_machine.specs.Whose.{put_who, same_who}
+use Rattle.ckpt_machine.proofs.Whose.{put_who-cases, put_who-other, apart_states}
 
-module _ (m : Machine) (shapes : ℕ → Shape) (inv : InvariantIn shapes m) (s : CallState) (u : SyncState) (held : m.in_hand s.call.actor ≡ Some s) (is : driver_of s ≡ drivers.Sync u) where
+module _ (m : Machine) (shapes : ℕ → Shape) (inv : InvariantIn shapes m) (s : CallState) (u : SyncState) (held : m.in_hand (who s) ≡ Some s) (is : driver_of s ≡ drivers.Sync u) where
   -- ---- other calls
 
-  -- what is in hand with another driver is another's
-  other_by_driver : (d : CallId) (z : CallState) → m.in_hand d.actor ≡ Some z → (driver_of z ≡ drivers.Sync u → ⊥) → same_actor d.actor s.call.actor ≡ false
-  other_by_driver d z there apart = by_test (same_actor d.actor s.call.actor) refl
-    where
-      by_test : (b : Bool) → same_actor d.actor s.call.actor ≡ b → same_actor d.actor s.call.actor ≡ false
-      by_test false is_not = is_not
-      by_test true same = absurd (apart (ap driver_of (same_Some z s (sym there ∙ ap m.in_hand (same_actor-true d.actor s.call.actor same) ∙ held)) ∙ is))
+  -- what is in hand with another driver is another call
+  other_by_driver : (z : CallState) → m.in_hand (who z) ≡ Some z → (driver_of z ≡ drivers.Sync u → ⊥) → same_who (who z) (who s) ≡ false
+  other_by_driver z there apart = apart_states m.in_hand z s there held (λ same. apart (ap driver_of same ∙ is))
 
-  pub owner_other : (j : ℕ) (sh : Shape) (d : CallId) → IsOwner m j sh d → same_actor d.actor s.call.actor ≡ false
-  owner_other j sh d own = other_by_driver d own.state own.in_hand (λ same. let w : drivers.Update own.driver ≡ drivers.Sync u = sym own.driver_is ∙ same in cc w)
+  pub owner_other : (j : ℕ) (sh : Shape) (d : CallId) (own : IsOwner m j sh d) → same_who (who own.state) (who s) ≡ false
+  owner_other j sh d own = other_by_driver own.state own.in_hand (λ same. let w : drivers.Update own.driver ≡ drivers.Sync u = sym own.driver_is ∙ same in cc w)
 
-  pub marker_other : (j : ℕ) (marks : Marked) → IsMarker m j marks → same_actor marks.call.actor s.call.actor ≡ false
-  marker_other j marks own = other_by_driver marks.call own.state own.in_hand (λ same. let w : drivers.Active own.driver ≡ drivers.Sync u = sym own.driver_is ∙ same in cc w)
+  pub marker_other : (j : ℕ) (marks : Marked) (own : IsMarker m j marks) → same_who (who own.state) (who s) ≡ false
+  marker_other j marks own = other_by_driver own.state own.in_hand (λ same. let w : drivers.Active own.driver ≡ drivers.Sync u = sym own.driver_is ∙ same in cc w)
 
-  maker_other : (j : ℕ) (d : CallId) → IsMaker m j d → same_actor d.actor s.call.actor ≡ false
-  maker_other j d own = other_by_driver d own.state own.in_hand (λ same. let w : drivers.Open own.driver ≡ drivers.Sync u = sym own.driver_is ∙ same in cc w)
+  maker_other : (j : ℕ) (d : CallId) (own : IsMaker m j d) → same_who (who own.state) (who s) ≡ false
+  maker_other j d own = other_by_driver own.state own.in_hand (λ same. let w : drivers.Open own.driver ≡ drivers.Sync u = sym own.driver_is ∙ same in cc w)
 
   -- so is the holder of another checkpoint
-  holder_other : (j : ℕ) (active : Option ℕ) (d : CallId) → (j == u.ckpt) ≡ false → IsHolder m j active d → same_actor d.actor s.call.actor ≡ false
-  holder_other j active d other own = other_by_driver d own.state own.in_hand (λ same.
+  holder_other : (j : ℕ) (active : Option ℕ) (d : CallId) → (j == u.ckpt) ≡ false → (own : IsHolder m j active d) → same_who (who own.state) (who s) ≡ false
+  holder_other j active d other own = other_by_driver own.state own.in_hand (λ same.
       let both : drivers.Sync own.driver ≡ drivers.Sync u = sym own.driver_is ∙ same in
       let driver : own.driver ≡ u = cc both in
       let ckpt : j ≡ u.ckpt = sym own.ckpt ∙ ap (λ (x : SyncState). x.ckpt) driver in
@@ -59,7 +59,7 @@ module _ (m : Machine) (shapes : ℕ → Shape) (inv : InvariantIn shapes m) (s 
 
   -- ---- its checkpoint is gone, and it ends
 
-  pub gone_ends : entry_of u.ckpt m.cluster.entries ≡ None → InvariantIn shapes (record m { in_hand = put_actor m.in_hand s.call.actor None })
+  pub gone_ends : entry_of u.ckpt m.cluster.entries ≡ None → InvariantIn shapes (record m { in_hand = put_who m.in_hand (who s) None })
   gone_ends gone = record {
     up = inv.up;
     none_live = inv.none_live;
@@ -69,21 +69,23 @@ module _ (m : Machine) (shapes : ℕ → Shape) (inv : InvariantIn shapes m) (s 
     entries = λ j e found.
         let other = apart j e found (j == u.ckpt) refl in
         IsGoodIn-alike m (record m { in_hand = hands }) j (shapes j) e (λ q there. refl)
-        (λ d own. put_actor-other m.in_hand s.call.actor None d.actor (owner_other j (shapes j) d own)) (λ marks own. put_actor-other m.in_hand s.call.actor None marks.call.actor (marker_other j marks own))
-        (λ active d own. put_actor-other m.in_hand s.call.actor None d.actor (holder_other j active d other own)) (λ d own. put_actor-other m.in_hand s.call.actor None d.actor (maker_other j d own)) e.making (inv.entries j e found);
+        (λ d own. put_who-other m.in_hand (who s) None (who own.state) (owner_other j (shapes j) d own)) (λ marks own. put_who-other m.in_hand (who s) None (who own.state) (marker_other j marks own))
+        (λ active d own. put_who-other m.in_hand (who s) None (who own.state) (holder_other j active d other own)) (λ d own. put_who-other m.in_hand (who s) None (who own.state) (maker_other j d own)) e.making (inv.entries j e found);
     replicas = inv.replicas;
     reserves = inv.reserves;
     handles = inv.handles;
     rest = inv.rest;
     clients = inv.clients;
-    hands = λ b z left. elim (put_actor-cases m.in_hand s.call.actor None b z left) [
+    places = inv.places;
+    hands = λ b z left. elim (put_who-cases m.in_hand (who s) None b z left) [
       | inl here ↦ absurd (let w : None ≡ Some z = here.1 in cc w)
-      | inr other ↦ (let was = inv.hands b z other.1 in record { actor = was.actor; client = was.client; number = was.number; built = was.built; driven = was.driven; live = was.live; here = IsIn-apart m shapes m.next hands z (driver_of z) was.here })
+      | inr other ↦ (let was = inv.hands b z other.1 in record { whose = was.whose; client = was.client; number = was.number; built = was.built; driven = was.driven; live = was.live; here = IsIn-apart m shapes m.next m.pending hands z (driver_of z) was.here })
     ];
+    calls = calls_left m.in_hand m.pending m.next inv.calls s held None (same_call-None s);
   }
     where
-      hands : ActorName → Option CallState
-      hands = put_actor m.in_hand s.call.actor None
+      hands : Who → Option CallState
+      hands = put_who m.in_hand (who s) None
 
       apart : (j : ℕ) (e : Entry) → entry_of j m.cluster.entries ≡ Some e → (b : Bool) → (j == u.ckpt) ≡ b → (j == u.ckpt) ≡ false
       apart j e found false other = other
@@ -107,6 +109,14 @@ module _ (m : Machine) (shapes : ℕ → Shape) (inv : InvariantIn shapes m) (s 
 
     pub entry_other : (j : ℕ) → (j == u.ckpt) ≡ false → entry_of j R.entries ≡ entry_of j m.cluster.entries
     entry_other j other = entry_is j ∙ ap (λ b. cond b (Some f) (entry_of j m.cluster.entries)) other
+
+    -- as many checkpoints are in the making by each client
+    places_then : HasPlaces m.tables R.entries
+    places_then c =
+        let none : one_if (is_call_of c e.making) ≡ 0 = ap (λ (x : Option CallId). one_if (is_call_of c x)) made in
+        let none_then : one_if (is_call_of c (change e).making) ≡ 0 = ap (λ (x : Option CallId). one_if (is_call_of c x)) (ap (λ (x : Entry). x.making) f_is ∙ still_made) in
+        let place : length (m.tables (Client c)).handles + makings_of c m.cluster.entries ≤ handles_max = inv.places c in
+        omega (arith, place, makings_of-changed c change u.ckpt m.cluster.entries e found, none, none_then)
 
     -- no entry is over
     stay : AllStay m.cluster.moment R.entries
@@ -213,13 +223,13 @@ module _ (m : Machine) (shapes : ℕ → Shape) (inv : InvariantIn shapes m) (s 
     module _ (F : ℕ → ℕ → Option ReplicaState) (elsewhere : (j q : ℕ) → (j == u.ckpt) ≡ false → F j q ≡ m.replicas j q) (o : Option CallState) where
       -- with these replicas, and with this left of the call
       abbrev pub then_machine : Machine
-      then_machine = record m { cluster = R; replicas = F; snapshots = left_snapshots; in_hand = put_actor m.in_hand s.call.actor o }
+      then_machine = record m { cluster = R; replicas = F; snapshots = left_snapshots; in_hand = put_who m.in_hand (who s) o }
 
       -- another checkpoint is as it was
       IsGoodIn-other : (j : ℕ) (g : Entry) (maker : Option CallId) → (j == u.ckpt) ≡ false → IsGoodIn m j (shapes j) g maker → IsGoodIn then_machine j (shapes j) g maker
       IsGoodIn-other j g maker other good = IsGoodIn-alike m then_machine j (shapes j) g (λ q there. elsewhere j q other)
-          (λ d own. put_actor-other m.in_hand s.call.actor o d.actor (owner_other j (shapes j) d own)) (λ marks own. put_actor-other m.in_hand s.call.actor o marks.call.actor (marker_other j marks own))
-          (λ active d own. put_actor-other m.in_hand s.call.actor o d.actor (holder_other j active d other own)) (λ d own. put_actor-other m.in_hand s.call.actor o d.actor (maker_other j d own)) maker good
+          (λ d own. put_who-other m.in_hand (who s) o (who own.state) (owner_other j (shapes j) d own)) (λ marks own. put_who-other m.in_hand (who s) o (who own.state) (marker_other j marks own))
+          (λ active d own. put_who-other m.in_hand (who s) o (who own.state) (holder_other j active d other own)) (λ d own. put_who-other m.in_hand (who s) o (who own.state) (maker_other j d own)) maker good
 
       -- another call makes what it made
       making_then : (z : CallState) (w : Making) → IsMakingIn m z w → IsMakingIn then_machine z w
@@ -244,12 +254,12 @@ module _ (m : Machine) (shapes : ℕ → Shape) (inv : InvariantIn shapes m) (s 
                   let g_is : g ≡ e = same_Some g e (sym was ∙ ap (λ n. entry_of n m.cluster.entries) (eqb-true w.ckpt u.ckpt same) ∙ found) in
                   absurd (let v : None ≡ Some z.call = sym made ∙ ap (λ (x : Entry). x.making) (sym g_is) ∙ made_by in cc v)
 
-      module _ (looks : (z : CallState) → same_actor z.call.actor s.call.actor ≡ false → LooksLater z (shapes u.ckpt).marks e f) where
-        looks_then : (z : CallState) → same_actor z.call.actor s.call.actor ≡ false → LooksAlike m then_machine shapes shapes z
+      module _ (looks : (z : CallState) → z.call ≢ s.call → LooksLater z (shapes u.ckpt).marks e f) where
+        looks_then : (z : CallState) → z.call ≢ s.call → LooksAlike m then_machine shapes shapes z
         looks_then z other = record {
           up = λ r up. up;
           lives = refl;
-          tables = refl;
+          handle = λ there. there;
           making = λ v at. making_still m then_machine z v (making_then z) at;
           made = WasMade-then;
           later = λ j was g there. by_test j g there (j == u.ckpt) refl;
@@ -265,8 +275,8 @@ module _ (m : Machine) (shapes : ℕ → Shape) (inv : InvariantIn shapes m) (s 
                 (e, ap (λ n. entry_of n m.cluster.entries) (sym k_is) ∙ found, subst (λ n. LooksLater z (shapes n).marks e g) k_is (subst (LooksLater z (shapes u.ckpt).marks e) g_is (looks z other)))
 
         -- the invariant holds after it, where it holds of the checkpoint, of the replicas and of the call
-        pub entry_keeps : IsSpread then_machine u.ckpt (shapes u.ckpt) f → ((j q : ℕ) (x : ReplicaState) → F j q ≡ Some x → IsCompleteAt R j q x.generation) → ((z : CallState) → o ≡ Some z → IsInHand then_machine shapes s.call.actor z) → InvariantIn shapes then_machine
-        entry_keeps spread complete_then own = record {
+        pub entry_keeps : IsSameCall s o → IsSpread then_machine u.ckpt (shapes u.ckpt) f → ((j q : ℕ) (x : ReplicaState) → F j q ≡ Some x → IsCompleteAt R j q x.generation) → ((z : CallState) → o ≡ Some z → IsInHand then_machine shapes (who s) z) → InvariantIn shapes then_machine
+        entry_keeps same_call spread complete_then own = record {
           up = inv.up;
           none_live = inv.none_live;
           rises = IdentitiesRise-change_key change keeps u.ckpt m.cluster.entries inv.rises;
@@ -278,12 +288,14 @@ module _ (m : Machine) (shapes : ℕ → Shape) (inv : InvariantIn shapes m) (s 
           handles = λ b h among. IsGoodHandle-later m.cluster R WasMade-then (λ j was g there. let x = before j g there in (x.entry, x.was, x.declares, λ r complete. ap (λ cs. slice_index cs r == 0) x.nodes ∙ complete)) b h refl (inv.handles b h among);
           rest = inv.rest;
           clients = inv.clients;
-          hands = λ b z there. elim (put_actor-cases m.in_hand s.call.actor o b z there) [
+          places = places_then;
+          hands = λ b z there. elim (put_who-cases m.in_hand (who s) o b z there) [
             | inl here ↦ subst (λ c. IsInHand then_machine shapes c z) (sym here.0) (own z here.1)
             | inr other ↦ (
                 let was = inv.hands b z other.1 in
-                IsInHand-alike m then_machine shapes shapes z (looks_then z (ap (λ c. same_actor c s.call.actor) was.actor ∙ other.0)) b (λ live. live) was.number was)
+                IsInHand-alike m then_machine shapes shapes z (looks_then z (apart_from m.in_hand m.pending m.next inv.calls s held b z other.1 other.0)) b (λ live. live) was.number was)
           ];
+          calls = calls_left m.in_hand m.pending m.next inv.calls s held o same_call;
         }
           where
             by_test : (j : ℕ) (g : Entry) → entry_of j R.entries ≡ Some g → (b : Bool) → (j == u.ckpt) ≡ b → IsGoodIn then_machine j (shapes j) g g.making

@@ -6,7 +6,6 @@ use Rattle.ckpt_types.specs.declared.ais_error.AisError.TheVariants.{NoResources
 use Rattle.ckpt_types.specs.declared.answers.Cause.TheVariants.{Plain, Count, Holder, Generations}
 use Rattle.ckpt_types.specs.declared.answers.Outcome.TheVariants.{Refused}
 use Rattle.ckpt_types.specs.declared.answers.Outcome.{Outcome}
-use Rattle.ckpt_types.specs.declared.identities.ActorName.{ActorName}
 use Rattle.ckpt_types.specs.declared.identities.CallId.{CallId}
 use Rattle.ckpt_types.specs.declared.sections.Choice.{Choice}
 use Rattle.node_msgs.specs.declared.requests.Request.{Request}
@@ -34,7 +33,7 @@ use Rattle.ckpt_types.specs.Asks.{asked, update_asked, update_of, IsBuiltAsk, Is
 use Rattle.ckpt_machine.specs.Drivers.{Driver, Rooms}
 use Rattle.ckpt_machine.specs.Drivers as drivers
 use Rattle.ckpt_machine.specs.Driving.{driver_next}
-use Rattle.ckpt_machine.specs.Machine.{Machine, CallState}
+use Rattle.ckpt_machine.specs.Machine.{Machine, CallState, who}
 use Rattle.node_core.specs.Fitting.{IsReadyFor}
 use Rattle.ckpt_machine.specs.Steps.{due, driver_of, room_in, room_at, rooms_of, seen_at, seen, seen_slot}
 use Rattle.ckpt_machine.specs.Facts.{IsActive, IsAtRest, IsLeadable, IsServable, IsEventReady, IsStarting, IsGoingOn, HasCopyRoom, Facts}
@@ -66,6 +65,7 @@ use Rattle.ckpt_machine.proofs.OpenReady.{IsReadyOpen, open_ready, open_fits}
 use Rattle.ckpt_machine.proofs.OwnMaking.{making_is}
 use Rattle.ckpt_machine.proofs.Propagated.{complete_there, target_there, target_free}
 use Rattle.ckpt_machine.proofs.UpdateReady.{HasMoment, HasOwn, IsReadyNext, update_ready}
+use Rattle.ckpt_types.specs.declared.identities.Who.{Who}
 use Rattle.ckpt_machine.proofs.OptionLemmas.{IsSomeAnd-from, IfSome-at}
 
 -- what it relies on of a weak write that begins, of an iteration that is started, and of one that goes on; and of a pull and an installation
@@ -116,13 +116,13 @@ update_due m s u ready = by_entry (entry_of u.ckpt m.cluster.entries) ready
 
 -- ---- a call to the active
 
-module _ (m : Machine) (shapes : ℕ → Shape) (inv : InvariantIn shapes m) (s : CallState) (call : CallId) (k : ℕ) (kind : ActiveKind) (made : Option MarksMade) (held : m.in_hand s.call.actor ≡ Some s) (is : driver_of s ≡ drivers.Active (record { call = call; ckpt = k; kind = kind; marks = made })) where
+module _ (m : Machine) (shapes : ℕ → Shape) (inv : InvariantIn shapes m) (s : CallState) (call : CallId) (k : ℕ) (kind : ActiveKind) (made : Option MarksMade) (held : m.in_hand (who s) ≡ Some s) (is : driver_of s ≡ drivers.Active (record { call = call; ckpt = k; kind = kind; marks = made })) where
   at_active : IsActiveIn m shapes s (record { call = call; ckpt = k; kind = kind; marks = made })
-  at_active = subst (λ d. IsInPlace m shapes s d) is (inv.hands s.call.actor s held).here
+  at_active = subst (λ d. IsInPlace m shapes s d) is (inv.hands (who s) s held).here
 
   -- its operation is built
   built : IsBuilt s.op
-  built = (inv.hands s.call.actor s held).built
+  built = (inv.hands (who s) s held).built
 
   abbrev driver : Driver
   driver = drivers.Active (record { call = call; ckpt = k; kind = kind; marks = made })
@@ -202,7 +202,7 @@ module _ (m : Machine) (shapes : ℕ → Shape) (inv : InvariantIn shapes m) (s 
 
 -- ---- a synchronisation
 
-module _ (m : Machine) (shapes : ℕ → Shape) (inv : InvariantIn shapes m) (s : CallState) (u : SyncState) (held : m.in_hand s.call.actor ≡ Some s) (is : driver_of s ≡ drivers.Sync u) (sync : (deadline : Option ℤ) × (u.kind ≡ Synchronize deadline)) where
+module _ (m : Machine) (shapes : ℕ → Shape) (inv : InvariantIn shapes m) (s : CallState) (u : SyncState) (held : m.in_hand (who s) ≡ Some s) (is : driver_of s ≡ drivers.Sync u) (sync : (deadline : Option ℤ) × (u.kind ≡ Synchronize deadline)) where
   its : IsSynchronizeIn m s u
   its = at_sync m shapes inv s u held is sync
 
@@ -248,7 +248,7 @@ module _ (m : Machine) (shapes : ℕ → Shape) (inv : InvariantIn shapes m) (s 
 
 -- ---- the setting of an active
 
-module _ (m : Machine) (shapes : ℕ → Shape) (inv : InvariantIn shapes m) (s : CallState) (u : SyncState) (held : m.in_hand s.call.actor ≡ Some s) (is : driver_of s ≡ drivers.Sync u) (local : ℕ) (kind : u.kind ≡ ActiveSet local) where
+module _ (m : Machine) (shapes : ℕ → Shape) (inv : InvariantIn shapes m) (s : CallState) (u : SyncState) (held : m.in_hand (who s) ≡ Some s) (is : driver_of s ≡ drivers.Sync u) (local : ℕ) (kind : u.kind ≡ ActiveSet local) where
   sets : IsSettingIn m s u local
   sets = at_setting m shapes inv s u held is local kind
 
@@ -314,7 +314,7 @@ module _ (m : Machine) (shapes : ℕ → Shape) (inv : InvariantIn shapes m) (s 
       by_entry (Some e) found = subst (IsDueReady m s (drivers.Sync u)) (sym (ap (sync_on m.cluster u) found ∙ ap (kind_next m.cluster u e) kind)) (by_hold e found e.hold refl)
 
 -- either of the two
-sync_ready : (m : Machine) (shapes : ℕ → Shape) (inv : InvariantIn shapes m) (s : CallState) (u : SyncState) → m.in_hand s.call.actor ≡ Some s → driver_of s ≡ drivers.Sync u → IsDueReady m s (drivers.Sync u) (sync_next m.cluster u)
+sync_ready : (m : Machine) (shapes : ℕ → Shape) (inv : InvariantIn shapes m) (s : CallState) (u : SyncState) → m.in_hand (who s) ≡ Some s → driver_of s ≡ drivers.Sync u → IsDueReady m s (drivers.Sync u) (sync_next m.cluster u)
 sync_ready m shapes inv s u held is = by_kind u.kind refl
   where
     by_kind : (kind : SyncKind) → u.kind ≡ kind → IsDueReady m s (drivers.Sync u) (sync_next m.cluster u)
@@ -359,9 +359,9 @@ module _ (m : Machine) (s : CallState) where
 
 -- ---- any call
 
-module _ (m : Machine) (shapes : ℕ → Shape) (inv : InvariantIn shapes m) (s : CallState) (held : m.in_hand s.call.actor ≡ Some s) where
+module _ (m : Machine) (shapes : ℕ → Shape) (inv : InvariantIn shapes m) (s : CallState) (held : m.in_hand (who s) ≡ Some s) where
   here_is : (d : Driver) → driver_of s ≡ d → IsInPlace m shapes s d
-  here_is d is = subst (λ d. IsInPlace m shapes s d) is (inv.hands s.call.actor s held).here
+  here_is d is = subst (λ d. IsInPlace m shapes s d) is (inv.hands (who s) s held).here
 
   -- what is due of any call
   driver_ready : (d : Driver) → driver_of s ≡ d → IsDueReady m s d (driver_next m.cluster (rooms_of m s) d)
@@ -374,20 +374,22 @@ module _ (m : Machine) (shapes : ℕ → Shape) (inv : InvariantIn shapes m) (s 
 -- ---- the facts
 
 module _ (m : Machine) (inv : Invariant m) where
-  -- a call in hand is in its own actor's
-  in_own : (a : ActorName) (s : CallState) → m.in_hand a ≡ Some s → m.in_hand s.call.actor ≡ Some s
-  in_own a s here = ap m.in_hand (inv.holds.hands a s here).actor ∙ here
+  -- a call in hand is so under its own name
+  in_own : (a : Who) (s : CallState) → m.in_hand a ≡ Some s → m.in_hand (who s) ≡ Some s
+  in_own a s here = ap m.in_hand (inv.holds.hands a s here).whose ∙ here
 
-  all_ready : (a : ActorName) (s : CallState) → m.in_hand a ≡ Some s → IsDueReady m s (driver_of s) (due m s)
+  all_ready : (a : Who) (s : CallState) → m.in_hand a ≡ Some s → IsDueReady m s (driver_of s) (due m s)
   all_ready a s here = driver_ready m inv.shapes inv.holds s (in_own a s here) (driver_of s) refl
 
-  ready_for : (a : ActorName) (s : CallState) (next : Next) → m.in_hand a ≡ Some s → due m s ≡ next → IsDueReady m s (driver_of s) next
+  ready_for : (a : Who) (s : CallState) (next : Next) → m.in_hand a ≡ Some s → due m s ≡ next → IsDueReady m s (driver_of s) next
   ready_for a s next here is = subst (IsDueReady m s (driver_of s)) is (all_ready a s here)
 
 -- what the code relies on
 pub facts : (m : Machine) → Invariant m → Facts m
 facts m inv = record {
-  callers = λ a s here. (inv.holds.hands a s here).actor;
+  callers = λ a s here. (inv.holds.hands a s here).whose;
+  clients = λ a s here. (inv.holds.hands a s here).client;
+  calls = inv.holds.calls;
   built = λ a s here. (inv.holds.hands a s here).built;
   driven = λ a s here. (inv.holds.hands a s here).driven;
   rises = inv.holds.rises;

@@ -1,5 +1,5 @@
 -- A making is finished on all nodes that are up: the checkpoint is made there, and the calls of others are where they were.
-use Rattle.std.proofs.Common.{◌≡◌, ◌≢◌, ℕ, inl, inr, List, [], length, Option, Some, None, Bool, true, false, cond, ◌==◌, refl, sym, ap, subst, ◌∙◌}
+use Rattle.std.proofs.Common.{◌≡◌, ◌≢◌, ℕ, ◌+◌, ◌≤◌, arith, inl, inr, List, [], length, Option, Some, None, Bool, true, false, cond, ◌==◌, refl, sym, ap, subst, ◌∙◌}
 use Rattle.std.specs.Prelude.{IsSome, IsSomeAnd, IfSome, slice_index}
 use Rattle.std.proofs.lemmas.Bool.{eqb-true, eq-eqb}
 use Rattle.std.proofs.lemmas.Option.{same_Some}
@@ -9,7 +9,6 @@ use Rattle.ckpt_types.specs.Sections.{opening}
 use Rattle.cluster_record.specs.declared.calls.Making.{Making}
 use Rattle.cluster_record.specs.declared.entries.Entry.{Entry}
 use Rattle.cluster_record.specs.DueOpen.{OpenState}
-use Rattle.cluster_record.specs.Calls.{same_actor, put_actor}
 use Rattle.cluster_record.specs.Places.{put, change_key}
 use Rattle.cluster_record.specs.RecordState.{RecordState, entry_of, identity_of, complete_of, first_complete, home_of, made_with, finished}
 use Rattle.cluster_record.proofs.IdentityLaws.{IdentitiesRise-change_key, AllUpTo-change_key}
@@ -19,21 +18,27 @@ use Rattle.ckpt_machine.specs.InHand.{is_marked_by, attributes_asked, IsMakingIn
 use Rattle.ckpt_types.specs.Asks.{asked}
 use Rattle.weak_marks.specs.Marks.{Marked}
 use Rattle.ckpt_machine.specs.Invariant.{IsMaker, IsGoodIn, IsOfGeneration, InvariantIn}
-use Rattle.ckpt_machine.specs.Machine.{Machine, ReplicaState, CallState}
+use Rattle.ckpt_machine.specs.Machine.{Machine, ReplicaState, CallState, who}
 use Rattle.ckpt_machine.specs.Steps.{driver_of, with_record, replica_under, reservation_under, opened_state}
 use Rattle.ckpt_machine.specs.Shape.{Shape, IsCompleteOn, IsShapedBy, is_owner, IsOwner, IsMarker, IsActiveBy, IsHolder, IsSpread}
-use Rattle.ckpt_machine.proofs.ReplicaSteps.{put_actor-cases, put_actor-other}
 use Rattle.ckpt_machine.proofs.Handles.{IsGoodHandle-later}
 use Rattle.ckpt_machine.proofs.OtherCalls.{LooksAlike, LooksLater-refl, making_still, IsInHand-alike, IsGoodIn-alike}
 use Rattle.ckpt_machine.proofs.OptionLemmas.{IsSomeAnd-at, IsSomeAnd-from}
 use Rattle.ckpt_machine.proofs.MarksAt.{none_marked}
 use Rattle.ckpt_machine.proofs.Targets.{targets-length}
 use Rattle.cluster_record.specs.Placement.{is_collocated, targets}
-use Rattle.ckpt_machine.proofs.Actors.{same_actor-refl, same_actor-true}
+use Rattle.ckpt_machine.proofs.CallsKept.{apart_from, same_call-None, calls_left}
+use Rattle.ckpt_machine.proofs.OwnMaking.{owner_apart, marker_apart, holder_apart, maker_same}
+use Rattle.ckpt_types.specs.declared.identities.ActorName.TheVariants.{Client}
+use Rattle.ckpt_types.specs.Limits.{handles_max}
+use Rattle.cluster_record.specs.Makings.{makings_of}
+use Rattle.cluster_record.proofs.MakingCounts.{makings_of-finished}
 use Rattle.ckpt_machine.proofs.EntryLists.{find_key-change_key}
 use Rattle.ckpt_machine.proofs.OnComplete.{under_complete}
 use Rattle.ckpt_machine.proofs.ReservedUnder.{was_reserved}
 use Rattle.ckpt_machine.proofs.NodeLists.{slice_index-replicate}
+use Rattle.ckpt_machine.specs.Whose.{put_who}
+use Rattle.ckpt_machine.proofs.Whose.{same_who-false, put_who-cases, put_who-other}
 use Rattle.ckpt_machine.specs.Options.{is_all}
 
 -- the first active is one by the complete nodes
@@ -41,7 +46,7 @@ first_active_by : (collocated : Bool) (cs : List ℕ) → IsActiveBy collocated 
 first_active_by true cs = tt
 first_active_by false cs = refl
 
-module _ (m : Machine) (shapes : ℕ → Shape) (inv : InvariantIn shapes m) (s : CallState) (o : OpenState) (making : Making) (held : m.in_hand s.call.actor ≡ Some s) (is : driver_of s ≡ drivers.Open o) (makes : o.making ≡ Some making)
+module _ (m : Machine) (shapes : ℕ → Shape) (inv : InvariantIn shapes m) (s : CallState) (o : OpenState) (making : Making) (held : m.in_hand (who s) ≡ Some s) (is : driver_of s ≡ drivers.Open o) (makes : o.making ≡ Some making)
     (c : ℕ) (e : Entry) (found : entry_of making.ckpt m.cluster.entries ≡ Some e) (by : e.making ≡ Some s.call) (some : IsSome (first_complete 0 (targets e.attributes (home_of c m.cluster) m.cluster.up))) (none_else : (r : ℕ) → (slice_index (targets e.attributes (home_of c m.cluster) m.cluster.up) r == 0) ≡ true → m.reserved making.ckpt r ≡ None) (stays : AllStay m.cluster.moment (change_key identity_of making.ckpt (made_with (home_of c m.cluster) m.cluster.up c) m.cluster.entries)) where
   abbrev k : ℕ
   k = making.ckpt
@@ -53,7 +58,7 @@ module _ (m : Machine) (shapes : ℕ → Shape) (inv : InvariantIn shapes m) (s 
   f = made_with (home_of c m.cluster) m.cluster.up c e
 
   abbrev then_machine : Machine
-  then_machine = record (with_record m R) { in_hand = put_actor m.in_hand s.call.actor None }
+  then_machine = record (with_record m R) { in_hand = put_who m.in_hand (who s) None }
 
   -- ---- entries
 
@@ -82,57 +87,22 @@ module _ (m : Machine) (shapes : ℕ → Shape) (inv : InvariantIn shapes m) (s 
 
   -- ---- calls of others
 
-  other_actor : (d : CallId) (z : CallState) → m.in_hand d.actor ≡ Some z → z.call ≡ d → d ≢ s.call → same_actor d.actor s.call.actor ≡ false
-  other_actor d z there call_is other = by_test (same_actor d.actor s.call.actor) refl
-    where
-      by_test : (b : Bool) → same_actor d.actor s.call.actor ≡ b → same_actor d.actor s.call.actor ≡ false
-      by_test false is_not = is_not
-      by_test true same =
-          let state : z ≡ s = same_Some z s (sym there ∙ ap m.in_hand (same_actor-true d.actor s.call.actor same) ∙ held) in
-          absurd (other (sym call_is ∙ ap (λ (x : CallState). x.call) state))
-
   -- an update is no open
-  owner_other : (j : ℕ) (sh : Shape) (d : CallId) → IsOwner m j sh d → d ≢ s.call
-  owner_other j sh d own same =
-      let state : own.state ≡ s = same_Some own.state s (sym own.in_hand ∙ ap (λ (x : CallId). m.in_hand x.actor) same ∙ held) in
-      let apart : drivers.Update own.driver ≡ drivers.Open o = sym own.driver_is ∙ ap driver_of state ∙ is in
-      cc apart
-
-  owner_stays : (j : ℕ) (sh : Shape) (d : CallId) → IsOwner m j sh d → then_machine.in_hand d.actor ≡ m.in_hand d.actor
-  owner_stays j sh d own = put_actor-other m.in_hand s.call.actor None d.actor (other_actor d own.state own.in_hand own.call_is (owner_other j sh d own))
+  owner_stays : (j : ℕ) (sh : Shape) (d : CallId) (own : IsOwner m j sh d) → then_machine.in_hand (who own.state) ≡ m.in_hand (who own.state)
+  owner_stays j sh d own = put_who-other m.in_hand (who s) None (who own.state) (owner_apart m s o held is j sh d own)
 
   -- and so is a weak write
-  marker_stays : (j : ℕ) (marks : Marked) → IsMarker m j marks → then_machine.in_hand marks.call.actor ≡ m.in_hand marks.call.actor
-  marker_stays j marks own = put_actor-other m.in_hand s.call.actor None marks.call.actor (other_actor marks.call own.state own.in_hand own.call_is not_own)
-    where
-      not_own : marks.call ≢ s.call
-      not_own same =
-          let state : own.state ≡ s = same_Some own.state s (sym own.in_hand ∙ ap (λ (x : CallId). m.in_hand x.actor) same ∙ held) in
-          let apart : drivers.Active own.driver ≡ drivers.Open o = sym own.driver_is ∙ ap driver_of state ∙ is in
-          cc apart
+  marker_stays : (j : ℕ) (marks : Marked) (own : IsMarker m j marks) → then_machine.in_hand (who own.state) ≡ m.in_hand (who own.state)
+  marker_stays j marks own = put_who-other m.in_hand (who s) None (who own.state) (marker_apart m s o held is j marks own)
 
   -- the setting of an active is no open
-  holder_stays : (j : ℕ) (active : Option ℕ) (d : CallId) → IsHolder m j active d → then_machine.in_hand d.actor ≡ m.in_hand d.actor
-  holder_stays j active d own = put_actor-other m.in_hand s.call.actor None d.actor (other_actor d own.state own.in_hand own.call_is not_own)
-    where
-      not_own : d ≢ s.call
-      not_own same =
-          let state : own.state ≡ s = same_Some own.state s (sym own.in_hand ∙ ap (λ (x : CallId). m.in_hand x.actor) same ∙ held) in
-          let apart : drivers.Sync own.driver ≡ drivers.Open o = sym own.driver_is ∙ ap driver_of state ∙ is in
-          cc apart
+  holder_stays : (j : ℕ) (active : Option ℕ) (d : CallId) (own : IsHolder m j active d) → then_machine.in_hand (who own.state) ≡ m.in_hand (who own.state)
+  holder_stays j active d own = put_who-other m.in_hand (who s) None (who own.state) (holder_apart m s o held is j active d own)
 
   -- who makes another checkpoint is another call
-  maker_other : (j : ℕ) (d : CallId) → (j == making.ckpt) ≡ false → IsMaker m j d → d ≢ s.call
-  maker_other j d apart own same =
-      let state : own.state ≡ s = same_Some own.state s (sym own.in_hand ∙ ap (λ (x : CallId). m.in_hand x.actor) same ∙ held) in
-      let drivers_same : drivers.Open own.driver ≡ drivers.Open o = sym own.driver_is ∙ ap driver_of state ∙ is in
-      let driver : own.driver ≡ o = cc drivers_same in
-      let both : Some own.making ≡ Some making = sym own.making_is ∙ ap (λ (x : OpenState). x.making) driver ∙ makes in
-      let ckpt : j ≡ making.ckpt = sym own.ckpt ∙ ap (λ (x : Making). x.ckpt) (same_Some own.making making both) in
-      (let w : true ≡ false = sym (eq-eqb j making.ckpt ckpt) ∙ apart in cc w)
-
-  maker_stays : (j : ℕ) (d : CallId) → (j == making.ckpt) ≡ false → IsMaker m j d → then_machine.in_hand d.actor ≡ m.in_hand d.actor
-  maker_stays j d apart own = put_actor-other m.in_hand s.call.actor None d.actor (other_actor d own.state own.in_hand own.call_is (maker_other j d apart own))
+  maker_stays : (j : ℕ) (d : CallId) → (j == making.ckpt) ≡ false → (own : IsMaker m j d) → then_machine.in_hand (who own.state) ≡ m.in_hand (who own.state)
+  maker_stays j d apart own = put_who-other m.in_hand (who s) None (who own.state) (same_who-false (who own.state) (who s) (λ same.
+      let w : true ≡ false = sym (eq-eqb j making.ckpt (maker_same m s o held is making makes j d own same)) ∙ apart in cc w))
 
   -- ---- other checkpoints
 
@@ -225,7 +195,7 @@ module _ (m : Machine) (shapes : ℕ → Shape) (inv : InvariantIn shapes m) (s 
     looks_then = record {
       up = λ r up. up;
       lives = refl;
-      tables = refl;
+      handle = λ there. there;
       making = λ v at. making_still m then_machine z v making_then at;
       made = WasMade-then;
       later = λ j was g found. (g, sym (entry_other j (not_made j was)) ∙ found, LooksLater-refl z (shapes j).marks g);
@@ -265,13 +235,16 @@ module _ (m : Machine) (shapes : ℕ → Shape) (inv : InvariantIn shapes m) (s 
     handles = λ b h among. IsGoodHandle-later m.cluster R WasMade-then (λ j was g found. (g, sym (entry_other j (not_made j was)) ∙ found, refl, λ r there. there)) b h refl (inv.handles b h among);
     rest = inv.rest;
     clients = inv.clients;
-    hands = λ a z there. elim (put_actor-cases m.in_hand s.call.actor None a z there) [
+    places = λ d.
+        let few : length (m.tables (Client d)).handles + makings_of d m.cluster.entries ≤ handles_max = inv.places d in
+        omega (arith, few, makings_of-finished d making.ckpt m.cluster c);
+    hands = λ a z there. elim (put_who-cases m.in_hand (who s) None a z there) [
       | inl here ↦ absurd (let w : None ≡ Some z = here.1 in cc w)
       | inr other ↦ (
           let was = inv.hands a z other.1 in
-          let apart : z.call ≢ s.call = λ same. (let w : true ≡ false = sym (same_actor-refl s.call.actor) ∙ ap (λ b. same_actor b s.call.actor) (ap (λ (x : CallId). x.actor) (sym same) ∙ was.actor) ∙ other.0 in cc w) in
-          IsInHand-alike m then_machine shapes (put shapes making.ckpt opened_shape) z (looks_then z apart) a (λ live. live) was.number was)
+          IsInHand-alike m then_machine shapes (put shapes making.ckpt opened_shape) z (looks_then z (apart_from m.in_hand m.pending m.next inv.calls s held a z other.1 other.0)) a (λ live. live) was.number was)
     ];
+    calls = calls_left m.in_hand m.pending m.next inv.calls s held None (same_call-None s);
   }
     where
       by_test : (j : ℕ) (g : Entry) → entry_of j R.entries ≡ Some g → (b : Bool) → (j == making.ckpt) ≡ b → IsGoodIn then_machine j (put shapes making.ckpt opened_shape j) g g.making

@@ -1,10 +1,11 @@
 -- What a step leaves of replicas and their effects: a replica is where its node is complete; effects are those that were, or of the call that commits, applies, or ends its weak write, or of the snapshot in the hand of one that installs it, or has its client's node lead with it; and a background snapshot is one that was.
 use Rattle.std.proofs.Common.{◌≡◌, ◌⊎◌, ℕ, inl, inr, List, [], ◌∷◌, ◌++◌, Option, Some, None, true, false, cond, ◌==◌, ◌&&◌, ℤ, refl, sym, ap, subst}
-use Rattle.std.specs.Prelude.{IsSomeAnd, slice_index}
+use Rattle.std.specs.Prelude.{Bool, IsSomeAnd, slice_index, if◌then◌else◌}
 use Rattle.std.proofs.lemmas.Bool.{eqb-true, and_parts}
 use Rattle.std.proofs.lemmas.Option.{same_Some}
 use Rattle.ckpt_types.specs.declared.identities.ActorName.{ActorName}
 use Rattle.ckpt_types.specs.declared.identities.CallId.{CallId}
+use Rattle.ckpt_types.specs.declared.identities.Who.{Who}
 use Rattle.ckpt_types.specs.declared.update.Update.{Update}
 use Rattle.weak_marks.specs.Marks.{Marked}
 use Rattle.node_msgs.specs.declared.steps.Verb.{Verb}
@@ -22,6 +23,10 @@ use Rattle.ckpt_machine.specs.Machine.{Machine, Effect, Applied, ReplicaState, S
 use Rattle.ckpt_machine.specs.Owned.{IsEffectOf, HasEffect}
 use Rattle.ckpt_machine.specs.Shape.{IsCompleteOn}
 use Rattle.ckpt_machine.specs.Steps.{with_record, record_step, created_for, retained_for, change_replica, with_slot, staged_moment, with_committed, committed_slot, with_applied, with_marks, with_next_element, next_element_written, without_marks, marks_ended, with_installed, with_lead, led_from, effect_of, changed, on_ok, on_look, without_making, at_some, replica_under, reservation_under, snapshot_under, opened_state}
+use Rattle.ckpt_machine.specs.Steps.{with_closed, goes_with}
+use Rattle.ckpt_machine.specs.Tables.{handle_closed}
+use Rattle.ckpt_machine.specs.Whose.{is_of}
+use Rattle.ckpt_machine.proofs.Dropped.{left_was}
 use Rattle.ckpt_machine.proofs.OptionLemmas.{IsSomeAnd-at}
 
 -- ---- what is so in every state of a run
@@ -52,18 +57,18 @@ pub record HasCopied (m : Machine) (k : ℕ) (call : CallId) : Type 0 where
 
 -- a snapshot in the hand of a call has one
 pub record HasInHand (m : Machine) (call : CallId) : Type 0 where
-  pub actor : ActorName
+  pub name : Who
   pub state : CallState
-  pub held : m.in_hand actor ≡ Some state
+  pub held : m.in_hand name ≡ Some state
   pub snapshot : Snapshot
   pub there : state.snapshot ≡ Some snapshot
   pub effect : HasEffect call snapshot.effects
 
--- what comes of m: bare, with the same calls, with no effects but those that m has and those that are new, and with no snapshot but those that m has
-pub record FollowsIn (m : Machine) (IsNew : ℕ → CallId → Type 0) (R : RecordState) (replicas : ℕ → ℕ → Option ReplicaState) (reserved : ℕ → ℕ → Option ℕ) (snapshots : ℕ → Option Snapshot) (numbers : ActorName → ℕ) (hands : ActorName → Option CallState) : Type 0 where
+-- what comes of m: bare, with no calls but those that m has, with no effects but those that m has and those that are new, and with no snapshot but those that m has
+pub record FollowsIn (m : Machine) (IsNew : ℕ → CallId → Type 0) (R : RecordState) (replicas : ℕ → ℕ → Option ReplicaState) (reserved : ℕ → ℕ → Option ℕ) (snapshots : ℕ → Option Snapshot) (numbers : ActorName → ℕ) (hands : Who → Option CallState) : Type 0 where
   pub bare : IsBareIn R replicas reserved
   pub next : (a : ActorName) → numbers a ≡ m.next a
-  pub in_hand : (a : ActorName) → hands a ≡ m.in_hand a
+  pub in_hand : (w : Who) (z : CallState) → hands w ≡ Some z → m.in_hand w ≡ Some z
   pub effects : (k r : ℕ) (x : ReplicaState) (d : CallId) → replicas k r ≡ Some x → HasEffect d x.effects → Has m k r d ⊎ IsNew k d
   pub copies : (k : ℕ) (s : Snapshot) → snapshots k ≡ Some s → m.snapshots k ≡ Some s
 
@@ -139,7 +144,7 @@ unmarked_effects x d has = by_marks x.marks refl has
 
 module _ (m : Machine) (bare : IsBare m) (IsNew : ℕ → CallId → Type 0) where
   same_follows : ReplicasFollow m IsNew m
-  same_follows = record { bare = bare; next = λ a. refl; in_hand = λ a. refl; effects = λ k r x d there has. inl (record { replica = x; there = there; effect = has }); copies = λ k s is. is }
+  same_follows = record { bare = bare; next = λ a. refl; in_hand = λ w z held. held; effects = λ k r x d there has. inl (record { replica = x; there = there; effect = has }); copies = λ k s is. is }
 
   -- a step of the record
   pub record_follows : (R : RecordState) → ReplicasFollow m IsNew (with_record m R)
@@ -149,7 +154,7 @@ module _ (m : Machine) (bare : IsBare m) (IsNew : ℕ → CallId → Type 0) whe
       reserves = λ k r n is. reserved_under (entry_of k R.entries) r (m.reserved k r) n is;
     };
     next = λ a. refl;
-    in_hand = λ a. refl;
+    in_hand = λ w z held. held;
     effects = λ k r x d is has. elim (came k r x is).1 [
       | inl was ↦ inl (record { replica = x; there = was; effect = has })
       | inr new ↦ absurd (subst (HasEffect d) new has)
@@ -200,6 +205,14 @@ module _ (m : Machine) (bare : IsBare m) (IsNew : ℕ → CallId → Type 0) whe
   changed_replica k r None there change more = same_follows
   changed_replica k r (Some x) there change more = replica_follows k r x (change x) there (λ d. more x d there)
 
+  -- some calls are in hand no more
+  dropped_follows : (n : Machine) (drops : Who → Bool) → ReplicasFollow m IsNew n → ReplicasFollow m IsNew (record n { in_hand = λ w. if drops w then None else n.in_hand w })
+  dropped_follows n drops follows = record { bare = follows.bare; next = follows.next; in_hand = λ w z held. follows.in_hand w z (left_was (drops w) (n.in_hand w) z held); effects = follows.effects; copies = follows.copies }
+
+  -- a handle ends, with the synchronisations over it
+  closed_follows : (s : CallState) (n : Machine) → ReplicasFollow m IsNew n → ReplicasFollow m IsNew (with_closed s n)
+  closed_follows s n follows = dropped_follows n (goes_with (handle_closed (asked s.op) (n.tables s.call.actor)) s.call.actor (n.pending s.call.actor)) follows
+
   -- what is done on OK alone, and at a checkpoint and a node that are named
   ok_follows : (reply : StepReply) (n : Machine) → ReplicasFollow m IsNew n → ReplicasFollow m IsNew (on_ok reply m n)
   ok_follows words.Ok n follows = follows
@@ -222,7 +235,7 @@ module _ (m : Machine) (bare : IsBare m) (IsNew : ℕ → CallId → Type 0) whe
   reserve_follows k r n there = record {
     bare = record { complete = bare.complete; reserves = reserves };
     next = λ a. refl;
-    in_hand = λ a. refl;
+    in_hand = λ w z held. held;
     effects = λ j q x d is has. inl (record { replica = x; there = is; effect = has });
     copies = λ j z is. is;
   }
@@ -338,11 +351,11 @@ module _ (m : Machine) (bare : IsBare m) (IsNew : ℕ → CallId → Type 0) whe
   changed_follows s verbs.Install k r reply new = install_follows s k r reply new
   changed_follows s verbs.Iter k r reply new = ok_follows reply _ (both_follow k r _ (λ k r. same_follows))
   changed_follows s verbs.Next k r reply new = ok_follows reply _ (both_follow k r _ (λ k r. same_follows))
-  changed_follows s verbs.Leave k r reply new = ok_follows reply _ (step_follows (departed (client_of s.call)))
-  changed_follows s verbs.Close k r reply new = ok_follows reply _ (one_follows k _ (λ k. step_follows (closed k (client_of s.call))))
+  changed_follows s verbs.Leave k r reply new = ok_follows reply _ (dropped_follows (record_step (departed (client_of s.call)) m) (is_of s.call.actor) (step_follows (departed (client_of s.call))))
+  changed_follows s verbs.Close k r reply new = ok_follows reply _ (one_follows k _ (λ k. closed_follows s (record_step (closed k (client_of s.call)) m) (step_follows (closed k (client_of s.call)))))
   changed_follows s verbs.Unlink k r reply new = ok_follows reply _ (one_follows k _ (λ k. step_follows (unlinked k)))
   changed_follows s verbs.Retain k r reply new = ok_follows reply _ (one_follows k _ (λ k. step_follows (retained_for (asked s.op) k)))
   changed_follows s verbs.Hold k r reply new = ok_follows reply _ (one_follows k _ (λ k. step_follows (hold_set k s.call)))
   changed_follows s verbs.Activate k r reply new = activate_follows s k r reply new
-  changed_follows s verbs.Look k r reply new = look_follows reply _ _ same_follows (making_follows (making_of s.call m.cluster))
+  changed_follows s verbs.Look k r reply new = look_follows reply _ _ (closed_follows s m same_follows) (making_follows (making_of s.call m.cluster))
   changed_follows s verb k r reply new = same_follows

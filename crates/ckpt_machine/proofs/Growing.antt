@@ -3,6 +3,7 @@ use Rattle.std.proofs.Common.{◌≡◌, ◌⊎◌, ℕ, ◌+◌, ◌<◌, ◌�
 use Rattle.std.specs.Prelude.{IsSome, IsSomeAnd, slice_index}
 use Rattle.std.proofs.lemmas.Bool.{eqb-true, eq-eqb, and_parts, ltb-true, ltb-false}
 use Rattle.std.proofs.lemmas.Option.{same_Some}
+use Rattle.ckpt_machine.proofs.Dropped.{held_as}
 use Rattle.ckpt_types.specs.declared.identities.CallId.{CallId}
 use Rattle.ckpt_types.specs.declared.update.Update.{Update}
 use Rattle.ckpt_types.specs.Asks.{asked, update_of}
@@ -21,7 +22,7 @@ use Rattle.cluster_record.specs.RecordState.{RecordState, entry_of, complete_of,
 use Rattle.cluster_record.proofs.IdentityLaws.{IdentitiesRise-filter}
 use Rattle.ckpt_machine.specs.Guards.{IsOnOwn, Row, Allowed}
 use Rattle.ckpt_machine.specs.Invariant.{Invariant}
-use Rattle.ckpt_machine.specs.Machine.{Machine, Applied, ReplicaState, Snapshot, CallState}
+use Rattle.ckpt_machine.specs.Machine.{Machine, Applied, ReplicaState, Snapshot, CallState, who}
 use Rattle.ckpt_machine.specs.Propagation.{is_behind, replica_from}
 use Rattle.ckpt_machine.specs.Replays.{IsPrefix}
 use Rattle.ckpt_machine.specs.Shape.{IsCompleteOn}
@@ -261,9 +262,9 @@ module _ (m : Machine) (inv : Invariant m) (bare : IsBare m) (each : Each (λ o 
     Installs s verb j q reply = Unit {0}
 
     -- a checkpoint goes on where a call installs what it has pulled there, or sets an active
-    installs : (s : CallState) → m.in_hand s.call.actor ≡ Some s → (verb : Verb) (j q : Option ℕ) (reply : StepReply) (t : Told) → IsOnOwn verb j s.kept.ckpt → Row m s verb (record t { verb = verb; ckpt = j; node = q; reply = reply }) → Installs s verb j q reply
+    installs : (s : CallState) → m.in_hand (who s) ≡ Some s → (verb : Verb) (j q : Option ℕ) (reply : StepReply) (t : Told) → IsOnOwn verb j s.kept.ckpt → Row m s verb (record t { verb = verb; ckpt = j; node = q; reply = reply }) → Installs s verb j q reply
     installs s held verbs.Install j q reply t own row = after_install (GoesOn m k) m s t j q reply row goes_on_same (λ i r z x is in_hand over. (
-        let has : PulledInHand m.in_hand i z = record { actor = s.call.actor; state = s; in_hand = held; ckpt = sym own ∙ is; snapshot = in_hand } in
+        let has : PulledInHand m.in_hand i z = record { name = who s; state = s; in_hand = held; ckpt = sym own ∙ is; snapshot = in_hand } in
         put_goes i r x (replica_from z x) over.on.there (λ e found present. taken_grows i r z x (inr has) over (present ∙ ap (λ (e : Entry). e.generation) (same_Some e over.on.entry (sym found ∙ over.on.found))))))
     installs s held verbs.Activate j q reply t own row = after_activate (GoesOn m k) m inv bare s held t j q reply own row goes_on_same (λ i r on. record_goes (swept (active_set i r m.cluster)) (on k)) (leads_go s)
     installs s held verb j q reply t own row = tt
@@ -297,18 +298,18 @@ module _ (m : Machine) (inv : Invariant m) (bare : IsBare m) (each : Each (λ o 
     steps_go s verb j q reply needs done = goes_on_same
 
     -- a checkpoint goes on by a step of a call in hand that its row allows
-    pub stepped_goes : (s : CallState) → m.in_hand s.call.actor ≡ Some s → (t : Told) → IsOnOwn t.verb t.ckpt s.kept.ckpt → Row m s t.verb t → GoesOn m k (changed m s t.verb t.ckpt t.node t.reply)
+    pub stepped_goes : (s : CallState) → m.in_hand (who s) ≡ Some s → (t : Told) → IsOnOwn t.verb t.ckpt s.kept.ckpt → Row m s t.verb t → GoesOn m k (changed m s t.verb t.ckpt t.node t.reply)
     stepped_goes s held t own row = steps_go s t.verb t.ckpt t.node t.reply (row_needs m inv s t.verb t.ckpt t.node t.reply t.end t.details row) (installs s held t.verb t.ckpt t.node t.reply t own row)
 
     -- a checkpoint goes on by any label that is allowed
     pub after_goes : (l : Label) → Allowed m l → GoesOn m k (after m l)
-    after_goes (labels.Began d op end) allowed = goes_on_same
+    after_goes (labels.Began d op end details) allowed = goes_on_same
     after_goes (labels.Stepped d op verb j q reply end details) allowed =
         let s = allowed.state in
         let t : Told = record { verb = verb; ckpt = j; node = q; reply = reply; end = end; details = details } in
-        let held : m.in_hand s.call.actor ≡ Some s = ap (λ (c : CallId). m.in_hand c.actor) allowed.call_is ∙ allowed.in_hand in
+        let held : m.in_hand (who s) ≡ Some s = held_as m d op s allowed.in_hand allowed.call_is allowed.word in
         subst (λ o. GoesOn m k (step_of m o verb j q reply end)) (sym allowed.in_hand) (stepped_goes s held t allowed.own allowed.row)
-    after_goes (labels.Word who line said) allowed = goes_on_same
+    after_goes (labels.Word by line said) allowed = goes_on_same
     after_goes (labels.Nodes n) allowed = goes_on_same
     after_goes (labels.Moved t) allowed = record_goes (moved t m.cluster) (record { last = omega arith; rises = IdentitiesRise-filter (stays t) m.cluster.entries inv.holds.rises; made = ComesOf-filter StaysMade StaysMade-same (stays t) m.cluster.entries inv.holds.rises k })
     after_goes (labels.Shown j replicas) allowed = goes_on_same

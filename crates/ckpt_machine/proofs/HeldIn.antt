@@ -11,12 +11,13 @@ use Rattle.cluster_record.specs.RecordState.{entry_of}
 use Rattle.ckpt_machine.specs.Guards.{MayLead}
 use Rattle.ckpt_machine.specs.InHand.{is_held_by}
 use Rattle.ckpt_machine.specs.Invariant.{IsGoodIn, Invariant}
-use Rattle.ckpt_machine.specs.Machine.{Machine, ReplicaState, Snapshot, CallState}
+use Rattle.ckpt_machine.specs.Machine.{Machine, ReplicaState, Snapshot, CallState, who}
 use Rattle.ckpt_machine.specs.Propagation.{on_node, copied}
 use Rattle.ckpt_machine.specs.Shape.{IsSpread}
 use Rattle.ckpt_machine.specs.Steps.{driver_of}
 use Rattle.ckpt_machine.proofs.OptionLemmas.{IfSome-at}
 use Rattle.ckpt_machine.proofs.SyncSteps.{drives_setting}
+use Rattle.ckpt_machine.proofs.Whose.{same_state}
 
 -- what the active has is in the hand of the call
 pub record CopyInHand (m : Machine) (s : CallState) (k : ℕ) (e : Entry) : Type 0 where
@@ -41,9 +42,9 @@ copied_from m s k e (Some q) active some copies = by_replica (m.replicas k q) re
     by_replica (Some y) there = record { node = q; source = y; active = active; there = there; in_hand = copies ∙ ap (option_map copied) there }
 
 -- a call that may set a node as the active, as its row says, has that in its hand
-pub held_in : (m : Machine) → Invariant m → (s : CallState) → m.in_hand s.call.actor ≡ Some s → (place : ℕ) → asked s.op ≡ asks.SetActive place → (k r : ℕ) → s.kept.ckpt ≡ Some k → (e : Entry) → entry_of k m.cluster.entries ≡ Some e → MayLead s.call r e.hold e.active → IsHeldIn m k s e e.hold
+pub held_in : (m : Machine) → Invariant m → (s : CallState) → m.in_hand (who s) ≡ Some s → (place : ℕ) → asked s.op ≡ asks.SetActive place → (k r : ℕ) → s.kept.ckpt ≡ Some k → (e : Entry) → entry_of k m.cluster.entries ≡ Some e → MayLead s.call r e.hold e.active → IsHeldIn m k s e e.hold
 held_in m inv s held place is k r kept e found may =
-    let (u, local, driver, at) = drives_setting m inv.shapes s place is (driver_of s) (inv.holds.hands s.call.actor s held).here in
+    let (u, local, driver, at) = drives_setting m inv.shapes s place is (driver_of s) (inv.holds.hands (who s) s held).here in
     let there : entry_of u.ckpt m.cluster.entries ≡ Some e = ap (λ k. entry_of k m.cluster.entries) (same_Some u.ckpt k (sym at.kept ∙ kept)) ∙ found in
     let made : e.making ≡ None = IfSome-at (entry_of u.ckpt m.cluster.entries) (λ (e : Entry). e.making ≡ None) at.made.made e there in
     let spread : IsSpread m k (inv.shapes k) e = subst (IsGoodIn m k (inv.shapes k) e) made (inv.holds.entries k e found) in
@@ -57,5 +58,5 @@ held_in m inv s held place is k r kept e found may =
         empty (Some z) some = absurd (cc some)
     by_hold spread (Some holder) hold may same =
         let by = (spread.held holder hold).holder in
-        let state : by.state ≡ s = same_Some by.state s (sym by.in_hand ∙ ap (λ (c : CallId). m.in_hand c.actor) may ∙ held) in
+        let state : by.state ≡ s = same_state m.in_hand m.pending m.next inv.holds.calls by.state s by.in_hand held (by.call_is ∙ may) in
         copied_from m s k e e.active refl (subst (λ (z : CallState). is_some z.snapshot ≡ true) state by.some) (subst (λ (z : CallState). z.snapshot ≡ option_map copied (on_node (m.replicas k) e.active)) state by.copies)

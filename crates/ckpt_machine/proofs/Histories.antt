@@ -33,7 +33,7 @@ use Rattle.node_core.specs.Serving.{update_answer}
 use Rattle.ckpt_machine.specs.Guards.{HoldOk, IsMadeBy, OnReplica, OnAll, OnActive, CommitOk, ApplyOk, AreMarksOf, UnmarkRow, PullOk, Row, Allowed}
 use Rattle.ckpt_machine.specs.InHand.{IsInPlace, IsUpdateIn}
 use Rattle.ckpt_machine.specs.Invariant.{IsGoodIn, InvariantIn, Invariant}
-use Rattle.ckpt_machine.specs.Machine.{Machine, Staged, ReplicaState, Snapshot, CallState, empty_cluster}
+use Rattle.ckpt_machine.specs.Machine.{Machine, Staged, ReplicaState, Snapshot, CallState, empty_cluster, who}
 use Rattle.ckpt_machine.specs.Options.{is_all, is_weak, is_by_element}
 use Rattle.ckpt_machine.specs.Owned.{HasEffect}
 use Rattle.ckpt_machine.specs.Propagation.{copied, replica_from}
@@ -45,12 +45,15 @@ use Rattle.ckpt_machine.proofs.Joining.{collocated_apart}
 use Rattle.ckpt_machine.proofs.Follows.{IsIncomplete, IsBare, Has, HasCopied, HasInHand, ReplicasFollow, record_follows, replica_follows, StepNeeds, changed_follows}
 use Rattle.ckpt_machine.specs.Runs.{last_from, last, IsRunFrom, IsRun}
 use Rattle.ckpt_machine.proofs.Lawful.{lawful}
-use Rattle.ckpt_machine.proofs.ReplicaSteps.{put_actor-cases}
 use Rattle.ckpt_machine.proofs.Start.{invariant_empty}
 use Rattle.ckpt_machine.proofs.Starting.{first_kept, begun_as}
-use Rattle.ckpt_machine.proofs.Actors.{same_actor-refl, same_actor-true}
+use Rattle.ckpt_machine.proofs.Actors.{same_actor-true}
 use Rattle.ckpt_machine.proofs.NodeLists.{slice_index-replicate}
 use Rattle.ckpt_machine.proofs.Owning.{owner_origin}
+use Rattle.ckpt_machine.specs.Whose.{same_who}
+use Rattle.ckpt_types.specs.OpWord.{stepped_as, word_of_op}
+use Rattle.ckpt_machine.proofs.Dropped.{held_as}
+use Rattle.ckpt_machine.proofs.Whose.{same_who-refl, put_who-cases, one_call}
 use Rattle.ckpt_machine.proofs.OptionLemmas.{IsSomeAnd-at, IsSomeAnd-from}
 
 -- what drives the call commits an update of this checkpoint
@@ -64,12 +67,12 @@ pub record IsCommittingAt (k : ℕ) (d : Driver) : Type 0 where
 pub record HasHistory (m : Machine) : Type 0 where
   pub bare : IsBare m
   pub given : (k r : ℕ) (d : CallId) → Has m k r d → d.number < m.next d.actor
-  pub commits : (k r : ℕ) (s : CallState) → m.in_hand s.call.actor ≡ Some s → Has m k r s.call → IsCommittingAt k (driver_of s)
+  pub commits : (k r : ℕ) (s : CallState) → m.in_hand (who s) ≡ Some s → Has m k r s.call → IsCommittingAt k (driver_of s)
   pub given_copied : (k : ℕ) (d : CallId) → HasCopied m k d → d.number < m.next d.actor
-  pub commits_copied : (k : ℕ) (s : CallState) → m.in_hand s.call.actor ≡ Some s → HasCopied m k s.call → IsCommittingAt k (driver_of s)
+  pub commits_copied : (k : ℕ) (s : CallState) → m.in_hand (who s) ≡ Some s → HasCopied m k s.call → IsCommittingAt k (driver_of s)
   -- a call that a snapshot in hand has an effect of was begun, and is in hand no more
   pub given_pulled : (d : CallId) → HasInHand m d → d.number < m.next d.actor
-  pub ended_pulled : (s : CallState) → m.in_hand s.call.actor ≡ Some s → HasInHand m s.call → ⊥
+  pub ended_pulled : (s : CallState) → m.in_hand (who s) ≡ Some s → HasInHand m s.call → ⊥
 
 pub history_empty : HasHistory empty_cluster
 history_empty = record {
@@ -218,7 +221,7 @@ on_active-there m update by_element k r P on =
     let (e, x, found, there, row_of) = on_replica-there m k r (λ e x. (is_all e.attributes ≡ false) × (e.active ≡ Some r) × (e.hold ≡ None) × (is_by_element (is_weak e.attributes) update ≡ by_element) × P e x) on in
     (e, x, found, there, row_of.0, row_of.1, row_of.4)
 
-module _ (m : Machine) (inv : Invariant m) (history : HasHistory m) (s : CallState) (held : m.in_hand s.call.actor ≡ Some s) (t : Told) (row : Row m s t.verb t) where
+module _ (m : Machine) (inv : Invariant m) (history : HasHistory m) (s : CallState) (held : m.in_hand (who s) ≡ Some s) (t : Told) (row : Row m s t.verb t) where
   -- the step commits at this checkpoint
   pub record Commits (k : ℕ) : Type 0 where
     pub verb : t.verb ≡ verbs.Commit
@@ -254,7 +257,7 @@ module _ (m : Machine) (inv : Invariant m) (history : HasHistory m) (s : CallSta
       let (by, origin, same_update) = slot_owned m inv.shapes inv.holds history.bare k r x slot at staged in
       let owner : slot.owner ≡ s.call = ap (λ (z : Staged). z.owner) (sym slots) ∙ ok.owner in
       let own : IsOwner m k (inv.shapes k) s.call = subst (IsOwner m k (inv.shapes k)) owner by in
-      let state : own.state ≡ s = same_Some own.state s (sym own.in_hand ∙ held) in
+      let state : own.state ≡ s = one_call m.in_hand m.pending m.next inv.holds.calls (who own.state) (who s) own.state s own.in_hand held own.call_is in
       record { own = origin ∙ owner; reply = reply; by = inl (record { verb = verb; update = own.driver; driver_is = ap driver_of (sym state) ∙ own.driver_is; ckpt = own.ckpt }) }
 
   own_apply : (update : Update) (k r : ℕ) (u : Told) → u.end ≡ t.end → t.verb ≡ verbs.Apply → t.reply ≡ words.Ok → OnActive m update false k r (ApplyOk m update u) → IsOwnEffect k s.call
@@ -277,8 +280,8 @@ module _ (m : Machine) (inv : Invariant m) (history : HasHistory m) (s : CallSta
       news verbs.Commit (Some k) (Some r) words.Ok verb reply row = λ x slot there staged. inl (own_commit row.1 k r verb reply row.3 x slot there staged)
       news verbs.Apply (Some k) (Some r) words.Ok verb reply row = inl (own_apply row.1 k r (record t { verb = verbs.Apply; ckpt = Some k; node = Some r; reply = words.Ok }) refl verb reply row.3)
       news verbs.Unmark (Some k) (Some r) words.Ok verb reply row = λ x marks there marked. inl (own_unmark row.1 k r (record t { verb = verbs.Unmark; ckpt = Some k; node = Some r; reply = words.Ok }) refl verb reply row.3 x marks there marked)
-      news verbs.Install (Some k) (Some r) words.Ok verb reply row = λ pulled d there has. inr (record { actor = s.call.actor; state = s; held = held; snapshot = pulled; there = there; effect = has })
-      news verbs.Activate (Some k) (Some r) words.Ok verb reply row = λ copy d there has. inr (record { actor = s.call.actor; state = s; held = held; snapshot = copy; there = there; effect = has })
+      news verbs.Install (Some k) (Some r) words.Ok verb reply row = λ pulled d there has. inr (record { name = (who s); state = s; held = held; snapshot = pulled; there = there; effect = has })
+      news verbs.Activate (Some k) (Some r) words.Ok verb reply row = λ copy d there has. inr (record { name = (who s); state = s; held = held; snapshot = copy; there = there; effect = has })
       news verbs.Reserve (Some k) (Some r) words.Ok verb reply row = making_incomplete m inv s.call k r row.0.3.1
       news verb k r reply verb_is reply_is row = tt
 
@@ -287,11 +290,11 @@ module _ (m : Machine) (inv : Invariant m) (history : HasHistory m) (s : CallSta
   had k r d has = follows.effects k r has.replica d has.there has.effect
 
   -- a call that is in hand has no effect where updates go to the active alone, since that of an update on all replicas is elsewhere, and every other has ended
-  none_alone : (k r : ℕ) (z : CallState) → m.in_hand z.call.actor ≡ Some z → IsSomeAnd (entry_of k m.cluster.entries) (λ e. is_all e.attributes ≡ false) → Has m k r z.call → ⊥
+  none_alone : (k r : ℕ) (z : CallState) → m.in_hand (who z) ≡ Some z → IsSomeAnd (entry_of k m.cluster.entries) (λ e. is_all e.attributes ≡ false) → Has m k r z.call → ⊥
   none_alone k r z in_hand there has =
       let (e, found, alone) = IsSomeAnd-at (entry_of k m.cluster.entries) (λ e. is_all e.attributes ≡ false) there in
       let commits = history.commits k r z in_hand has in
-      let at : IsUpdateIn m inv.shapes z commits.update = subst (λ d. IsInPlace m inv.shapes z d) commits.driver_is (inv.holds.hands z.call.actor z in_hand).here in
+      let at : IsUpdateIn m inv.shapes z commits.update = subst (λ d. IsInPlace m inv.shapes z d) commits.driver_is (inv.holds.hands (who z) z in_hand).here in
       let all : is_all e.attributes ≡ true = subst (λ o. IfSome o (λ (e : Entry). is_all e.attributes ≡ true)) (ap (λ k. entry_of k m.cluster.entries) commits.ckpt ∙ found) at.all in
       (let w : true ≡ false = sym all ∙ alone in cc w)
 
@@ -324,7 +327,7 @@ module _ (m : Machine) (inv : Invariant m) (history : HasHistory m) (s : CallSta
   pulled_was : (verb : Verb) (k r : Option ℕ) (reply : StepReply) (p : Snapshot) (d : CallId) → Row m s verb (record t { verb = verb; ckpt = k; node = r; reply = reply }) → pulled_by m s verb k r reply ≡ Some p → HasEffect d p.effects → HasInHand m d ⊎ IsPulledEffect d
   pulled_was verbs.Pull (Some k) (Some r) words.Ok p d row is effect = inr (copied_effect k r p d (pulled_alone k r (record t { verb = verbs.Pull; ckpt = Some k; node = Some r; reply = words.Ok }) row.0.3) is effect)
   pulled_was verbs.Hold (Some k) (Some r) words.Ok p d row is effect = inr (copied_effect k r p d (held_alone k r t.end row.0.2) is effect)
-  pulled_was verb k r reply p d row is effect = inl (record { actor = s.call.actor; state = s; held = held; snapshot = p; there = is; effect = effect })
+  pulled_was verb k r reply p d row is effect = inl (record { name = (who s); state = s; held = held; snapshot = p; there = is; effect = effect })
 
   module _ (end : Option Outcome) (ends : t.end ≡ end) (done : IsDone m s (due m s) t) where
     abbrev then_state : CallState
@@ -350,12 +353,12 @@ module _ (m : Machine) (inv : Invariant m) (history : HasHistory m) (s : CallSta
         by_new reply (inl commits) = subst (λ x. IsCommittingAt k (driver_taken told x)) (sym commits.driver_is) (taken_commit told commits.update k commits.verb commits.ckpt (inr reply))
         by_new reply (inr applies) = absurd (let w : None ≡ Some (Done applies.answer) = sym (ends ∙ none) ∙ applies.ends in cc w)
 
-    other_commits : (k r : ℕ) (z : CallState) → same_actor z.call.actor s.call.actor ≡ false → n.in_hand z.call.actor ≡ Some z → Has then_machine k r z.call → IsCommittingAt k (driver_of z)
+    other_commits : (k r : ℕ) (z : CallState) → same_who (who z) (who s) ≡ false → n.in_hand (who z) ≡ Some z → Has then_machine k r z.call → IsCommittingAt k (driver_of z)
     other_commits k r z other in_hand has =
         elim (had k r z.call (record { replica = has.replica; there = has.there; effect = has.effect })) [
-          | inl was ↦ history.commits k r z (sym (follows.in_hand z.call.actor) ∙ in_hand) was
-          | inr (inl new) ↦ absurd (let w : true ≡ false = sym (ap (λ (d : CallId). same_actor d.actor s.call.actor) new.own ∙ same_actor-refl s.call.actor) ∙ other in cc w)
-          | inr (inr pulled) ↦ absurd (history.ended_pulled z (sym (follows.in_hand z.call.actor) ∙ in_hand) pulled)
+          | inl was ↦ history.commits k r z (follows.in_hand (who z) z in_hand) was
+          | inr (inl new) ↦ absurd (let name : who z ≡ who s = inv.holds.calls.one_name (who z) (who s) z s (follows.in_hand (who z) z in_hand) held new.own in let w : true ≡ false = sym (ap (λ w. same_who w (who s)) name ∙ same_who-refl (who s)) ∙ other in cc w)
+          | inr (inr pulled) ↦ absurd (history.ended_pulled z (follows.in_hand (who z) z in_hand) pulled)
         ]
 
     left_state : (o : Option Outcome) (z : CallState) → left o then_state ≡ Some z → (o ≡ None) × (then_state ≡ z)
@@ -364,11 +367,11 @@ module _ (m : Machine) (inv : Invariant m) (history : HasHistory m) (s : CallSta
 
     -- what a snapshot in hand has, one had before, or it was pulled by the step
     was_pulled : (d : CallId) → HasInHand then_machine d → HasInHand m d ⊎ IsPulledEffect d
-    was_pulled d has = elim (put_actor-cases n.in_hand s.call.actor (left end then_state) has.actor has.state has.held) [
+    was_pulled d has = elim (put_who-cases n.in_hand (who s) (left end then_state) has.name has.state has.held) [
       | inl own ↦ (
           let (none, is) = left_state end has.state own.1 in
           pulled_was t.verb t.ckpt t.node t.reply has.snapshot d row (ap (λ (z : CallState). z.snapshot) is ∙ has.there) has.effect)
-      | inr other ↦ inl (record { actor = has.actor; state = has.state; held = sym (follows.in_hand has.actor) ∙ other.1; snapshot = has.snapshot; there = has.there; effect = has.effect })
+      | inr other ↦ inl (record { name = has.name; state = has.state; held = follows.in_hand has.name has.state other.1; snapshot = has.snapshot; there = has.there; effect = has.effect })
     ]
 
     -- what a snapshot has, it had
@@ -380,10 +383,10 @@ module _ (m : Machine) (inv : Invariant m) (history : HasHistory m) (s : CallSta
       bare = follows.bare;
       given = λ k r d has. elim (had k r d (record { replica = has.replica; there = has.there; effect = has.effect })) [
         | inl was ↦ subst (λ next. d.number < next) (sym (follows.next d.actor)) (history.given k r d was)
-        | inr (inl new) ↦ subst (λ next. d.number < next) (sym (follows.next d.actor)) (subst (λ (d : CallId). d.number < m.next d.actor) (sym new.own) (inv.holds.hands s.call.actor s held).number)
+        | inr (inl new) ↦ subst (λ next. d.number < next) (sym (follows.next d.actor)) (subst (λ (d : CallId). d.number < m.next d.actor) (sym new.own) (inv.holds.hands (who s) s held).number)
         | inr (inr pulled) ↦ subst (λ next. d.number < next) (sym (follows.next d.actor)) (history.given_pulled d pulled)
       ];
-      commits = λ k r z in_hand has. elim (put_actor-cases n.in_hand s.call.actor (left end then_state) z.call.actor z in_hand) [
+      commits = λ k r z in_hand has. elim (put_who-cases n.in_hand (who s) (left end then_state) (who z) z in_hand) [
         | inl own ↦ (
             let (none, is) = left_state end z own.1 in
             let call : s.call ≡ z.call = ap (λ (z : CallState). z.call) is in
@@ -391,23 +394,23 @@ module _ (m : Machine) (inv : Invariant m) (history : HasHistory m) (s : CallSta
         | inr other ↦ other_commits k r z other.0 other.1 has
       ];
       given_copied = λ k d has. subst (λ next. d.number < next) (sym (follows.next d.actor)) (history.given_copied k d (was_copied k d has));
-      commits_copied = λ k z in_hand has. elim (put_actor-cases n.in_hand s.call.actor (left end then_state) z.call.actor z in_hand) [
+      commits_copied = λ k z in_hand has. elim (put_who-cases n.in_hand (who s) (left end then_state) (who z) z in_hand) [
         | inl own ↦ (
             let (none, is) = left_state end z own.1 in
             let call : s.call ≡ z.call = ap (λ (z : CallState). z.call) is in
             subst (λ z. IsCommittingAt k (driver_of z)) is (commits_still m s t told k refl done (ends ∙ none) (history.commits_copied k s held (subst (HasCopied m k) (sym call) (was_copied k z.call has)))))
-        | inr other ↦ history.commits_copied k z (sym (follows.in_hand z.call.actor) ∙ other.1) (was_copied k z.call has)
+        | inr other ↦ history.commits_copied k z (follows.in_hand (who z) z other.1) (was_copied k z.call has)
       ];
       given_pulled = λ d has. subst (λ next. d.number < next) (sym (follows.next d.actor)) (elim (was_pulled d has) [ inl was ↦ history.given_pulled d was | inr new ↦ history.given new.ckpt new.node d new.has ]);
-      ended_pulled = λ z in_hand has. elim (put_actor-cases n.in_hand s.call.actor (left end then_state) z.call.actor z in_hand) [
+      ended_pulled = λ z in_hand has. elim (put_who-cases n.in_hand (who s) (left end then_state) (who z) z in_hand) [
         | inl own ↦ (
             let (none, is) = left_state end z own.1 in
             ended_by s held (subst (HasInHand then_machine) (sym (ap (λ (z : CallState). z.call) is)) has))
-        | inr other ↦ ended_by z (sym (follows.in_hand z.call.actor) ∙ other.1) has
+        | inr other ↦ ended_by z (follows.in_hand (who z) z other.1) has
       ];
     }
       where
-        ended_by : (z : CallState) → m.in_hand z.call.actor ≡ Some z → HasInHand then_machine z.call → ⊥
+        ended_by : (z : CallState) → m.in_hand (who z) ≡ Some z → HasInHand then_machine z.call → ⊥
         ended_by z in_hand has = elim (was_pulled z.call has) [ inl was ↦ history.ended_pulled z in_hand was | inr new ↦ none_alone new.ckpt new.node z in_hand new.alone new.has ]
 
 -- ---- any label
@@ -416,7 +419,7 @@ begun_history : (m : Machine) → HasHistory m → (call : CallId) (op : Op) (en
 begun_history m history call op end number = record {
   bare = history.bare;
   given = λ k r d has. number_later d (history.given k r d (record { replica = has.replica; there = has.there; effect = has.effect }));
-  commits = λ k r z in_hand has. elim (put_actor-cases m.in_hand call.actor (call_begun end call op (first_kept m call op)) z.call.actor z in_hand) [
+  commits = λ k r z in_hand has. elim (put_who-cases m.in_hand (stepped_as call (word_of_op op)) (call_begun end call op (first_kept m call op)) (who z) z in_hand) [
     | inl own ↦ (
         let was : Has m k r z.call = record { replica = has.replica; there = has.there; effect = has.effect } in
         let below : call.number < m.next call.actor = history.given k r call (subst (Has m k r) (sym (begun_is z own.1)) was) in
@@ -424,7 +427,7 @@ begun_history m history call op end number = record {
     | inr other ↦ history.commits k r z other.1 (record { replica = has.replica; there = has.there; effect = has.effect })
   ];
   given_copied = λ k d has. number_later d (history.given_copied k d (record { snapshot = has.snapshot; there = has.there; effect = has.effect }));
-  commits_copied = λ k z in_hand has. elim (put_actor-cases m.in_hand call.actor (call_begun end call op (first_kept m call op)) z.call.actor z in_hand) [
+  commits_copied = λ k z in_hand has. elim (put_who-cases m.in_hand (stepped_as call (word_of_op op)) (call_begun end call op (first_kept m call op)) (who z) z in_hand) [
     | inl own ↦ (
         let was : HasCopied m k z.call = record { snapshot = has.snapshot; there = has.there; effect = has.effect } in
         let below : call.number < m.next call.actor = history.given_copied k call (subst (HasCopied m k) (sym (begun_is z own.1)) was) in
@@ -432,7 +435,7 @@ begun_history m history call op end number = record {
     | inr other ↦ history.commits_copied k z other.1 (record { snapshot = has.snapshot; there = has.there; effect = has.effect })
   ];
   given_pulled = λ d has. number_later d (history.given_pulled d (was_pulled d has));
-  ended_pulled = λ z in_hand has. elim (put_actor-cases m.in_hand call.actor (call_begun end call op (first_kept m call op)) z.call.actor z in_hand) [
+  ended_pulled = λ z in_hand has. elim (put_who-cases m.in_hand (stepped_as call (word_of_op op)) (call_begun end call op (first_kept m call op)) (who z) z in_hand) [
     | inl own ↦ (
         let below : call.number < m.next call.actor = history.given_pulled call (subst (HasInHand m) (sym (begun_is z own.1)) (was_pulled z.call has)) in
         omega (arith, below, number))
@@ -442,11 +445,11 @@ begun_history m history call op end number = record {
   where
     -- a call that begins has nothing in its hand
     was_pulled : (d : CallId) → HasInHand (after_beginning m call op end) d → HasInHand m d
-    was_pulled d has = elim (put_actor-cases m.in_hand call.actor (call_begun end call op (first_kept m call op)) has.actor has.state has.held) [
+    was_pulled d has = elim (put_who-cases m.in_hand (stepped_as call (word_of_op op)) (call_begun end call op (first_kept m call op)) has.name has.state has.held) [
       | inl own ↦ (
           let (driver, starts, same) = begun_as end call op (first_kept m call op) has.state own.1 in
           absurd (let w : None ≡ Some has.snapshot = ap (λ (z : CallState). z.snapshot) same ∙ has.there in cc w))
-      | inr other ↦ record { actor = has.actor; state = has.state; held = other.1; snapshot = has.snapshot; there = has.there; effect = has.effect }
+      | inr other ↦ record { name = has.name; state = has.state; held = other.1; snapshot = has.snapshot; there = has.there; effect = has.effect }
     ]
 
     number_later : (d : CallId) → d.number < m.next d.actor → d.number < put_actor m.next call.actor (m.next call.actor + 1) d.actor
@@ -480,7 +483,7 @@ moved_history m history t = record {
     copied_before k d has = record { snapshot = has.snapshot; there = follows.copies k has.snapshot has.there; effect = has.effect }
 
     hands_before : (d : CallId) → HasInHand (with_record m (moved t m.cluster)) d → HasInHand m d
-    hands_before d has = record { actor = has.actor; state = has.state; held = has.held; snapshot = has.snapshot; there = has.there; effect = has.effect }
+    hands_before d has = record { name = has.name; state = has.state; held = has.held; snapshot = has.snapshot; there = has.there; effect = has.effect }
 
 -- a snapshot of the active has the effects of the active
 pulled_history : (m : Machine) → HasHistory m → (k : ℕ) (x : ReplicaState) → IsPulledFrom m k x → HasHistory (record m { snapshots = put m.snapshots k (Some (copied x)) })
@@ -490,8 +493,8 @@ pulled_history m history k x from = record {
   commits = λ j r s held has. history.commits j r s held (record { replica = has.replica; there = has.there; effect = has.effect });
   given_copied = λ j d has. elim (before j d has) [ inl was ↦ history.given_copied j d was | inr new ↦ history.given j from.node d new ];
   commits_copied = λ j s held has. elim (before j s.call has) [ inl was ↦ history.commits_copied j s held was | inr new ↦ history.commits j from.node s held new ];
-  given_pulled = λ d has. history.given_pulled d (record { actor = has.actor; state = has.state; held = has.held; snapshot = has.snapshot; there = has.there; effect = has.effect });
-  ended_pulled = λ s held has. history.ended_pulled s held (record { actor = has.actor; state = has.state; held = has.held; snapshot = has.snapshot; there = has.there; effect = has.effect });
+  given_pulled = λ d has. history.given_pulled d (record { name = has.name; state = has.state; held = has.held; snapshot = has.snapshot; there = has.there; effect = has.effect });
+  ended_pulled = λ s held has. history.ended_pulled s held (record { name = has.name; state = has.state; held = has.held; snapshot = has.snapshot; there = has.there; effect = has.effect });
 }
   where
     before : (j : ℕ) (d : CallId) → HasCopied (record m { snapshots = put m.snapshots k (Some (copied x)) }) j d → HasCopied m j d ⊎ Has m j from.node d
@@ -508,8 +511,8 @@ put_history m history k r s x is there = record {
   commits = λ j q z held has. elim (before j q z.call has) [ inl was ↦ history.commits j q z held was | inr copied ↦ history.commits_copied j z held copied ];
   given_copied = λ j d has. history.given_copied j d (record { snapshot = has.snapshot; there = has.there; effect = has.effect });
   commits_copied = λ j z held has. history.commits_copied j z held (record { snapshot = has.snapshot; there = has.there; effect = has.effect });
-  given_pulled = λ d has. history.given_pulled d (record { actor = has.actor; state = has.state; held = has.held; snapshot = has.snapshot; there = has.there; effect = has.effect });
-  ended_pulled = λ z held has. history.ended_pulled z held (record { actor = has.actor; state = has.state; held = has.held; snapshot = has.snapshot; there = has.there; effect = has.effect });
+  given_pulled = λ d has. history.given_pulled d (record { name = has.name; state = has.state; held = has.held; snapshot = has.snapshot; there = has.there; effect = has.effect });
+  ended_pulled = λ z held has. history.ended_pulled z held (record { name = has.name; state = has.state; held = has.held; snapshot = has.snapshot; there = has.there; effect = has.effect });
 }
   where
     follows : ReplicasFollow m (HasCopied m) (record m { replicas = put2 m.replicas k r (Some (replica_from s x)) })
@@ -520,20 +523,20 @@ put_history m history k r s x is there = record {
 
 -- what is allowed and due keeps it
 pub keeps_history : (m : Machine) (l : Label) → Invariant m → HasHistory m → Allowed m l → IsDue m l → HasHistory (after m l)
-keeps_history m (labels.Began call op end) inv history allowed is = begun_history m history call op end is.number
+keeps_history m (labels.Began call op end details) inv history allowed is = begun_history m history call op end is.number
 keeps_history m (labels.Stepped call op verb k r reply end details) inv history allowed step =
-    let held : m.in_hand step.state.call.actor ≡ Some step.state = ap (λ (c : CallId). m.in_hand c.actor) step.call_is ∙ step.in_hand in
+    let held : m.in_hand (who step.state) ≡ Some step.state = held_as m call op step.state step.in_hand step.call_is step.word in
     let same : allowed.state ≡ step.state = same_Some allowed.state step.state (sym allowed.in_hand ∙ step.in_hand) in
     subst (λ o. HasHistory (step_of m o verb k r reply end)) (sym step.in_hand) (step_history m inv history step.state held _ (subst (λ z. Row m z verb _) same allowed.row) end refl step.done)
-keeps_history m (labels.Word who word said) inv history allowed is = history
+keeps_history m (labels.Word by word said) inv history allowed is = history
 keeps_history m (labels.Nodes n) inv history allowed is = record {
   bare = record { complete = history.bare.complete; reserves = history.bare.reserves };
   given = λ k r d has. history.given k r d (record { replica = has.replica; there = has.there; effect = has.effect });
   commits = λ k r s held has. history.commits k r s held (record { replica = has.replica; there = has.there; effect = has.effect });
   given_copied = λ k d has. history.given_copied k d (record { snapshot = has.snapshot; there = has.there; effect = has.effect });
   commits_copied = λ k s held has. history.commits_copied k s held (record { snapshot = has.snapshot; there = has.there; effect = has.effect });
-  given_pulled = λ d has. history.given_pulled d (record { actor = has.actor; state = has.state; held = has.held; snapshot = has.snapshot; there = has.there; effect = has.effect });
-  ended_pulled = λ s held has. history.ended_pulled s held (record { actor = has.actor; state = has.state; held = has.held; snapshot = has.snapshot; there = has.there; effect = has.effect });
+  given_pulled = λ d has. history.given_pulled d (record { name = has.name; state = has.state; held = has.held; snapshot = has.snapshot; there = has.there; effect = has.effect });
+  ended_pulled = λ s held has. history.ended_pulled s held (record { name = has.name; state = has.state; held = has.held; snapshot = has.snapshot; there = has.there; effect = has.effect });
 }
 keeps_history m (labels.Moved t) inv history allowed is = moved_history m history t
 keeps_history m (labels.Shown k replicas) inv history allowed is = history

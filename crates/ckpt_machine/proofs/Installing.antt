@@ -23,7 +23,7 @@ use Rattle.node_core.specs.Serving.{reply_at, details_at, install_reply, older_r
 use Rattle.cluster_record.specs.declared.calls.SyncKind.TheVariants.{Synchronize}
 use Rattle.cluster_record.specs.declared.calls.PulledAt.{PulledAt}
 use Rattle.cluster_record.specs.declared.entries.Entry.{Entry}
-use Rattle.cluster_record.specs.Calls.{put_actor, left}
+use Rattle.cluster_record.specs.Calls.{left}
 use Rattle.cluster_record.specs.DueOpen.{in_time}
 use Rattle.cluster_record.specs.DueSync.{SyncState, first_unserved, install_next, unless_stale, synchronize_next, kind_next, sync_on, sync_next, ended_by, sync_ended}
 use Rattle.cluster_record.specs.Places.{put2}
@@ -36,11 +36,11 @@ use Rattle.ckpt_machine.specs.InHand.{IsInHand, IsSynchronizeIn, HasServedActive
 use Rattle.ckpt_machine.specs.Invariant.{InvariantIn, Invariant}
 use Rattle.ckpt_machine.specs.Left.{unserved, sync_left, kind_left, steps_left}
 use Rattle.ckpt_machine.specs.Listing.{is_active}
-use Rattle.ckpt_machine.specs.Machine.{Machine, ReplicaState, Snapshot, CallState}
+use Rattle.ckpt_machine.specs.Machine.{Machine, ReplicaState, Snapshot, CallState, who}
 use Rattle.ckpt_machine.specs.Options.{is_all}
 use Rattle.ckpt_machine.specs.Propagation.{is_behind, replica_from}
 use Rattle.ckpt_machine.specs.Shape.{Shape, IsCompleteOn, IsShapedBy, IsSpread}
-use Rattle.ckpt_machine.specs.Steps.{Told, IsDone, IsServed, driver_of, payload_due, details_due, seen, seen_at, seen_by, seen_slot, seen_snapshot, change_replica, with_installed, kept_behind, stepped}
+use Rattle.ckpt_machine.specs.Steps.{Told, IsDone, IsServed, driver_of, payload_due, details_due, seen, seen_at, seen_by, seen_slot, seen_snapshot, change_replica, with_installed, kept_behind, left_in_hand}
 use Rattle.ckpt_machine.proofs.ActiveNode.{ActiveOf, active_of}
 use Rattle.ckpt_machine.proofs.Deadlines.{in_time-cases}
 use Rattle.ckpt_machine.proofs.DueStep.{Goes}
@@ -50,9 +50,11 @@ use Rattle.ckpt_machine.proofs.PlainCalls.{plain_steps}
 use Rattle.ckpt_machine.proofs.Propagated.{IsPutTarget, target_free, put_target}
 use Rattle.ckpt_machine.proofs.Served.{UnservedFirst, first_unserved-is, served_set, served_still, set_length, tells_all, ends_alike, unserved-set}
 use Rattle.ckpt_machine.proofs.StepLabels.{IsServed-told}
+use Rattle.ckpt_machine.specs.Whose.{put_who}
 use Rattle.ckpt_machine.proofs.Sync.{HasPulled, has_pulled, at_sync, plain, alone, spread, then_state, hand_then, here_then, left_is, ended_nothing, unled_goes, late_goes, stale_goes, done_goes, pull_goes}
+use Rattle.ckpt_machine.proofs.CallsKept.{same_call-left}
 
-module _ (m : Machine) (shapes : ℕ → Shape) (inv : InvariantIn shapes m) (s : CallState) (u : SyncState) (held : m.in_hand s.call.actor ≡ Some s) (is : driver_of s ≡ drivers.Sync u) (sync : (deadline : Option ℤ) × (u.kind ≡ Synchronize deadline)) (at : ActiveOf m (shapes u.ckpt).marks u.ckpt) where
+module _ (m : Machine) (shapes : ℕ → Shape) (inv : InvariantIn shapes m) (s : CallState) (u : SyncState) (held : m.in_hand (who s) ≡ Some s) (is : driver_of s ≡ drivers.Sync u) (sync : (deadline : Option ℤ) × (u.kind ≡ Synchronize deadline)) (at : ActiveOf m (shapes u.ckpt).marks u.ckpt) where
   abbrev pub k : ℕ
   k = u.ckpt
 
@@ -177,12 +179,12 @@ module _ (m : Machine) (shapes : ℕ → Shape) (inv : InvariantIn shapes m) (s 
 
     module _ (word : StepReply) (tells : (q : ℕ) → q < 8 → slice_get served_then q ≡ Some (list_any (serves q) (install_done word ∷ s.steps))) (takes : driver_taken (install_done word) (drivers.Sync u) ≡ drivers.Sync (record u { served = served_then })) where
       -- it goes on with it, or ends, with these replicas
-      install_keeps : (f : ℕ → ℕ → Option ReplicaState) (end : Option Outcome) → InvariantIn shapes (record m { replicas = f }) → Invariant (record m { replicas = f; in_hand = put_actor m.in_hand s.call.actor (left end (state_then word)) })
+      install_keeps : (f : ℕ → ℕ → Option ReplicaState) (end : Option Outcome) → InvariantIn shapes (record m { replicas = f }) → Invariant (record m { replicas = f; in_hand = put_who m.in_hand (who s) (left end (state_then word)) })
       install_keeps f end holds =
-          let hands = put_actor m.in_hand s.call.actor (left end (state_then word)) in
+          let hands = put_who m.in_hand (who s) (left end (state_then word)) in
           record {
             shapes = shapes;
-            holds = plain_steps (record m { replicas = f }) shapes holds s held (plain m shapes inv s u held is sync) (left end (state_then word)) (λ w same. subst (IsInHand (record m { replicas = f; in_hand = hands }) shapes s.call.actor) (left_is end (state_then word) w same)
+            holds = plain_steps (record m { replicas = f }) shapes holds s held (plain m shapes inv s u held is sync) (left end (state_then word)) (same_call-left s (state_then word) end refl refl) (λ w same. subst (IsInHand (record m { replicas = f; in_hand = hands }) shapes (who s)) (left_is end (state_then word) w same)
                 (hand_then m shapes inv s u held is sync (install_done word) s.snapshot u.pulled served_then f hands takes
                 (here_then m shapes inv s u held is sync (install_done word) s.snapshot u.pulled served_then f hands (at_sync m shapes inv s u held is sync).pulled (set_length u.served r true ∙ (at_sync m shapes inv s u held is sync).nodes) tells led_then (at_sync m shapes inv s u held is sync).older)));
           }
@@ -239,7 +241,7 @@ module _ (m : Machine) (shapes : ℕ → Shape) (inv : InvariantIn shapes m) (s 
           ((at_sync m shapes inv s u held is sync).place, (at_sync m shapes inv s u held is sync).timeout, (at_sync m shapes inv s u held is sync).asks, install_row _ true behind (install_ends words.Ok tells_ok refl)),
           ended_nothing install_end _ nothing_told,
         );
-        holds = subst (λ (z : Option ReplicaState × Option Snapshot). let n = change_replica m k r z.0 (with_installed z.1) in Invariant (stepped n (kept_behind m s n.cluster verbs.Install (Some k) (Some r) words.Ok) install_end)) (λ i. (sym on_node.there i, sym has.in_hand i))
+        holds = subst (λ (z : Option ReplicaState × Option Snapshot). let n = change_replica m k r z.0 (with_installed z.1) in Invariant (left_in_hand n (kept_behind m s n.cluster verbs.Install (Some k) (Some r) words.Ok) install_end)) (λ i. (sym on_node.there i, sym has.in_hand i))
             (install_keeps words.Ok tells_ok refl (put2 m.replicas k r (Some (replica_from has.pulled x))) install_end installed_keeps);
         nearer = λ goes_on. subst (λ o. let R = (change_replica m k r o (with_installed s.snapshot)).cluster in
             steps_left R (driver_taken (counting 0 (done_of R verbs.Install (Some k) (Some r) words.Ok)) (driver_of s)) < steps_left m.cluster (driver_of s)) (sym on_node.there) (install_nearer words.Ok tells_ok refl);
@@ -258,7 +260,7 @@ module _ (m : Machine) (shapes : ℕ → Shape) (inv : InvariantIn shapes m) (s 
 
 -- ---- whatever is next
 
-module _ (m : Machine) (shapes : ℕ → Shape) (inv : InvariantIn shapes m) (s : CallState) (u : SyncState) (held : m.in_hand s.call.actor ≡ Some s) (is : driver_of s ≡ drivers.Sync u) (sync : (deadline : Option ℤ) × (u.kind ≡ Synchronize deadline)) where
+module _ (m : Machine) (shapes : ℕ → Shape) (inv : InvariantIn shapes m) (s : CallState) (u : SyncState) (held : m.in_hand (who s) ≡ Some s) (is : driver_of s ≡ drivers.Sync u) (sync : (deadline : Option ℤ) × (u.kind ≡ Synchronize deadline)) where
   module _ (at : ActiveOf m (shapes u.ckpt).marks u.ckpt) (early : IsInTime m s) where
     -- of a node that is left, or of none
     next_goes : (p : PulledAt) → u.pulled ≡ Some p → p.generation ≡ at.entry.generation → (r : Option ℕ) → first_unserved 0 at.entry.complete u.served ≡ r → (t : Told) → IsDone m s (install_next u.call u.ckpt p.count r) t → Goes m s (driver_of s) t

@@ -1,11 +1,10 @@
 -- The law: what is due is allowed, and leaves the invariant; of several nodes, and any number of calls in hand.
-use Rattle.std.proofs.Common.{◌≡◌, Some, refl, sym, ap, subst, ◌∙◌}
-use Rattle.ckpt_types.specs.declared.identities.CallId.{CallId}
+use Rattle.std.proofs.Common.{◌≡◌, Some, refl, sym, subst}
 use Rattle.run_labels.specs.declared.labels.Label.TheVariants as labels
 use Rattle.ckpt_machine.specs.Drivers.{Driver}
 use Rattle.ckpt_machine.specs.Drivers as drivers
 use Rattle.ckpt_machine.specs.Driving.{driver_next}
-use Rattle.ckpt_machine.specs.Machine.{Machine, CallState}
+use Rattle.ckpt_machine.specs.Machine.{Machine, CallState, who}
 use Rattle.ckpt_machine.specs.Propagation.{source_at, target_at}
 use Rattle.ckpt_machine.specs.Steps.{Told, IsDone, driver_of, rooms_of, step_of}
 use Rattle.ckpt_machine.specs.Invariant.{Invariant}
@@ -20,13 +19,15 @@ use Rattle.ckpt_machine.proofs.OneStepCalls.{once_goes}
 use Rattle.ckpt_machine.proofs.Propagated.{pull_keeps, put_keeps}
 use Rattle.ckpt_machine.proofs.Update.{update_goes}
 use Rattle.ckpt_machine.proofs.DueStep.{Goes}
+use Rattle.ckpt_machine.proofs.Dropped.{held_as}
+use Rattle.ckpt_machine.proofs.EndedAsync.{told_keeps}
 use Rattle.ckpt_machine.proofs.OwnCheckpoint.{own_step}
 use Rattle.ckpt_machine.proofs.OpenSteps.{open_goes}
 use Rattle.ckpt_machine.proofs.NodeLists.{is_up-none}
 
 -- ---- a due step of a call in hand
 
-module _ (m : Machine) (inv : Invariant m) (s : CallState) (held : m.in_hand s.call.actor ≡ Some s) (t : Told) where
+module _ (m : Machine) (inv : Invariant m) (s : CallState) (held : m.in_hand (who s) ≡ Some s) (t : Told) where
   -- it is allowed, with the invariant after it, and its call comes nearer to its end
   pub driver_goes : (d : Driver) → driver_of s ≡ d → IsDone m s (driver_next m.cluster (rooms_of m s) d) t → Goes m s (driver_of s) t
   driver_goes (drivers.Once x) is done = once_goes m inv.shapes inv.holds s x held is t done
@@ -39,12 +40,15 @@ module _ (m : Machine) (inv : Invariant m) (s : CallState) (held : m.in_hand s.c
 
 -- what is due is allowed, and leaves the invariant
 pub lawful : IsLawful
-lawful m (labels.Began call op end) inv is = (begin_row m call op end is, begin_keeps m inv.shapes inv.holds call is.none_in_hand is.client is.number op end is)
+lawful m (labels.Began call op end details) inv is = (begin_row m call op end details is, begin_keeps m inv.shapes inv.holds call is.client is.number op end details is)
 lawful m (labels.Stepped call op verb k r reply end details) inv step =
-    let held : m.in_hand step.state.call.actor ≡ Some step.state = ap (λ (c : CallId). m.in_hand c.actor) step.call_is ∙ step.in_hand in
-    let goes = driver_goes m inv step.state held (record { verb = verb; ckpt = k; node = r; reply = reply; end = end; details = details }) (driver_of step.state) refl step.done in
-    let own = own_step m inv.shapes step.state (rooms_of m step.state) (record { verb = verb; ckpt = k; node = r; reply = reply; end = end; details = details }) (inv.holds.hands step.state.call.actor step.state held).here step.done in
-    (record { state = step.state; in_hand = step.in_hand; call_is = step.call_is; word = step.word; own = own; row = goes.row }, subst (λ o. Invariant (step_of m o verb k r reply end)) (sym step.in_hand) goes.holds)
+    let told : Told = record { verb = verb; ckpt = k; node = r; reply = reply; end = end; details = details } in
+    let held : m.in_hand (who step.state) ≡ Some step.state = held_as m call op step.state step.in_hand step.call_is step.word in
+    let goes = driver_goes m inv step.state held told (driver_of step.state) refl step.done in
+    let own = own_step m inv.shapes step.state (rooms_of m step.state) told (inv.holds.hands (who step.state) step.state held).here step.done in (
+      record { state = step.state; in_hand = step.in_hand; call_is = step.call_is; word = step.word; own = own; row = goes.row },
+      subst (λ o. Invariant (step_of m o verb k r reply end)) (sym step.in_hand) (told_keeps m inv step.state held told goes.holds),
+    )
 lawful m (labels.Word who word said) inv is = (word_row m who word said is, inv)
 lawful m (labels.Nodes n) inv is = ((is.0, is.1, λ r. is_up-none r m.cluster is.2), record { shapes = inv.shapes; holds = nodes_keep m inv.shapes inv.holds n is.2 })
 lawful m (labels.Moved t) inv is = (is, moved_keeps m t inv)

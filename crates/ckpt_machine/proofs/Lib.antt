@@ -9,6 +9,8 @@ pub mod OnceByKey
 pub mod Deadlines
 pub mod NextOf
 pub mod Calls
+pub mod CallsKept
+pub mod CallsPending
 pub mod Refusing
 pub mod Endings
 pub mod Begun
@@ -21,6 +23,13 @@ pub mod ReplicaSteps
 pub mod NodeLists
 pub mod Owning
 pub mod Joining
+pub mod AsyncCalls
+pub mod DroppedCalls
+pub mod Closing
+pub mod Leaving
+pub mod FewerCalls
+pub mod FewerMakings
+pub mod KeptLists
 pub mod RecordSteps
 pub mod Stage
 pub mod StagedMoment
@@ -35,6 +44,7 @@ pub mod UpdateReady
 pub mod OtherCalls
 pub mod Entries
 pub mod PlainCalls
+pub mod EndedAsync
 pub mod EndedTables
 pub mod OneReplica
 pub mod OnAll
@@ -42,6 +52,7 @@ pub mod OneStepCalls
 pub mod Enter
 pub mod Acknowledged
 pub mod AcknowledgedExamples
+pub mod ClaimExamples
 pub mod BegunBefore
 pub mod Copying
 pub mod BegunOnce
@@ -68,6 +79,8 @@ pub mod Facts
 pub mod Nearer
 pub mod OptionLemmas
 pub mod Actors
+pub mod Whose
+pub mod Dropped
 pub mod DueStep
 pub mod StepLabels
 pub mod EntryLists
@@ -102,6 +115,12 @@ pub mod Bringing
 pub mod Synchronized
 pub mod ActiveAhead
 pub mod EffectsTell
+pub mod OnlyAsked
+pub mod OwnersInHand
+pub mod SameClients
+pub mod SettingHeld
+pub mod ActivesSet
+pub mod Causes
 pub mod HeldBy
 pub mod EntrySteps
 pub mod SettingActive

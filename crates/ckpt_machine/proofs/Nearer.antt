@@ -1,20 +1,20 @@
 -- A due step that does not end its call brings it nearer to its end.
-use Rattle.std.proofs.Common.{◌≡◌, ◌<◌, Option, Some, None, refl, sym, ap, subst, ◌∙◌}
+use Rattle.std.proofs.Common.{◌≡◌, ◌<◌, Option, Some, None, refl, sym, subst, ◌∙◌}
 use Rattle.std.proofs.lemmas.Option.{same_Some}
-use Rattle.ckpt_types.specs.declared.identities.CallId.{CallId}
 use Rattle.cluster_record.specs.StepDone.{done_of, counting}
 use Rattle.ckpt_machine.specs.Driving.{driver_taken}
 use Rattle.ckpt_machine.specs.Left.{steps_left}
-use Rattle.ckpt_machine.specs.Machine.{CallState}
+use Rattle.ckpt_machine.specs.Machine.{CallState, who}
 use Rattle.ckpt_machine.specs.Laws.{BringsNearer}
 use Rattle.ckpt_machine.specs.Steps.{counted_at, driver_of, step_of}
 use Rattle.ckpt_machine.proofs.Lawful.{driver_goes}
+use Rattle.ckpt_machine.proofs.Dropped.{held_as}
 
 -- the next step of any call
 pub step_nearer : BringsNearer
 step_nearer m call op verb k r reply details s inv step here =
     let same : step.state ≡ s = same_Some step.state s (sym step.in_hand ∙ here) in
-    let held : m.in_hand step.state.call.actor ≡ Some step.state = ap (λ (c : CallId). m.in_hand c.actor) step.call_is ∙ step.in_hand in
+    let held : m.in_hand (who step.state) ≡ Some step.state = held_as m call op step.state step.in_hand step.call_is step.word in
     let Falls : CallState → Type 0 = λ z. let R = (step_of m (Some z) verb k r reply None).cluster in steps_left R (driver_taken (counting (counted_at m verb k r reply) (done_of R verb k r reply)) (driver_of z)) < steps_left m.cluster (driver_of z) in
     let falls : Falls step.state = (driver_goes m inv step.state held (record { verb = verb; ckpt = k; node = r; reply = reply; end = None; details = details }) (driver_of step.state) refl step.done).nearer refl in
     subst (λ (o : Option CallState). let R = (step_of m o verb k r reply None).cluster in steps_left R (driver_taken (counting (counted_at m verb k r reply) (done_of R verb k r reply)) (driver_of s)) < steps_left m.cluster (driver_of s)) (sym here) (subst Falls same falls)

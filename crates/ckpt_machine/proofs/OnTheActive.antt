@@ -15,24 +15,25 @@ use Rattle.cluster_record.specs.declared.calls.ActiveKind.TheVariants as kinds
 use Rattle.cluster_record.specs.declared.calls.MarksMade.{MarksMade}
 use Rattle.cluster_record.specs.declared.entries.Entry.{Entry}
 use Rattle.cluster_record.specs.DueActive.{ActiveState}
-use Rattle.cluster_record.specs.Calls.{same_call, put_actor}
+use Rattle.cluster_record.specs.Calls.{same_call}
 use Rattle.cluster_record.specs.RecordState.{entry_of, is_live}
 use Rattle.ckpt_machine.specs.Drivers as drivers
 use Rattle.ckpt_machine.specs.Driving.{refused_cause}
 use Rattle.ckpt_machine.specs.Guards.{OnActive, ActiveRefused, ActiveHeld}
 use Rattle.ckpt_machine.specs.InHand.{is_enter, is_marked_by, IsInPlace, IsActiveIn}
 use Rattle.ckpt_machine.specs.Invariant.{IsGoodIn, InvariantIn, Invariant}
-use Rattle.ckpt_machine.specs.Machine.{Machine, ReplicaState, CallState}
+use Rattle.ckpt_machine.specs.Machine.{Machine, ReplicaState, CallState, who}
 use Rattle.ckpt_machine.specs.Options.{is_all, is_weak, is_by_element}
 use Rattle.ckpt_machine.specs.Shape.{Shape, IsApart, IsMarker, IsSpread}
 use Rattle.ckpt_machine.specs.Steps.{Told, driver_of}
 use Rattle.ckpt_machine.proofs.ActiveNode.{AsksOf, by_kind, is_change, none_all, ActiveOf}
 use Rattle.ckpt_machine.proofs.OptionLemmas.{IsSomeAnd-from}
+use Rattle.ckpt_machine.specs.Whose.{put_who}
 use Rattle.ckpt_machine.proofs.PlainCalls.{is_plain, plain_ends}
 
 -- whose marks stand is live
 pub marker_live : (m : Machine) (shapes : ℕ → Shape) (k : ℕ) (marks : Marked) → InvariantIn shapes m → IsMarker m k marks → is_live m.cluster marks.call ≡ true
-marker_live m shapes k marks inv own = ap (is_live m.cluster) (sym own.call_is) ∙ (inv.hands marks.call.actor own.state own.in_hand).live (ap is_enter own.driver_is)
+marker_live m shapes k marks inv own = ap (is_live m.cluster) (sym own.call_is) ∙ (inv.hands (who own.state) own.state own.in_hand).live (ap is_enter own.driver_is)
 
 -- a weak write is done by element, and any other update at once
 abbrev pub goes_by_element : ActiveKind → Bool
@@ -48,14 +49,14 @@ asks_update weak kinds.Apply ask change (place, update, is, at_once) = (place, i
 asks_update weak (kinds.Weak n) ask change (place, elements, is, weak_is, count) = (place, is ∙ ap (asks.Change place) (sym (ap update_asked is)), ap (λ a. is_by_element weak (update_asked a)) is ∙ weak_is)
 asks_update weak kind ask change of_it = absurd (cc change)
 
-module _ (m : Machine) (shapes : ℕ → Shape) (inv : InvariantIn shapes m) (s : CallState) (call : CallId) (k : ℕ) (kind : ActiveKind) (made : Option MarksMade) (held : m.in_hand s.call.actor ≡ Some s) (at : ActiveOf m (shapes k).marks k) (change : is_change kind ≡ true)
+module _ (m : Machine) (shapes : ℕ → Shape) (inv : InvariantIn shapes m) (s : CallState) (call : CallId) (k : ℕ) (kind : ActiveKind) (made : Option MarksMade) (held : m.in_hand (who s) ≡ Some s) (at : ActiveOf m (shapes k).marks k) (change : is_change kind ≡ true)
     (is : driver_of s ≡ drivers.Active (record { call = call; ckpt = k; kind = kind; marks = made })) where
   -- what drives it
   abbrev pub active : ActiveState
   active = record { call = call; ckpt = k; kind = kind; marks = made }
 
   pub at_active : IsActiveIn m shapes s (record { call = call; ckpt = k; kind = kind; marks = made })
-  at_active = subst (λ d. IsInPlace m shapes s d) is (inv.hands s.call.actor s held).here
+  at_active = subst (λ d. IsInPlace m shapes s d) is (inv.hands (who s) s held).here
 
   -- updates of its checkpoint go to the active alone
   pub alone : is_all at.entry.attributes ≡ false
@@ -93,7 +94,7 @@ module _ (m : Machine) (shapes : ℕ → Shape) (inv : InvariantIn shapes m) (s 
     plain = ap (λ d. is_plain d s.snapshot) is ∙ ap (λ o. not (is_some o)) none
 
     -- it ends, and all else is as it was
-    pub ends : Invariant (record m { in_hand = put_actor m.in_hand s.call.actor None })
+    pub ends : Invariant (record m { in_hand = put_who m.in_hand (who s) None })
     ends = record { shapes = shapes; holds = plain_ends m shapes inv s held plain }
 
     -- it is refused by the sections

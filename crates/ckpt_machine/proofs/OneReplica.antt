@@ -1,5 +1,5 @@
 -- A step on one replica: what its row says of the replica and of the entry, and that the replica has its generation and its effects still.
-use Rattle.std.proofs.Common.{◌≡◌, ◌⊎◌, ℕ, inr, [], ◌∷◌, Option, Some, None, Bool, true, false, cond, ◌==◌, ℤ, refl, sym, ap}
+use Rattle.std.proofs.Common.{◌≡◌, ◌⊎◌, ℕ, inr, [], ◌∷◌, Option, Some, None, Bool, true, false, cond, ◌==◌, ℤ, List, refl, sym, ap}
 use Rattle.std.specs.Prelude.{IsOk}
 use Rattle.std.proofs.lemmas.Bool.{eqb-true}
 use Rattle.ckpt_types.specs.declared.identities.CallId.{CallId}
@@ -7,13 +7,21 @@ use Rattle.ckpt_types.specs.declared.update.Update.{Update}
 use Rattle.ckpt_types.specs.Updates.{outcome}
 use Rattle.weak_marks.specs.Marks.{Marked}
 use Rattle.node_msgs.specs.declared.steps.Verb.{Verb}
+use Rattle.ckpt_types.specs.declared.operation.Op.{Op}
+use Rattle.ckpt_types.specs.declared.operation.Op.TheVariants as ops
+use Rattle.ckpt_types.specs.Asks.{asked, update_of}
+use Rattle.ckpt_types.specs.Asks as asks
+use Rattle.ckpt_types.specs.OpWord.{word_of_op}
+use Rattle.ckpt_machine.specs.Acknowledged.{IsUpdateWord}
+use Rattle.run_labels.specs.declared.labels.Label.{Label}
+use Rattle.ckpt_machine.specs.WasAsked.{WasAsked}
 use Rattle.cluster_record.specs.declared.entries.Entry.{Entry}
 use Rattle.cluster_record.specs.RecordState.{entry_of}
 use Rattle.ckpt_machine.specs.Beginning.{update_is_bad}
 use Rattle.ckpt_machine.specs.Guards.{AreMarksOf}
 use Rattle.ckpt_machine.specs.Invariant.{Invariant}
 use Rattle.ckpt_machine.specs.Listing.{is_active}
-use Rattle.ckpt_machine.specs.Machine.{Machine, Staged, ReplicaState, CallState}
+use Rattle.ckpt_machine.specs.Machine.{Machine, Staged, ReplicaState, CallState, who}
 use Rattle.ckpt_machine.specs.Options.{is_all, is_weak, is_by_element}
 use Rattle.ckpt_machine.specs.Replays.{IsPrefix}
 use Rattle.ckpt_machine.specs.Shape.{marks_at}
@@ -22,15 +30,25 @@ use Rattle.ckpt_machine.proofs.Copying.{not_active}
 use Rattle.ckpt_machine.proofs.Histories.{HasHistory}
 use Rattle.ckpt_machine.proofs.Prefixes.{prefix_same, prefix_of_same}
 
--- a call in hand takes this step, which is due, on a replica that is there
-pub record StepsOn (m : Machine) (s : CallState) (verb : Verb) (k r : ℕ) (x : ReplicaState) : Type 0 where
+-- what asks for an update has such a word
+pub update_word : (op : Op) (place : ℕ) (update : Update) → asked op ≡ asks.Change place update → IsUpdateWord (word_of_op op)
+update_word (ops.Create p u) place update is = tt
+update_word (ops.Delete p u) place update is = tt
+update_word (ops.Expire p u) place update is = tt
+update_word (ops.Write p u) place update is = tt
+update_word (ops.Over p u) place update is = tt
+update_word op place update is = absurd (cc is)
+
+-- a call in hand takes this step, which is due, on a replica that is there; it began in the log with this very update, of this checkpoint
+pub record StepsOn (log : List Label) (m : Machine) (s : CallState) (verb : Verb) (k r : ℕ) (x : ReplicaState) : Type 0 where
   pub inv : Invariant m
   pub history : HasHistory m
-  pub held : m.in_hand s.call.actor ≡ Some s
+  pub held : m.in_hand (who s) ≡ Some s
   pub there : m.replicas k r ≡ Some x
   pub told : Told
   pub verb_is : told.verb ≡ verb
   pub done : IsDone m s (due m s) told
+  pub asked : WasAsked log k s.call (update_of s.op)
 
 -- the checkpoint has this entry, and its updates are on all replicas
 pub record DeclaresAll (m : Machine) (k : ℕ) (e : Entry) : Type 0 where

@@ -1,7 +1,7 @@
 -- An open that makes nothing yet is refused, creates a checkpoint, or opens one that is there; with any calls of others in hand.
-use Rattle.std.proofs.Common.{◌≡◌, ◌≤◌, ℕ, ◌+◌, ◌<◌, inl, inr, ◌∷◌, length, Option, Some, None, Bool, true, false, cond, not, ◌==◌, ◌&&◌, nat_le, ℤ, refl, sym, ap, subst, ◌∙◌, arith}
+use Rattle.std.proofs.Common.{◌≡◌, ◌≤◌, ℕ, ◌+◌, ◌<◌, inl, inr, ◌∷◌, length, Option, Some, None, Bool, true, false, cond, not, ◌==◌, nat_le, ℤ, refl, sym, ap, subst, ◌∙◌, arith}
 use Rattle.std.specs.Prelude.{is_some, IsSome, IsSomeAnd, slice_index}
-use Rattle.std.proofs.lemmas.Bool.{leb-true, leb-false}
+use Rattle.std.proofs.lemmas.Bool.{leb-true, leb-false, ltb-true}
 use Rattle.moment_rules.specs.Times.{is_reached}
 use Rattle.ckpt_types.specs.declared.ais_error.AisError.{AisError}
 use Rattle.ckpt_types.specs.declared.ais_error.AisError.TheVariants.{NotExist, Exist, Timeout, TryAgain, NoResources}
@@ -18,7 +18,7 @@ use Rattle.node_msgs.specs.declared.steps.StepReply.TheVariants as words
 use Rattle.cluster_record.specs.declared.calls.Making.{Making}
 use Rattle.cluster_record.specs.declared.entries.Entry.{Entry}
 use Rattle.cluster_record.specs.declared.opening.OpenAnswer.TheVariants as opening
-use Rattle.cluster_record.specs.Calls.{client_of, put_actor}
+use Rattle.cluster_record.specs.Calls.{client_of, same_call}
 use Rattle.cluster_record.specs.DueOpen.{OpenState, IsBefore, accepts, create_next, entry_by, entry_next, on_named, on_free_name}
 use Rattle.cluster_record.specs.LookUps.{identity_in}
 use Rattle.cluster_record.specs.Opening.{answer_named, answer_by}
@@ -29,13 +29,16 @@ use Rattle.cluster_record.specs.StepDone.{StepDone, done_of, has}
 use Rattle.cluster_record.proofs.IdentityLaws.{entry_of-find}
 use Rattle.node_msgs.specs.declared.details.Details.TheVariants as beside
 use Rattle.ckpt_types.specs.Asks.{asked}
+use Rattle.ckpt_types.specs.Limits.{handles_max}
+use Rattle.cluster_record.specs.Makings.{makings_of}
+use Rattle.ckpt_machine.proofs.Whose.{other_call}
 use Rattle.ckpt_machine.specs.Drivers as drivers
 use Rattle.ckpt_machine.specs.Driving.{driver_taken, event_ckpt, event_node, event_refusal, refusal_in, opened_end}
 use Rattle.ckpt_machine.specs.Guards.{IsInTime, MayCreate, IsOpenable, MayOpen, OpenRow, MayExist, IsAccepted, OpenLook}
 use Rattle.ckpt_machine.specs.InHand.{attributes_asked, AreGoodAttributes, is_enter, IsInPlace, IsInHand, IsOpenIn}
 use Rattle.ckpt_machine.specs.Invariant.{IsMaker, IsGoodIn, InvariantIn, Invariant}
 use Rattle.ckpt_machine.specs.Left.{steps_left}
-use Rattle.ckpt_machine.specs.Machine.{Machine, CallState}
+use Rattle.ckpt_machine.specs.Machine.{Machine, CallState, who}
 use Rattle.ckpt_machine.specs.Steps.{reservation_under, Told, IsDone, IsEvent, IsRecordAnswer, IsEventAnswer, driver_of, rooms_of, with_record, created_for}
 use Rattle.ckpt_machine.specs.Shape.{Shape}
 use Rattle.ckpt_machine.proofs.Created.{entry_new, created_keeps}
@@ -53,9 +56,10 @@ use Rattle.ckpt_machine.proofs.OpenThere.{opened_keeps}
 use Rattle.ckpt_machine.proofs.OpenFacts.{LookRefused-open}
 use Rattle.ckpt_machine.proofs.OwnMaking.{open_at}
 use Rattle.ckpt_machine.proofs.PlainCalls.{is_plain, maker_apart, plain_ends, look_goes}
+use Rattle.ckpt_machine.specs.Whose.{put_who}
 use Rattle.ckpt_machine.proofs.DueStep.{Goes}
 
-module _ (m : Machine) (shapes : ℕ → Shape) (inv : InvariantIn shapes m) (s : CallState) (held : m.in_hand s.call.actor ≡ Some s) (call : CallId) (ask : OpenAsk) (deadline : Option ℤ) (is : driver_of s ≡ drivers.Open (record { call = call; ask = ask; deadline = deadline; making = None })) where
+module _ (m : Machine) (shapes : ℕ → Shape) (inv : InvariantIn shapes m) (s : CallState) (held : m.in_hand (who s) ≡ Some s) (call : CallId) (ask : OpenAsk) (deadline : Option ℤ) (is : driver_of s ≡ drivers.Open (record { call = call; ask = ask; deadline = deadline; making = None })) where
   -- what it keeps
   abbrev asking : OpenState
   asking = record { call = call; ask = ask; deadline = deadline; making = None }
@@ -66,10 +70,10 @@ module _ (m : Machine) (shapes : ℕ → Shape) (inv : InvariantIn shapes m) (s 
 
   -- its client is live
   own_live : is_live_client (client_of s.call) m.cluster ≡ true
-  own_live = let hand = inv.hands s.call.actor s held in client_live m.cluster s.call hand.client (hand.live (ap is_enter is))
+  own_live = let hand = inv.hands (who s) s held in client_live m.cluster s.call hand.client (hand.live (ap is_enter is))
 
   -- the call ends, and nothing else changes
-  ends : Invariant (record m { in_hand = put_actor m.in_hand s.call.actor None })
+  ends : Invariant (record m { in_hand = put_who m.in_hand (who s) None })
   ends = record { shapes = shapes; holds = plain_ends m shapes inv s held (ap (λ d. is_plain d s.snapshot) is) }
 
   -- it is refused
@@ -79,6 +83,10 @@ module _ (m : Machine) (shapes : ℕ → Shape) (inv : InvariantIn shapes m) (s 
   -- at its deadline
   refused_late : (t : Told) (d : ℤ) → MayExist (named ask.name m.cluster.entries) ask.attrs → deadline ≡ Some d → is_reached d m.cluster.moment ≡ true → IsDone m s (End (Refused Timeout (Deadline d m.cluster.moment))) t → Goes m s (drivers.Open asking) t
   refused_late t d may at_d late done = refused t Timeout (Deadline d m.cluster.moment) (may, sym at_open.deadline ∙ at_d, refl, late) done
+
+  -- its client has a free place for a handle
+  has_room : (rooms_of m s).handles ≡ true → length (m.tables s.call.actor).handles + makings_of (client_of s.call) m.cluster.entries < handles_max
+  has_room room = ltb-true (length (m.tables s.call.actor).handles + makings_of (client_of s.call) m.cluster.entries) handles_max room
 
   -- before it
   in_time_is : IsBefore m.cluster.moment deadline → IsInTime m s
@@ -117,7 +125,7 @@ module _ (m : Machine) (shapes : ℕ → Shape) (inv : InvariantIn shapes m) (s 
 
     -- the state then
     abbrev then_machine : Machine
-    then_machine = record (with_record m after_it) { in_hand = put_actor m.in_hand s.call.actor (Some then_state) }
+    then_machine = record (with_record m after_it) { in_hand = put_who m.in_hand (who s) (Some then_state) }
 
     -- where the step has led it
     driver_then : driver_of then_state ≡ drivers.Open at_making
@@ -128,9 +136,9 @@ module _ (m : Machine) (shapes : ℕ → Shape) (inv : InvariantIn shapes m) (s 
     none_reserved r c had = (let w : true ≡ false = sym had ∙ ap (has c) (slice_index-replicate 8 r) ∙ has-none c (had-there c (slice_index no_nodes r) had) in cc w)
 
     -- the call is there
-    own_then : (rooms_of m s).handles ≡ true → IsInHand then_machine shapes s.call.actor then_state
-    own_then room = let hand = inv.hands s.call.actor s held in record {
-      actor = refl;
+    own_then : (rooms_of m s).handles ≡ true → IsInHand then_machine shapes (who s) then_state
+    own_then room = let hand = inv.hands (who s) s held in record {
+      whose = refl;
       client = hand.client;
       number = hand.number;
       built = hand.built;
@@ -147,7 +155,6 @@ module _ (m : Machine) (shapes : ℕ → Shape) (inv : InvariantIn shapes m) (s 
         deadline = at_open.deadline;
         making = record { there = IsSomeAnd-from (entry_of next after_it.entries) (λ e. e.making ≡ Some s.call) new found_new refl; declares = IsSomeAnd-from (entry_of next after_it.entries) _ new found_new (ap attributes_asked at_open.asks.asks ∙ given); nodes = refl; reserved = λ r had. absurd (none_reserved r (slice_index m.cluster.up r) had); only = λ r none. never_reserved r; within = λ r some. absurd (let w : true ≡ false = sym (ap (λ (n : ℕ). n == 0) (slice_index-replicate 8 r)) ∙ some in cc w) };
         given = λ some. ap is_some given;
-        room = λ some. room;
       });
     }
       where
@@ -165,7 +172,7 @@ module _ (m : Machine) (shapes : ℕ → Shape) (inv : InvariantIn shapes m) (s 
 
         -- its entry is the new one
         found_new : entry_of next after_it.entries ≡ Some new
-        found_new = entry_new m shapes inv s held (ap (λ d. is_plain d s.snapshot) is) ask.name a (subst AreGoodAttributes given at_open.declared) then_state refl at_making driver_then making refl refl
+        found_new = entry_new m shapes inv s held (ap (λ d. is_plain d s.snapshot) is) ask.name a (subst AreGoodAttributes given at_open.declared) then_state refl refl at_open.caller (has_room room) at_making driver_then making refl refl
 
         never_reserved : (r : ℕ) → then_machine.reserved next r ≡ None
         never_reserved r = ap (λ o. reservation_under o r (m.reserved next r)) found_new ∙ ap (λ b. cond b (m.reserved next r) None) (ap (λ (n : ℕ). n == 0) (slice_index-replicate 8 r)) ∙ not_given r
@@ -181,7 +188,7 @@ module _ (m : Machine) (shapes : ℕ → Shape) (inv : InvariantIn shapes m) (s 
     create_keeps : (rooms_of m s).handles ≡ true → Invariant then_machine
     create_keeps room = record {
       shapes = shapes;
-      holds = created_keeps m shapes inv s held (ap (λ d. is_plain d s.snapshot) is) ask.name a (subst AreGoodAttributes given at_open.declared) then_state refl at_making driver_then making refl refl (own_then room);
+      holds = created_keeps m shapes inv s held (ap (λ d. is_plain d s.snapshot) is) ask.name a (subst AreGoodAttributes given at_open.declared) then_state refl refl at_open.caller (has_room room) at_making driver_then making refl refl (own_then room);
     }
 
     -- its reservations and its finish are left
@@ -197,7 +204,7 @@ module _ (m : Machine) (shapes : ℕ → Shape) (inv : InvariantIn shapes m) (s 
     create_goes t room few event = elim (IsEvent-told m s events.Create t (drivers.Open asking) event is refl tt) [
       | inl ok ↦ subst (Goes m s (drivers.Open asking)) (sym ok) (record {
         row = ((ask.name, ask.attrs, at_open.asks, (may_create room few, refl)), refl);
-        holds = subst (λ R. Invariant (record (with_record m R) { in_hand = put_actor m.in_hand s.call.actor (Some (record s { steps = done_of R verbs.Create (Some next) None words.Ok ∷ s.steps })) })) (sym created_is) (create_keeps room);
+        holds = subst (λ R. Invariant (record (with_record m R) { in_hand = put_who m.in_hand (who s) (Some (record s { steps = done_of R verbs.Create (Some next) None words.Ok ∷ s.steps })) })) (sym created_is) (create_keeps room);
         nearer = λ none. subst (λ R. steps_left R (driver_taken (done_of R verbs.Create (Some next) None words.Ok) (drivers.Open asking)) < steps_left m.cluster (drivers.Open asking)) (sym created_is) create_nearer;
       })
       | inr memory ↦ subst (Goes m s (drivers.Open asking)) (sym memory.1) (record {
@@ -231,8 +238,8 @@ module _ (m : Machine) (shapes : ℕ → Shape) (inv : InvariantIn shapes m) (s 
         record {
           there = IsSomeAnd-from (named ask.name m.cluster.entries) (λ x. (x.identity ≡ e.identity) × (x.making ≡ Some by)) e found (refl, made_by);
           in_time = in_time_is before;
-          live = ap (is_live m.cluster) (sym maker.call_is) ∙ (inv.hands by.actor maker.state maker.in_hand).live (ap is_enter maker.driver_is);
-          another = ap (λ b. b && (by.number == s.call.number)) (maker_apart m shapes inv s held (ap (λ d. is_plain d s.snapshot) is) e.identity by maker);
+          live = ap (is_live m.cluster) (sym maker.call_is) ∙ (inv.hands (who maker.state) maker.state maker.in_hand).live (ap is_enter maker.driver_is);
+          another = ap (λ (c : CallId). same_call c s.call) (sym maker.call_is) ∙ other_call m.in_hand m.pending m.next inv.calls (who maker.state) (who s) maker.state s maker.in_hand held (maker_apart m shapes inv s held (ap (λ d. is_plain d s.snapshot) is) e.identity by maker);
           answer = refl;
         },
       )
@@ -283,7 +290,7 @@ module _ (m : Machine) (shapes : ℕ → Shape) (inv : InvariantIn shapes m) (s 
         | inl ok ↦
             subst (Goes m s (drivers.Open asking)) (sym (ok ∙ (λ i. record { verb = verbs.Open; ckpt = identity_in (found i); node = None; reply = words.Ok; end = opened_end (identity_in (found i)); details = beside.Nothing }))) (record {
               row = ((ask.name, ask.attrs, at_open.asks, (may_open accepted room, refl)), refl);
-              holds = opened_keeps m shapes inv s held (ap (λ d. is_plain d s.snapshot) is) own_live e there made;
+              holds = opened_keeps m shapes inv s held (ap (λ d. is_plain d s.snapshot) is) own_live e there made (has_room room);
               nearer = λ none. absurd (cc none);
             })
         | inr memory ↦

@@ -1,5 +1,5 @@
 -- An open that is making a checkpoint reserves it on each node that is up, and finishes it; or undoes it, where memory was refused or its deadline is reached; with any calls of others in hand.
-use Rattle.std.proofs.Common.{◌≡◌, ℕ, ◌+◌, ◌<◌, inl, inr, ◌∷◌, length, Option, Some, None, Bool, true, false, cond, not, ◌==◌, ◌&&◌, nat_lt, ℤ, refl, sym, ap, subst, ◌∙◌, arith}
+use Rattle.std.proofs.Common.{◌≡◌, ℕ, ◌+◌, ◌<◌, ◌≤◌, inl, inr, ◌∷◌, length, Option, Some, None, Bool, true, false, cond, not, ◌==◌, ◌&&◌, nat_lt, ℤ, refl, sym, ap, subst, ◌∙◌, arith}
 use Rattle.std.specs.Prelude.{IsSome, IsSomeAnd, IfSome, slice_index, slice_set}
 use Rattle.std.proofs.lemmas.Bool.{eqb-true, eq-eqb, lt-ltb, ltb-true, and_parts}
 use Rattle.std.proofs.lemmas.Option.{same_Some}
@@ -18,12 +18,17 @@ use Rattle.node_msgs.specs.declared.steps.Verb.TheVariants as verbs
 use Rattle.node_msgs.specs.declared.steps.StepReply.TheVariants as words
 use Rattle.cluster_record.specs.declared.calls.Making.{Making}
 use Rattle.cluster_record.specs.declared.entries.Entry.{Entry}
-use Rattle.cluster_record.specs.Calls.{client_of, put_actor}
+use Rattle.cluster_record.specs.Calls.{client_of}
 use Rattle.cluster_record.specs.DueOpen.{OpenState, IsBefore, in_time, reserve_or_finish, targets_by, targets_of, on_making}
 use Rattle.cluster_record.specs.Placement.{is_collocated, targets}
 use Rattle.cluster_record.specs.Places.{put2}
 use Rattle.ckpt_types.specs.Asks.{asked}
-use Rattle.cluster_record.specs.RecordState.{RecordState, entry_of, identity_of, named, is_up, is_live_client, first_complete, home_of, made_with, finished, swept, stays}
+use Rattle.ckpt_types.specs.Limits.{handles_max}
+use Rattle.ckpt_types.specs.declared.identities.ActorName.TheVariants.{Client}
+use Rattle.cluster_record.specs.Makings.{making_call, makings_of}
+use Rattle.cluster_record.proofs.MakingCounts.{is_call_of-own, makings_of-finished_own}
+use Rattle.ckpt_machine.proofs.EndedTables.{client_by_number}
+use Rattle.cluster_record.specs.RecordState.{RecordState, entry_of, identity_of, named, is_up, is_live_client, first_complete, home_of, made_with, finished, swept, stays, is_call_of}
 use Rattle.cluster_record.specs.StepDone.{StepDone, done_of, first_lacking, has, lacks}
 use Rattle.ckpt_machine.specs.Drivers as drivers
 use Rattle.ckpt_machine.specs.Driving.{driver_taken}
@@ -32,7 +37,7 @@ use Rattle.ckpt_machine.specs.Entries.{WasMade, IsMakingEntry, AllStay}
 use Rattle.ckpt_machine.specs.InHand.{is_enter, attributes_asked, IsMakingIn, IsInPlace, IsOpenIn}
 use Rattle.ckpt_machine.specs.Invariant.{InvariantIn, Invariant}
 use Rattle.ckpt_machine.specs.Left.{steps_left, lacking}
-use Rattle.ckpt_machine.specs.Machine.{Machine, CallState}
+use Rattle.ckpt_machine.specs.Machine.{Machine, CallState, who}
 use Rattle.ckpt_machine.specs.Steps.{Told, IsDone, IsServed, IsEvent, driver_of, with_record, with_given, with_reservation, record_step, without_making}
 use Rattle.ckpt_machine.specs.Shape.{Shape, IsCompleteOn}
 use Rattle.ckpt_machine.proofs.Deadlines.{in_time-cases}
@@ -52,13 +57,14 @@ use Rattle.ckpt_machine.proofs.OwnMaking.{open_at, making_at, made_by, making_en
 use Rattle.ckpt_machine.proofs.PlainCalls.{ending}
 use Rattle.ckpt_machine.proofs.Reserved.{reserved_keeps}
 use Rattle.ckpt_machine.proofs.Undone.{undone_keeps}
+use Rattle.ckpt_machine.specs.Whose.{put_who}
 use Rattle.ckpt_machine.proofs.DueStep.{Goes}
 
 -- the call is in hand, with one step more
 abbrev going_on : CallState → StepDone → Machine → Machine
-going_on s d m = record m { in_hand = put_actor m.in_hand s.call.actor (Some (record s { steps = d ∷ s.steps })) }
+going_on s d m = record m { in_hand = put_who m.in_hand (who s) (Some (record s { steps = d ∷ s.steps })) }
 
-module _ (m : Machine) (shapes : ℕ → Shape) (inv : InvariantIn shapes m) (s : CallState) (held : m.in_hand s.call.actor ≡ Some s) (call : CallId) (ask : OpenAsk) (deadline : Option ℤ) (making : Making) (is : driver_of s ≡ drivers.Open (record { call = call; ask = ask; deadline = deadline; making = Some making })) where
+module _ (m : Machine) (shapes : ℕ → Shape) (inv : InvariantIn shapes m) (s : CallState) (held : m.in_hand (who s) ≡ Some s) (call : CallId) (ask : OpenAsk) (deadline : Option ℤ) (making : Making) (is : driver_of s ≡ drivers.Open (record { call = call; ask = ask; deadline = deadline; making = Some making })) where
   -- what it keeps
   abbrev at_making : OpenState
   at_making = record { call = call; ask = ask; deadline = deadline; making = Some making }
@@ -142,7 +148,7 @@ module _ (m : Machine) (shapes : ℕ → Shape) (inv : InvariantIn shapes m) (s 
 
   -- its client is live
   own_live : is_live_client (client_of s.call) m.cluster ≡ true
-  own_live = let hand = inv.hands s.call.actor s held in client_live m.cluster s.call hand.client (hand.live (ap is_enter is))
+  own_live = let hand = inv.hands (who s) s held in client_live m.cluster s.call hand.client (hand.live (ap is_enter is))
 
   -- its client's node is up
   home_up : is_up (home_of ask.client m.cluster) m.cluster ≡ true
@@ -172,11 +178,20 @@ module _ (m : Machine) (shapes : ℕ → Shape) (inv : InvariantIn shapes m) (s 
   -- its client may be given a handle
   may_give : IsGivable finished_then s.call.actor k
   may_give = record {
-    client = (inv.hands s.call.actor s held).client;
+    client = (inv.hands (who s) s held).client;
     live = own_live;
     made = made_now;
     placed = subst (λ o. IfSome o (λ (e : Entry). is_collocated e.attributes ≡ true → IsCompleteOn e (home_of (client_of s.call) m.cluster))) (sym found_now) (λ collocated. subst (λ (c : ℕ). IsCompleteOn made (home_of c m.cluster)) at_open.client home_there);
   }
+
+  -- its client makes one less, so it has room for the handle
+  room_then : length (m.tables s.call.actor).handles + makings_of (client_of s.call) finished_then.entries < handles_max
+  room_then =
+      let own : is_call_of (client_of s.call) (making_call (entry_of k m.cluster.entries)) ≡ true = ap (λ o. is_call_of (client_of s.call) (making_call o)) entry.1 ∙ ap (is_call_of (client_of s.call)) entry.2 ∙ is_call_of-own s.call at_open.caller in
+      let fewer = makings_of-finished_own (client_of s.call) k m.cluster ask.client own in
+      let few : length (m.tables (Client (client_of s.call))).handles + makings_of (client_of s.call) m.cluster.entries ≤ handles_max = inv.places (client_of s.call) in
+      let here : length (m.tables s.call.actor).handles ≡ length (m.tables (Client (client_of s.call))).handles = ap (λ b. length (m.tables b).handles) (client_by_number s.call.actor at_open.caller) in
+      omega (arith, fewer, few, here)
 
   -- the client of the call finishes it, and no sweep takes anything
   finished_is : swept (finished k (client_of s.call) m.cluster) ≡ finished_then
@@ -186,7 +201,7 @@ module _ (m : Machine) (shapes : ℕ → Shape) (inv : InvariantIn shapes m) (s 
   finished_keeps : Invariant (ending s (with_given s k (record_step (finished k (client_of s.call)) m)))
   finished_keeps = subst (λ R. Invariant (ending s (with_given s k (with_record m R)))) (sym finished_is) (record {
     shapes = _;
-    holds = given_ends (with_record m finished_then) _ s k (finish_keeps m shapes inv s at_making making held is refl ask.client entry.0 entry.1 entry.2 some_up (none_else m shapes inv s at_making held is making refl) finished_stays) may_give;
+    holds = given_ends (with_record m finished_then) _ s k (finish_keeps m shapes inv s at_making making held is refl ask.client entry.0 entry.1 entry.2 some_up (none_else m shapes inv s at_making held is making refl) finished_stays) may_give room_then;
   })
 
   -- every node on which it is made has reserved
@@ -253,7 +268,7 @@ module _ (m : Machine) (shapes : ℕ → Shape) (inv : InvariantIn shapes m) (s 
 
       -- the state with these reservations
       abbrev then_machine : Machine
-      then_machine = record m { reserved = g; in_hand = put_actor m.in_hand s.call.actor (Some then_state) }
+      then_machine = record m { reserved = g; in_hand = put_who m.in_hand (who s) (Some then_state) }
 
       -- where the step has led the call
       driver_then : driver_of then_state ≡ drivers.Open (with_making w)
@@ -261,8 +276,8 @@ module _ (m : Machine) (shapes : ℕ → Shape) (inv : InvariantIn shapes m) (s 
 
       -- the invariant holds then, where it holds of the making
       goes_on : IsMakingIn then_machine then_state w → InvariantIn shapes then_machine
-      goes_on making_then = reserved_keeps m shapes inv s at_making making held is refl g elsewhere then_state refl (with_making w) driver_then w refl same_ckpt (let hand = inv.hands s.call.actor s held in record {
-        actor = refl;
+      goes_on making_then = reserved_keeps m shapes inv s at_making making held is refl g elsewhere then_state refl refl (with_making w) driver_then w refl same_ckpt (let hand = inv.hands (who s) s held in record {
+        whose = refl;
         client = hand.client;
         number = hand.number;
         built = hand.built;
@@ -279,7 +294,6 @@ module _ (m : Machine) (shapes : ℕ → Shape) (inv : InvariantIn shapes m) (s 
           deadline = at_open.deadline;
           making = making_then;
           given = λ some. at_open.given refl;
-          room = λ some. at_open.room refl;
         });
       })
 

@@ -10,7 +10,8 @@ use Rattle.ckpt_types.specs.declared.identities.ActorName.{ActorName}
 use Rattle.ckpt_types.specs.declared.identities.ActorName.TheVariants.{Client, Node}
 use Rattle.ckpt_types.specs.declared.identities.CallId.{CallId}
 use Rattle.ckpt_types.specs.Attributes.{IsWellFormed}
-use Rattle.ckpt_types.specs.Limits.{name_max}
+use Rattle.ckpt_types.specs.Limits.{name_max, handles_max}
+use Rattle.client_handles.specs.ClientState.{has_handle_room}
 use Rattle.ckpt_types.proofs.AttributeLaws.{IsWellFormed-from_check}
 use Rattle.node_msgs.specs.declared.requests.Request.{Request}
 use Rattle.node_msgs.specs.declared.requests.Request.TheVariants as requests
@@ -24,24 +25,26 @@ use Rattle.cluster_record.specs.Calls.{IsClient, client_of, number_of}
 use Rattle.cluster_record.specs.DueOpen.{OpenState, create_next, entry_by, entry_next, on_named, on_free_name, accepts, reserve_or_finish, targets_by, targets_of, on_making, by_making, making_ckpt}
 use Rattle.cluster_record.specs.Placement.{targets}
 use Rattle.ckpt_types.specs.Asks.{asked}
-use Rattle.cluster_record.specs.Makings.{IsMakingOf}
+use Rattle.cluster_record.specs.Makings.{IsMakingOf, makings_of}
 use Rattle.cluster_record.specs.Places.{find_key}
 use Rattle.cluster_record.specs.RecordReady.{CanOpen}
-use Rattle.cluster_record.specs.RecordState.{RecordState, entry_of, home_of, named, client_key, node_of_client, is_up, is_live, is_live_client, is_live_from}
+use Rattle.cluster_record.specs.RecordState.{RecordState, entry_of, home_of, named, client_key, node_of_client, is_up, is_live, is_live_client, is_live_from, is_call_of}
 use Rattle.cluster_record.specs.StepDone.{has, lacks, first_lacking}
 use Rattle.cluster_record.proofs.IdentityLaws.{entry_of-find}
 use Rattle.cluster_record.proofs.MakingLaws.{making-own}
+use Rattle.cluster_record.proofs.MakingCounts.{one_if, is_call_of-own, makings_of-gone}
 use Rattle.ckpt_machine.specs.Drivers as drivers
 use Rattle.ckpt_machine.specs.Driving.{driver_next}
 use Rattle.ckpt_machine.specs.Facts.{IsServable, IsReservable, IsFinishable, IsAddable, FitsOpen, IsEventReady}
 use Rattle.ckpt_machine.specs.Entries.{IsMakingEntry}
 use Rattle.ckpt_machine.specs.InHand.{AreGoodAttributes, attributes_asked, is_enter, IsMakingIn, IsOpenIn}
 use Rattle.ckpt_machine.specs.Invariant.{IsGoodIn, IsGoodClient, InvariantIn}
-use Rattle.ckpt_machine.specs.Machine.{Machine, CallState}
+use Rattle.ckpt_machine.specs.Machine.{Machine, CallState, who}
 use Rattle.ckpt_machine.specs.Steps.{due, driver_of, rooms_of}
 use Rattle.ckpt_machine.specs.Shape.{Shape}
 use Rattle.ckpt_machine.proofs.Deadlines.{in_time-either}
 use Rattle.ckpt_machine.proofs.OptionLemmas.{IsSomeAnd-from}
+use Rattle.ckpt_machine.proofs.EndedTables.{client_by_number}
 use Rattle.ckpt_machine.proofs.NodeLists.{first_lacking-is, first_lacking-None, not-lacked, lacked-has, index-within, slice_index-replicate}
 use Rattle.ckpt_machine.proofs.Targets.{targets-length, target-up}
 use Rattle.ckpt_machine.proofs.OwnMaking.{open_at, making_at, making_entry}
@@ -88,7 +91,7 @@ home_is_up m shapes inv c live = by_client (find_key client_key c m.cluster.clie
     by_client None live good = absurd (cc live)
     by_client (Some x) live good = good.1
 
-module _ (m : Machine) (shapes : ℕ → Shape) (inv : InvariantIn shapes m) (s : CallState) (o : OpenState) (held : m.in_hand s.call.actor ≡ Some s) (is : driver_of s ≡ drivers.Open o) where
+module _ (m : Machine) (shapes : ℕ → Shape) (inv : InvariantIn shapes m) (s : CallState) (o : OpenState) (held : m.in_hand (who s) ≡ Some s) (is : driver_of s ≡ drivers.Open o) where
   -- where its steps have led it
   at_open : IsOpenIn m s o
   at_open = open_at m shapes inv s o held is
@@ -122,7 +125,7 @@ module _ (m : Machine) (shapes : ℕ → Shape) (inv : InvariantIn shapes m) (s 
 
   -- its client is live
   own_live : is_live_client (client_of s.call) m.cluster ≡ true
-  own_live = let hand = inv.hands s.call.actor s held in client_live m.cluster s.call hand.client (hand.live (ap is_enter is))
+  own_live = let hand = inv.hands (who s) s held in client_live m.cluster s.call hand.client (hand.live (ap is_enter is))
 
   -- a replica of one that is made can be added: nothing is reserved for it
   addable : (e : Entry) → named o.ask.name m.cluster.entries ≡ Some e → e.making ≡ None → IsAddable m o.ask.client e
@@ -236,6 +239,15 @@ module _ (m : Machine) (shapes : ℕ → Shape) (inv : InvariantIn shapes m) (s 
       own,
     )
 
+    -- the record counts it among those that its client makes, which have a free place for a handle each
+    handle_room : has_handle_room (m.tables s.call.actor) ≡ true
+    handle_room =
+        let own : one_if (is_call_of (client_of s.call) entry.0.making) ≡ 1 = ap one_if (ap (is_call_of (client_of s.call)) entry.2 ∙ is_call_of-own s.call at_open.caller) in
+        let counted = makings_of-gone (client_of s.call) making.ckpt m.cluster.entries entry.0 inv.rises entry.1 in
+        let few : length (m.tables (Client (client_of s.call))).handles + makings_of (client_of s.call) m.cluster.entries ≤ handles_max = inv.places (client_of s.call) in
+        let here : length (m.tables s.call.actor).handles ≡ length (m.tables (Client (client_of s.call))).handles = ap (λ b. length (m.tables b).handles) (client_by_number s.call.actor at_open.caller) in
+        lt-ltb (length (m.tables s.call.actor).handles) handles_max (omega (arith, own, counted, few, here))
+
     -- it can be undone
     undo_ready : IsReadyOpen m s o (Event events.Undo)
     undo_ready = (IsSomeAnd-from o.making (λ making. Unit {0}) making makes tt, own)
@@ -264,5 +276,9 @@ module _ (m : Machine) (shapes : ℕ → Shape) (inv : InvariantIn shapes m) (s 
       by_making_of (Some making) makes = making_ready making makes
 
   -- with a checkpoint in the making it has room for the handle, and its client is live
-  pub open_fits : (IsSome o.making → (rooms_of m s).handles ≡ true) × (is_live_client (client_of s.call) m.cluster ≡ true)
-  open_fits = (at_open.room, own_live)
+  pub open_fits : (IsSome o.making → has_handle_room (m.tables s.call.actor) ≡ true) × (is_live_client (client_of s.call) m.cluster ≡ true)
+  open_fits = (by_making_of o.making refl, own_live)
+    where
+      by_making_of : (w : Option Making) → o.making ≡ w → IsSome w → has_handle_room (m.tables s.call.actor) ≡ true
+      by_making_of None makes some = absurd (cc some)
+      by_making_of (Some making) makes some = handle_room making makes

@@ -1,16 +1,19 @@
 -- An open of a checkpoint that is there: its client has one reference more, and the handle once its call has ended; a collocated one has a replica on its client's node.
-use Rattle.std.proofs.Common.{◌≡◌, ℕ, ◌<◌, Option, Some, None, Bool, true, false, cond, not, ◌==◌, nat_lt, refl, sym, ap, subst, ◌∙◌}
+use Rattle.std.proofs.Common.{◌≡◌, ℕ, ◌+◌, ◌<◌, arith, length, Option, Some, None, Bool, true, false, cond, not, ◌==◌, nat_lt, refl, sym, ap, subst, ◌∙◌}
 use Rattle.std.specs.Prelude.{IfSome, slice_index}
 use Rattle.std.proofs.lemmas.Bool.{eq-eqb, ltb-true, and_parts}
 use Rattle.std.proofs.lemmas.Option.{same_Some}
 use Rattle.cluster_record.specs.Calls.{client_of}
+use Rattle.cluster_record.specs.Makings.{makings_of}
+use Rattle.cluster_record.proofs.MakingCounts.{makings_of-swept, makings_of-opened}
+use Rattle.ckpt_types.specs.Limits.{handles_max}
 use Rattle.cluster_record.specs.Placement.{is_collocated}
 use Rattle.cluster_record.specs.declared.entries.Entry.{Entry}
 use Rattle.cluster_record.specs.RecordState.{RecordState, identity_of, entry_of, is_live_client, home_of, stays, opened_with, opened, swept}
 use Rattle.cluster_record.proofs.IdentityLaws.{KeepsIdentity, IdentitiesRise-change_key}
 use Rattle.ckpt_machine.specs.Entries.{WasMade}
 use Rattle.ckpt_machine.specs.Invariant.{IsGoodIn, InvariantIn, Invariant}
-use Rattle.ckpt_machine.specs.Machine.{Machine, CallState}
+use Rattle.ckpt_machine.specs.Machine.{Machine, CallState, who}
 use Rattle.ckpt_machine.specs.Steps.{driver_of, with_given, record_step}
 use Rattle.ckpt_machine.specs.Shape.{Shape, IsCompleteOn, IsSpread}
 use Rattle.ckpt_machine.specs.Later.{IsLaterEntry}
@@ -29,7 +32,7 @@ pub not_not : (b : Bool) → not b ≡ true → b ≡ false
 not_not true is = absurd (cc is)
 not_not false is = refl
 
-module _ (m : Machine) (shapes : ℕ → Shape) (inv : InvariantIn shapes m) (s : CallState) (held : m.in_hand s.call.actor ≡ Some s) (plain : is_plain (driver_of s) s.snapshot ≡ true) (live : is_live_client (client_of s.call) m.cluster ≡ true) (e : Entry) (there : entry_of e.identity m.cluster.entries ≡ Some e) (made : e.making ≡ None) where
+module _ (m : Machine) (shapes : ℕ → Shape) (inv : InvariantIn shapes m) (s : CallState) (held : m.in_hand (who s) ≡ Some s) (plain : is_plain (driver_of s) s.snapshot ≡ true) (live : is_live_client (client_of s.call) m.cluster ≡ true) (e : Entry) (there : entry_of e.identity m.cluster.entries ≡ Some e) (made : e.making ≡ None) where
   -- the client
   abbrev c : ℕ
   c = client_of s.call
@@ -79,7 +82,7 @@ module _ (m : Machine) (shapes : ℕ → Shape) (inv : InvariantIn shapes m) (s 
   -- the client may be given a handle
   may_give : IsGivable R s.call.actor e.identity
   may_give = record {
-    client = (inv.hands s.call.actor s held).client;
+    client = (inv.hands (who s) s held).client;
     live = live;
     made = was_made;
     placed = IfSome-from (entry_of e.identity R.entries) _ (λ f found.
@@ -89,9 +92,11 @@ module _ (m : Machine) (shapes : ℕ → Shape) (inv : InvariantIn shapes m) (s 
         subst (λ (x : Entry). is_collocated x.attributes ≡ true → IsCompleteOn x (home_of c m.cluster)) f_is home_there);
   }
 
-  -- the call ends, and its client has the handle
-  pub opened_keeps : Invariant (ending s (with_given s e.identity (record_step (opened e.identity c) m)))
-  opened_keeps = record {
+  -- the call ends, and its client has the handle, where there is room for it
+  pub opened_keeps : length (m.tables s.call.actor).handles + makings_of c m.cluster.entries < handles_max → Invariant (ending s (with_given s e.identity (record_step (opened e.identity c) m)))
+  opened_keeps room = record {
     shapes = shapes;
-    holds = given_ends (record_step (opened e.identity c) m) shapes s e.identity (changed_keeps m shapes inv s held plain e.identity change change-identity change-later) may_give;
+    holds = given_ends (record_step (opened e.identity c) m) shapes s e.identity (changed_keeps m shapes inv s held plain e.identity change change-identity change-later) may_give (
+        let same : makings_of c R.entries ≡ makings_of c m.cluster.entries = makings_of-swept c (opened e.identity c m.cluster) ∙ makings_of-opened c m.cluster e.identity c in
+        omega (arith, room, same));
   }

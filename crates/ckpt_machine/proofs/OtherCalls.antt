@@ -1,12 +1,13 @@
 -- A state that looks like the one before, to a call in hand or to a checkpoint: they are where they were.
 use Rattle.std.specs.Option.{option_map}
-use Rattle.std.proofs.Common.{◌≡◌, ℕ, ◌<◌, ◌≤◌, arith, List, Option, Some, None, Bool, true, false, ◌==◌, refl, sym, ap, subst, ◌∙◌}
+use Rattle.std.proofs.Common.{◌≡◌, ℕ, ◌<◌, ◌≤◌, arith, List, Option, Some, None, Bool, true, false, cond, ◌==◌, refl, sym, ap, subst, ◌∙◌}
 use Rattle.std.specs.Prelude.{is_some, IsSome, IsSomeAnd, IfSome, slice_get, slice_index}
 use Rattle.ckpt_types.specs.Attributes.{is_malformed}
 use Rattle.ckpt_types.specs.Updates.{outcome}
 use Rattle.ckpt_types.specs.declared.identities.ActorName.{ActorName}
 use Rattle.ckpt_types.specs.declared.identities.CallId.{CallId}
-use Rattle.client_handles.specs.ClientState.{ClientState, has_handle_room}
+use Rattle.ckpt_types.specs.declared.identities.Who.{Who}
+use Rattle.call_dispatch.specs.PendingCalls.{PendingCalls}
 use Rattle.section_iter.specs.Room.{room_declared}
 use Rattle.cluster_record.specs.declared.calls.Making.{Making}
 use Rattle.cluster_record.specs.declared.calls.MarksMade.{MarksMade}
@@ -25,18 +26,22 @@ use Rattle.cluster_record.specs.Placement.{is_collocated}
 use Rattle.cluster_record.specs.RecordState.{entry_of, is_live, is_live_client, is_up}
 use Rattle.cluster_record.specs.StepDone.{has, last_having}
 use Rattle.ckpt_types.specs.Asks.{asked}
+use Rattle.ckpt_types.specs.OpWord.{is_async, word_of_op}
+use Rattle.ckpt_types.specs.declared.operation.Op.{Op}
+use Rattle.ckpt_types.specs.declared.operation.Op.TheVariants as ops
+use Rattle.client_handles.specs.declared.handle_view.HandleView.{HandleView}
+use Rattle.cluster_record.specs.declared.calls.ActiveKind.{ActiveKind}
 use Rattle.ckpt_machine.specs.Drivers.{Driver}
 use Rattle.ckpt_machine.specs.Drivers as drivers
 use Rattle.ckpt_machine.specs.Entries.{WasMade}
 use Rattle.ckpt_types.specs.declared.attributes.CreationAttributes.{CreationAttributes}
-use Rattle.ckpt_machine.specs.Machine.{Machine, ReplicaState, Snapshot, CallState}
+use Rattle.ckpt_machine.specs.Machine.{Machine, ReplicaState, Snapshot, CallState, who}
 use Rattle.ckpt_machine.specs.Options.{is_all, is_weak}
 use Rattle.ckpt_machine.specs.Propagation.{on_node, copied}
 use Rattle.weak_marks.specs.Marks.{Marked}
 use Rattle.ckpt_machine.specs.Shape.{Shape, IsCompleteOn, marks_at, IsShapedBy, is_owner, IsOwner, IsMarker, IsActiveBy, IsHolder}
 use Rattle.ckpt_machine.specs.Steps.{opened_state, driver_of, asked_handle}
-use Rattle.ckpt_machine.specs.Tables.{handle_asked}
-use Rattle.ckpt_machine.specs.InHand.{is_marked_by, is_held_by, IsMakingIn, IsOpenIn, IsUpdateIn, HasSome, HasServedActive, IsSettingIn, IsSyncBy, IsOnceAt, IsInPlace, IsInHand}
+use Rattle.ckpt_machine.specs.InHand.{active_kind, is_marked_by, is_held_by, IsMakingIn, IsOpenIn, IsUpdateIn, HasSome, HasServedActive, IsSettingIn, IsSyncBy, IsOnceAt, IsInPlace, IsInHand}
 use Rattle.ckpt_machine.specs.Invariant.{IsMaker, IsGoodIn}
 use Rattle.ckpt_machine.specs.Later.{IsLaterEntry}
 pub use Rattle.ckpt_machine.proofs.Joining.{IsLaterEntry-refl}
@@ -81,11 +86,22 @@ LooksLater-later z marks e f later = record {
   hold = ap (is_held_by z.call) later.hold;
 }
 
+-- the handle that a call is about; an asynchronous one looks at none once it is begun
+abbrev pub handle_of : Machine → CallState → Option HandleView
+handle_of m z = cond (is_async (word_of_op z.op)) None (asked_handle m z.call.actor z.op)
+
+-- a call to the active is no asynchronous one
+pub plain_active : (all weak : Bool) (op : Op) (kind : ActiveKind) → active_kind all weak (asked op) ≡ Some kind → is_async (word_of_op op) ≡ false
+plain_active all weak (ops.OpenAsync place invocation name flags a) kind is = absurd (cc is)
+plain_active all weak (ops.SyncAsync place invocation) kind is = absurd (cc is)
+plain_active all weak op kind is = refl
+
 -- n and its shapes look to the call as m and its did
 pub record LooksAlike (m n : Machine) (shapes then_shapes : ℕ → Shape) (z : CallState) : Type 0 where
   pub up : (r : ℕ) → is_up r m.cluster ≡ true → is_up r n.cluster ≡ true
   pub lives : is_live_client (client_of z.call) n.cluster ≡ is_live_client (client_of z.call) m.cluster
-  pub tables : n.tables z.call.actor ≡ m.tables z.call.actor
+  -- the handle that it is about is there where it was
+  pub handle : IsSome (handle_of m z) → IsSome (handle_of n z)
   pub making : (o : OpenState) → IsOpenIn m z o → IfSome o.making (IsMakingIn n z)
   -- of the checkpoints that were made, those that are left look as they did
   pub made : (k : ℕ) → WasMade m.cluster k → WasMade n.cluster k
@@ -94,8 +110,11 @@ pub record LooksAlike (m n : Machine) (shapes then_shapes : ℕ → Shape) (z : 
   pub marks : (k : ℕ) → WasMade m.cluster k → is_marked_by z.call (then_shapes k).marks ≡ is_marked_by z.call (shapes k).marks
 
 module _ (m n : Machine) (shapes then_shapes : ℕ → Shape) (z : CallState) (alike : LooksAlike m n shapes then_shapes z) where
-  handle_alike : IsSome (asked_handle m z.call.actor z.op) → IsSome (asked_handle n z.call.actor z.op)
-  handle_alike there = subst (λ (t : ClientState). IsSome (handle_asked (asked z.op) t)) (sym alike.tables) there
+  -- the handle of one that is no asynchronous one is there
+  handle_alike : is_async (word_of_op z.op) ≡ false → IsSome (asked_handle m z.call.actor z.op) → IsSome (asked_handle n z.call.actor z.op)
+  handle_alike plain there =
+      let was : IsSome (handle_of m z) = subst (λ b. IsSome (cond b None (asked_handle m z.call.actor z.op))) (sym plain) there in
+      subst (λ b. IsSome (cond b None (asked_handle n z.call.actor z.op))) plain (alike.handle was)
 
   -- what holds of what a checkpoint declares, where it is there
   declared_alike : (P : CreationAttributes → Type 0) (k : ℕ) → WasMade m.cluster k → IfSome (entry_of k m.cluster.entries) (λ e. P e.attributes) → IfSome (entry_of k n.cluster.entries) (λ e. P e.attributes)
@@ -196,7 +215,6 @@ module _ (m n : Machine) (shapes then_shapes : ℕ → Shape) (z : CallState) (a
     deadline = at.deadline;
     making = alike.making o at;
     given = at.given;
-    room = λ some. ap has_handle_room alike.tables ∙ at.room some;
   }
   IsIn-alike (drivers.Update u) at = record {
     call = at.call;
@@ -222,7 +240,7 @@ module _ (m n : Machine) (shapes then_shapes : ℕ → Shape) (z : CallState) (a
     room = declared_alike (λ a. z.kept.room ≡ room_declared a) a.ckpt at.made at.room;
     all = declared_alike (λ b. z.kept.all ≡ is_all b) a.ckpt at.made at.all;
     weak = declared_alike (λ b. z.kept.weak ≡ is_weak b) a.ckpt at.made at.weak;
-    handle = handle_alike at.handle;
+    handle = handle_alike (plain_active z.kept.all z.kept.weak z.op a.kind at.kind) at.handle;
     marks = λ f is. let (e, was, look) = alike.later a.ckpt at.made f is in alike.marks a.ckpt at.made ∙ at.marks e was;
     generation = λ f is. (
         let (e, was, look) = alike.later a.ckpt at.made f is in
@@ -236,23 +254,23 @@ module _ (m n : Machine) (shapes then_shapes : ℕ → Shape) (z : CallState) (a
   IsIn-alike (drivers.Sync u) at = IsSync-alike u u.kind at
 
   -- and all holds of it that did
-  pub IsInHand-alike : (a : ActorName) → (is_live m.cluster z.call ≡ true → is_live n.cluster z.call ≡ true) → z.call.number < n.next a → IsInHand m shapes a z → IsInHand n then_shapes a z
-  IsInHand-alike a live number was = record { actor = was.actor; client = was.client; number = number; built = was.built; driven = was.driven; live = λ others. live (was.live others); here = IsIn-alike (driver_of z) was.here }
+  pub IsInHand-alike : (w : Who) → (is_live m.cluster z.call ≡ true → is_live n.cluster z.call ≡ true) → z.call.number < n.next z.call.actor → IsInHand m shapes w z → IsInHand n then_shapes w z
+  IsInHand-alike w live number was = record { whose = was.whose; client = was.client; number = number; built = was.built; driven = was.driven; live = λ others. live (was.live others); here = IsIn-alike (driver_of z) was.here }
 
 -- ---- a checkpoint
 
 module _ (m n : Machine) (k : ℕ) where
   -- who owns a slot has the same in hand
-  pub IsOwner-alike : (sh : Shape) (d : CallId) → n.in_hand d.actor ≡ m.in_hand d.actor → IsOwner m k sh d → IsOwner n k sh d
-  IsOwner-alike sh d same own = record { state = own.state; in_hand = same ∙ own.in_hand; call_is = own.call_is; driver = own.driver; driver_is = own.driver_is; ckpt = own.ckpt; phase = own.phase }
+  pub IsOwner-alike : (sh : Shape) (d : CallId) (own : IsOwner m k sh d) → n.in_hand (who own.state) ≡ m.in_hand (who own.state) → IsOwner n k sh d
+  IsOwner-alike sh d own same = record { state = own.state; in_hand = same ∙ own.in_hand; call_is = own.call_is; driver = own.driver; driver_is = own.driver_is; ckpt = own.ckpt; phase = own.phase }
 
   -- so has whose marks stand
-  pub IsMarker-alike : (marks : Marked) → n.in_hand marks.call.actor ≡ m.in_hand marks.call.actor → IsMarker m k marks → IsMarker n k marks
-  IsMarker-alike marks same own = record { state = own.state; in_hand = same ∙ own.in_hand; call_is = own.call_is; driver = own.driver; driver_is = own.driver_is; ckpt = own.ckpt; made = own.made; made_is = own.made_is; update = own.update; left = own.left }
+  pub IsMarker-alike : (marks : Marked) (own : IsMarker m k marks) → n.in_hand (who own.state) ≡ m.in_hand (who own.state) → IsMarker n k marks
+  IsMarker-alike marks own same = record { state = own.state; in_hand = same ∙ own.in_hand; call_is = own.call_is; driver = own.driver; driver_is = own.driver_is; ckpt = own.ckpt; made = own.made; made_is = own.made_is; update = own.update; left = own.left }
 
   -- so has whose hold it is, where the replica of the active stays
-  pub IsHolder-alike : (active : Option ℕ) (d : CallId) → n.in_hand d.actor ≡ m.in_hand d.actor → on_node (n.replicas k) active ≡ on_node (m.replicas k) active → IsHolder m k active d → IsHolder n k active d
-  IsHolder-alike active d same replica own = record { state = own.state; in_hand = same ∙ own.in_hand; call_is = own.call_is; driver = own.driver; driver_is = own.driver_is; local = own.local; kind = own.kind; ckpt = own.ckpt; some = own.some; copies = own.copies ∙ ap (option_map copied) (sym replica) }
+  pub IsHolder-alike : (active : Option ℕ) (d : CallId) (own : IsHolder m k active d) → n.in_hand (who own.state) ≡ m.in_hand (who own.state) → on_node (n.replicas k) active ≡ on_node (m.replicas k) active → IsHolder n k active d
+  IsHolder-alike active d own same replica = record { state = own.state; in_hand = same ∙ own.in_hand; call_is = own.call_is; driver = own.driver; driver_is = own.driver_is; local = own.local; kind = own.kind; ckpt = own.ckpt; some = own.some; copies = own.copies ∙ ap (option_map copied) (sym replica) }
 
   -- the active's replica stays where those on complete nodes do
   active_stays : (e : Entry) → ((r : ℕ) → IsCompleteOn e r → n.replicas k r ≡ m.replicas k r) → IsActiveBy (is_collocated e.attributes) e.complete e.active → on_node (n.replicas k) e.active ≡ on_node (m.replicas k) e.active
@@ -263,12 +281,25 @@ module _ (m n : Machine) (k : ℕ) where
       by_active (Some r) complete = replicas r (complete r refl)
 
   -- so has who is making it
-  pub IsMaker-alike : (d : CallId) → n.in_hand d.actor ≡ m.in_hand d.actor → IsMaker m k d → IsMaker n k d
-  IsMaker-alike d same own = record { state = own.state; in_hand = same ∙ own.in_hand; call_is = own.call_is; driver = own.driver; driver_is = own.driver_is; making = own.making; making_is = own.making_is; ckpt = own.ckpt }
+  pub IsMaker-alike : (d : CallId) (own : IsMaker m k d) → n.in_hand (who own.state) ≡ m.in_hand (who own.state) → IsMaker n k d
+  IsMaker-alike d own same = record { state = own.state; in_hand = same ∙ own.in_hand; call_is = own.call_is; driver = own.driver; driver_is = own.driver_is; making = own.making; making_is = own.making_is; ckpt = own.ckpt }
+
+  -- those who own slots, have marks, hold or are making the checkpoint have the same in hand
+  abbrev pub OwnersStay : Shape → Type 0
+  OwnersStay sh = (d : CallId) (own : IsOwner m k sh d) → n.in_hand (who own.state) ≡ m.in_hand (who own.state)
+
+  abbrev pub MarkersStay : Type 0
+  MarkersStay = (marks : Marked) (own : IsMarker m k marks) → n.in_hand (who own.state) ≡ m.in_hand (who own.state)
+
+  abbrev pub HoldersStay : Type 0
+  HoldersStay = (active : Option ℕ) (d : CallId) (own : IsHolder m k active d) → n.in_hand (who own.state) ≡ m.in_hand (who own.state)
+
+  abbrev pub MakersStay : Type 0
+  MakersStay = (d : CallId) (own : IsMaker m k d) → n.in_hand (who own.state) ≡ m.in_hand (who own.state)
 
   -- the checkpoint is as it was, where its replicas stay, a node on which it is complete now has the opening one, and those who own its slots, have marks on it, hold it or are making it stay
   pub IsGoodIn-later : (sh : Shape) (e f : Entry) → IsLaterEntry e f → ((r : ℕ) → IsCompleteOn e r → n.replicas k r ≡ m.replicas k r) → ((r : ℕ) → (slice_index e.complete r == 0) ≡ true → IsCompleteOn f r → n.replicas k r ≡ Some (opened_state f))
-      → ((d : CallId) → IsOwner m k sh d → f.complete ≡ e.complete) → ((d : CallId) → IsOwner m k sh d → n.in_hand d.actor ≡ m.in_hand d.actor) → ((marks : Marked) → IsMarker m k marks → n.in_hand marks.call.actor ≡ m.in_hand marks.call.actor) → ((active : Option ℕ) (d : CallId) → IsHolder m k active d → n.in_hand d.actor ≡ m.in_hand d.actor) → ((d : CallId) → IsMaker m k d → n.in_hand d.actor ≡ m.in_hand d.actor)
+      → ((d : CallId) → IsOwner m k sh d → f.complete ≡ e.complete) → OwnersStay sh → MarkersStay → HoldersStay → MakersStay
       → (maker : Option CallId) → (IsSome maker → f.complete ≡ e.complete) → IsGoodIn m k sh e maker → IsGoodIn n k sh f maker
   IsGoodIn-later sh e f later replicas joins same_owned owners markers holders makers None unmade was = record {
     nodes = later.nodes ∙ was.nodes;
@@ -278,16 +309,16 @@ module _ (m n : Machine) (k : ℕ) where
     fits = λ r d owns. ap (λ a. outcome a sh.update sh.moment sh.sections) later.attributes ∙ was.fits r d owns;
     complete = λ r d owns. later.grows r (was.complete r d owns);
     lowest = λ q r d below there owns. was.lowest q r d below (subst (λ (cs : List ℕ). (slice_index cs q == 0) ≡ false) (same_owned d (was.owned r d owns)) there) owns;
-    owned = λ r d owns. let own = was.owned r d owns in IsOwner-alike sh d (owners d own) own;
+    owned = λ r d owns. let own = was.owned r d owns in IsOwner-alike sh d own (owners d own);
     led = λ marks is. ap is_some later.active ∙ was.led marks is;
-    marked = λ marks is. let own = was.marked marks is in IsMarker-alike marks (markers marks own) own;
+    marked = λ marks is. let own = was.marked marks is in IsMarker-alike marks own (markers marks own);
     held = λ d is. (
         let own = was.held d (sym later.hold ∙ is) in
         record {
           collocated = ap is_collocated later.attributes ∙ own.collocated;
           led = ap is_some later.active ∙ own.led;
           unmarked = own.unmarked;
-          holder = subst (λ active. IsHolder n k active d) (sym later.active) (IsHolder-alike e.active d (holders e.active d own.holder) (active_stays e replicas was.active) own.holder);
+          holder = subst (λ active. IsHolder n k active d) (sym later.active) (IsHolder-alike e.active d own.holder (holders e.active d own.holder) (active_stays e replicas was.active));
         });
   }
     where
@@ -313,25 +344,25 @@ module _ (m n : Machine) (k : ℕ) where
       well_formed = ap is_malformed later.attributes ∙ was.0.well_formed;
       clients = later.clients ∙ was.0.clients;
     },
-    IsMaker-alike d (makers d was.1) was.1,
+    IsMaker-alike d was.1 (makers d was.1),
   )
 
   -- the checkpoint is as it was, where its entry and its replicas are and where those who own its slots, have marks on it, hold it or are making it stay
-  pub IsGoodIn-alike : (sh : Shape) (e : Entry) → ((r : ℕ) → IsCompleteOn e r → n.replicas k r ≡ m.replicas k r) → ((d : CallId) → IsOwner m k sh d → n.in_hand d.actor ≡ m.in_hand d.actor) → ((marks : Marked) → IsMarker m k marks → n.in_hand marks.call.actor ≡ m.in_hand marks.call.actor) → ((active : Option ℕ) (d : CallId) → IsHolder m k active d → n.in_hand d.actor ≡ m.in_hand d.actor) → ((d : CallId) → IsMaker m k d → n.in_hand d.actor ≡ m.in_hand d.actor)
+  pub IsGoodIn-alike : (sh : Shape) (e : Entry) → ((r : ℕ) → IsCompleteOn e r → n.replicas k r ≡ m.replicas k r) → OwnersStay sh → MarkersStay → HoldersStay → MakersStay
       → (maker : Option CallId) → IsGoodIn m k sh e maker → IsGoodIn n k sh e maker
   IsGoodIn-alike sh e replicas owners markers holders makers maker was = IsGoodIn-later sh e e (IsLaterEntry-refl e) replicas (λ r none there. absurd (let w : true ≡ false = sym none ∙ there in cc w)) (λ d own. refl) owners markers holders makers maker (λ some. refl) was
 
--- ---- other calls in hand, and other numbers
+-- ---- other calls in hand, others that are not dispatched, and other numbers
 
-module _ (m : Machine) (shapes : ℕ → Shape) (next : ActorName → ℕ) (f : ActorName → Option CallState) where
+module _ (m : Machine) (shapes : ℕ → Shape) (next : ActorName → ℕ) (pending : ActorName → PendingCalls) (f : Who → Option CallState) where
   abbrev with_hands : Machine
-  with_hands = record m { next = next; in_hand = f }
+  with_hands = record m { next = next; pending = pending; in_hand = f }
 
   looks_apart : (z : CallState) → LooksAlike m with_hands shapes shapes z
   looks_apart z = record {
     up = λ r up. up;
     lives = refl;
-    tables = refl;
+    handle = λ there. there;
     making = λ o at. making_still m with_hands z o (λ w at. record { there = at.there; declares = at.declares; nodes = at.nodes; reserved = at.reserved; only = at.only; within = at.within }) at;
     made = λ k was. was;
     later = λ k was e found. (e, found, LooksLater-refl z (shapes k).marks e);
@@ -344,6 +375,6 @@ module _ (m : Machine) (shapes : ℕ → Shape) (next : ActorName → ℕ) (f : 
   IsIn-apart z d at = IsIn-alike m with_hands shapes shapes z (looks_apart z) d at
 
   -- a checkpoint is as it was, where those who own its slots, have marks on it, hold it or are making it stay
-  pub IsGoodIn-apart : ((k : ℕ) (sh : Shape) (d : CallId) → IsOwner m k sh d → f d.actor ≡ m.in_hand d.actor) → ((k : ℕ) (marks : Marked) → IsMarker m k marks → f marks.call.actor ≡ m.in_hand marks.call.actor) → ((k : ℕ) (active : Option ℕ) (d : CallId) → IsHolder m k active d → f d.actor ≡ m.in_hand d.actor) → ((k : ℕ) (d : CallId) → IsMaker m k d → f d.actor ≡ m.in_hand d.actor)
+  pub IsGoodIn-apart : ((k : ℕ) (sh : Shape) → OwnersStay m with_hands k sh) → ((k : ℕ) → MarkersStay m with_hands k) → ((k : ℕ) → HoldersStay m with_hands k) → ((k : ℕ) → MakersStay m with_hands k)
       → (k : ℕ) (sh : Shape) (e : Entry) (maker : Option CallId) → IsGoodIn m k sh e maker → IsGoodIn with_hands k sh e maker
   IsGoodIn-apart owners markers holders makers k sh e maker was = IsGoodIn-alike m with_hands k sh e (λ r there. refl) (owners k sh) (markers k) (holders k) (makers k) maker was

@@ -3,12 +3,10 @@ use Rattle.std.proofs.Common.{◌≡◌, ◌≢◌, ℕ, List, [], ◌∷◌, Op
 use Rattle.std.specs.Prelude.{is_some, IsSome, IsSomeAnd, IfSome, find}
 use Rattle.std.proofs.lemmas.Bool.{eqb-true}
 use Rattle.std.proofs.lemmas.Option.{same_Some}
-use Rattle.ckpt_types.specs.declared.identities.ActorName.{ActorName}
 use Rattle.ckpt_types.specs.declared.identities.CallId.{CallId}
 use Rattle.cluster_record.specs.declared.calls.Making.{Making}
 use Rattle.cluster_record.specs.declared.entries.Entry.{Entry}
 use Rattle.cluster_record.specs.DueOpen.{OpenState, making_ckpt}
-use Rattle.cluster_record.specs.Calls.{same_actor}
 use Rattle.cluster_record.specs.LookUps.{identity_in}
 use Rattle.cluster_record.specs.Makings.{is_by, making_of}
 use Rattle.cluster_record.specs.Identities.{IdentitiesRise}
@@ -20,66 +18,48 @@ use Rattle.ckpt_machine.specs.Driving.{making_in}
 use Rattle.ckpt_machine.specs.Entries.{IsMakingEntry}
 use Rattle.ckpt_machine.specs.InHand.{IsMakingIn, IsInPlace, IsOpenIn}
 use Rattle.ckpt_machine.specs.Invariant.{IsMaker, IsGoodIn, InvariantIn}
-use Rattle.ckpt_machine.specs.Machine.{Machine, CallState}
+use Rattle.ckpt_machine.specs.Machine.{Machine, CallState, who}
 use Rattle.ckpt_machine.specs.Steps.{driver_of}
 use Rattle.ckpt_machine.specs.Guards.{IsMadeBy}
 use Rattle.ckpt_machine.specs.Shape.{Shape, IsOwner, IsMarker, IsHolder}
 use Rattle.weak_marks.specs.Marks.{Marked}
-use Rattle.ckpt_machine.proofs.Actors.{same_actor-refl, same_actor-true, same_call-refl, same_call-true}
+use Rattle.ckpt_machine.proofs.Actors.{same_call-refl, same_call-true}
+use Rattle.ckpt_machine.specs.Whose.{same_who}
+use Rattle.ckpt_machine.proofs.Whose.{one_state, same_state, apart_states}
 use Rattle.ckpt_machine.proofs.OptionLemmas.{IsSomeAnd-at, IsSomeAnd-from}
 
--- a call in hand of another actor is another call
-pub actor_apart : (s : CallState) (a : ActorName) (z : CallState) → z.call.actor ≡ a → same_actor a s.call.actor ≡ false → z.call ≢ s.call
-actor_apart s a z actor other same =
-    (let w : true ≡ false = sym (same_actor-refl s.call.actor) ∙ ap (λ b. same_actor b s.call.actor) (ap (λ (x : CallId). x.actor) (sym same) ∙ actor) ∙ other in cc w)
-
-module _ (m : Machine) (s : CallState) (o : OpenState) (held : m.in_hand s.call.actor ≡ Some s) (is : driver_of s ≡ drivers.Open o) where
-  -- who owns a slot is another actor, since an update is no open
-  pub owner_apart : (j : ℕ) (sh : Shape) (d : CallId) → IsOwner m j sh d → same_actor d.actor s.call.actor ≡ false
-  owner_apart j sh d own = by_test (same_actor d.actor s.call.actor) refl
-    where
-      by_test : (b : Bool) → same_actor d.actor s.call.actor ≡ b → same_actor d.actor s.call.actor ≡ false
-      by_test false is_not = is_not
-      by_test true same =
-          let state : own.state ≡ s = same_Some own.state s (sym own.in_hand ∙ ap m.in_hand (same_actor-true d.actor s.call.actor same) ∙ held) in
-          let apart : drivers.Update own.driver ≡ drivers.Open o = sym own.driver_is ∙ ap driver_of state ∙ is in
-          absurd (cc apart)
+module _ (m : Machine) (s : CallState) (o : OpenState) (held : m.in_hand (who s) ≡ Some s) (is : driver_of s ≡ drivers.Open o) where
+  -- who owns a slot is another call, since an update is no open
+  pub owner_apart : (j : ℕ) (sh : Shape) (d : CallId) (own : IsOwner m j sh d) → same_who (who own.state) (who s) ≡ false
+  owner_apart j sh d own = apart_states m.in_hand own.state s own.in_hand held (λ state.
+      let apart : drivers.Update own.driver ≡ drivers.Open o = sym own.driver_is ∙ ap driver_of state ∙ is in
+      cc apart)
 
   -- so is whose marks stand, since a weak write is no open
-  pub marker_apart : (j : ℕ) (marks : Marked) → IsMarker m j marks → same_actor marks.call.actor s.call.actor ≡ false
-  marker_apart j marks own = by_test (same_actor marks.call.actor s.call.actor) refl
-    where
-      by_test : (b : Bool) → same_actor marks.call.actor s.call.actor ≡ b → same_actor marks.call.actor s.call.actor ≡ false
-      by_test false is_not = is_not
-      by_test true same =
-          let state : own.state ≡ s = same_Some own.state s (sym own.in_hand ∙ ap m.in_hand (same_actor-true marks.call.actor s.call.actor same) ∙ held) in
-          let apart : drivers.Active own.driver ≡ drivers.Open o = sym own.driver_is ∙ ap driver_of state ∙ is in
-          absurd (cc apart)
+  pub marker_apart : (j : ℕ) (marks : Marked) (own : IsMarker m j marks) → same_who (who own.state) (who s) ≡ false
+  marker_apart j marks own = apart_states m.in_hand own.state s own.in_hand held (λ state.
+      let apart : drivers.Active own.driver ≡ drivers.Open o = sym own.driver_is ∙ ap driver_of state ∙ is in
+      cc apart)
 
   -- so is whose hold it is, since the setting of an active is no open
-  pub holder_apart : (j : ℕ) (active : Option ℕ) (d : CallId) → IsHolder m j active d → same_actor d.actor s.call.actor ≡ false
-  holder_apart j active d own = by_test (same_actor d.actor s.call.actor) refl
-    where
-      by_test : (b : Bool) → same_actor d.actor s.call.actor ≡ b → same_actor d.actor s.call.actor ≡ false
-      by_test false is_not = is_not
-      by_test true same =
-          let state : own.state ≡ s = same_Some own.state s (sym own.in_hand ∙ ap m.in_hand (same_actor-true d.actor s.call.actor same) ∙ held) in
-          let apart : drivers.Sync own.driver ≡ drivers.Open o = sym own.driver_is ∙ ap driver_of state ∙ is in
-          absurd (cc apart)
+  pub holder_apart : (j : ℕ) (active : Option ℕ) (d : CallId) (own : IsHolder m j active d) → same_who (who own.state) (who s) ≡ false
+  holder_apart j active d own = apart_states m.in_hand own.state s own.in_hand held (λ state.
+      let apart : drivers.Sync own.driver ≡ drivers.Open o = sym own.driver_is ∙ ap driver_of state ∙ is in
+      cc apart)
 
   module _ (making : Making) (makes : o.making ≡ Some making) where
-    -- the maker of a checkpoint that is of the same actor is the call, and makes the one that the call makes
-    pub maker_same : (j : ℕ) (d : CallId) → IsMaker m j d → d.actor ≡ s.call.actor → j ≡ making.ckpt
-    maker_same j d own actor =
-        let state : own.state ≡ s = same_Some own.state s (sym own.in_hand ∙ ap m.in_hand actor ∙ held) in
+    -- the maker of a checkpoint that is in hand under the same name is the call, and makes the one that the call makes
+    pub maker_same : (j : ℕ) (d : CallId) (own : IsMaker m j d) → who own.state ≡ who s → j ≡ making.ckpt
+    maker_same j d own name =
+        let state : own.state ≡ s = one_state m.in_hand (who own.state) (who s) own.state s own.in_hand held name in
         let drivers_same : drivers.Open own.driver ≡ drivers.Open o = sym own.driver_is ∙ ap driver_of state ∙ is in
         let driver : own.driver ≡ o = cc drivers_same in
         let both : Some own.making ≡ Some making = sym own.making_is ∙ ap (λ (x : OpenState). x.making) driver ∙ makes in
         sym own.ckpt ∙ ap (λ (x : Making). x.ckpt) (same_Some own.making making both)
 
 -- where its steps have led it
-pub open_at : (m : Machine) (shapes : ℕ → Shape) (inv : InvariantIn shapes m) (s : CallState) (o : OpenState) → m.in_hand s.call.actor ≡ Some s → driver_of s ≡ drivers.Open o → IsOpenIn m s o
-open_at m shapes inv s o held is = subst (λ d. IsInPlace m shapes s d) is (inv.hands s.call.actor s held).here
+pub open_at : (m : Machine) (shapes : ℕ → Shape) (inv : InvariantIn shapes m) (s : CallState) (o : OpenState) → m.in_hand (who s) ≡ Some s → driver_of s ≡ drivers.Open o → IsOpenIn m s o
+open_at m shapes inv s o held is = subst (λ d. IsInPlace m shapes s d) is (inv.hands (who s) s held).here
 
 -- ---- what a call is making, by the record and by its own steps
 
@@ -120,14 +100,14 @@ making_there R rises call k by = by_entry (find (λ e. is_by call e.making) R.en
         IsSomeAnd-from (entry_of k R.entries) (λ e. e.making ≡ Some call) e (ap (λ j. entry_of j R.entries) (sym identity) ∙ entry_of-find (λ e. is_by call e.making) R.entries e rises found)
         (is_by-true call e.making (found_passes (λ e. is_by call e.making) R.entries e found))
 
-module _ (m : Machine) (shapes : ℕ → Shape) (inv : InvariantIn shapes m) (s : CallState) (held : m.in_hand s.call.actor ≡ Some s) where
+module _ (m : Machine) (shapes : ℕ → Shape) (inv : InvariantIn shapes m) (s : CallState) (held : m.in_hand (who s) ≡ Some s) where
   -- what is in the making by the call is what its steps say that it makes
   made_by_steps : (k : ℕ) → IsMadeBy m s.call k → making_in (driver_of s) ≡ Some k
   made_by_steps k by =
       let (e, there, maker_is) = IsSomeAnd-at (entry_of k m.cluster.entries) (λ e. e.making ≡ Some s.call) (making_there m.cluster inv.rises s.call k by) in
       let good : IsGoodIn m k (shapes k) e (Some s.call) = subst (IsGoodIn m k (shapes k) e) maker_is (inv.entries k e there) in
       let maker : IsMaker m k s.call = good.1 in
-      let state : s ≡ maker.state = same_Some s maker.state (sym held ∙ maker.in_hand) in
+      let state : s ≡ maker.state = same_state m.in_hand m.pending m.next inv.calls s maker.state held maker.in_hand (sym maker.call_is) in
       ap (λ (x : CallState). making_in (driver_of x)) state ∙ ap making_in maker.driver_is ∙ ap making_ckpt maker.making_is ∙ ap Some maker.ckpt
 
   -- what its steps say that it makes is in the making by it
@@ -150,13 +130,13 @@ module _ (m : Machine) (shapes : ℕ → Shape) (inv : InvariantIn shapes m) (s 
     where
       by_steps : making_of s.call m.cluster ≡ None → (k : Option ℕ) → making_in (driver_of s) ≡ k → making_in (driver_of s) ≡ None
       by_steps none None is = is
-      by_steps none (Some k) is = absurd (let w : false ≡ true = sym (ap is_some none) ∙ making_found (driver_of s) k (inv.hands s.call.actor s held).here is in cc w)
+      by_steps none (Some k) is = absurd (let w : false ≡ true = sym (ap is_some none) ∙ making_found (driver_of s) k (inv.hands (who s) s held).here is in cc w)
 
       by_record : (o : Option ℕ) → making_of s.call m.cluster ≡ o → making_of s.call m.cluster ≡ making_in (driver_of s)
       by_record None none = none ∙ sym (by_steps none (making_in (driver_of s)) refl)
       by_record (Some k) by = by ∙ sym (made_by_steps k by)
 
-module _ (m : Machine) (shapes : ℕ → Shape) (inv : InvariantIn shapes m) (s : CallState) (o : OpenState) (making : Making) (held : m.in_hand s.call.actor ≡ Some s) (is : driver_of s ≡ drivers.Open o) (makes : o.making ≡ Some making) where
+module _ (m : Machine) (shapes : ℕ → Shape) (inv : InvariantIn shapes m) (s : CallState) (o : OpenState) (making : Making) (held : m.in_hand (who s) ≡ Some s) (is : driver_of s ≡ drivers.Open o) (makes : o.making ≡ Some making) where
   -- how far the making is
   pub making_at : IsMakingIn m s making
   making_at = subst (λ w. IfSome w (IsMakingIn m s)) makes (open_at m shapes inv s o held is).making

@@ -1,18 +1,16 @@
 -- What an update in hand knows of its checkpoint.
-use Rattle.std.proofs.Common.{◌≡◌, ◌≢◌, ℕ, Option, Some, None, Bool, true, false, refl, sym, ap, subst, ◌∙◌}
+use Rattle.std.proofs.Common.{◌≡◌, ◌≢◌, ℕ, Option, Some, None, true, false, refl, sym, ap, subst, ◌∙◌}
 use Rattle.std.specs.Prelude.{IfSome, slice_index}
-use Rattle.std.proofs.lemmas.Option.{same_Some}
 use Rattle.ckpt_types.specs.declared.identities.CallId.{CallId}
 use Rattle.cluster_record.specs.declared.entries.Entry.{Entry}
 use Rattle.cluster_record.specs.declared.calls.UpdatePhase.{UpdatePhase}
 use Rattle.cluster_record.specs.declared.calls.UpdatePhase.TheVariants.{Staging, Committing}
 use Rattle.cluster_record.specs.DueUpdate.{UpdateState}
-use Rattle.cluster_record.specs.Calls.{same_actor, put_actor}
 use Rattle.cluster_record.specs.Places.{put}
 use Rattle.cluster_record.specs.RecordState.{entry_of, is_live}
 use Rattle.cluster_record.specs.StepDone.{has}
 use Rattle.ckpt_machine.specs.Drivers as drivers
-use Rattle.ckpt_machine.specs.Machine.{Machine, ReplicaState, CallState}
+use Rattle.ckpt_machine.specs.Machine.{Machine, ReplicaState, CallState, who}
 use Rattle.ckpt_types.specs.Asks.{update_of}
 use Rattle.ckpt_machine.specs.Steps.{driver_of, seen, seen_at, seen_by}
 use Rattle.ckpt_machine.specs.Guards.{OnReplica, OnAll}
@@ -24,7 +22,10 @@ use Rattle.ckpt_machine.specs.Invariant.{IsGoodIn, InvariantIn, Invariant}
 use Rattle.ckpt_machine.proofs.Joining.{all_apart}
 use Rattle.ckpt_machine.proofs.ReplicaSteps.{IsOwner-other, IsMarker-other, none_changed, step_keeps}
 use Rattle.ckpt_machine.proofs.OptionLemmas.{IsSomeAnd-at, IsSomeAnd-from}
-use Rattle.ckpt_machine.proofs.Actors.{same_actor-true, same_call-refl, same_call-true}
+use Rattle.ckpt_machine.specs.Whose.{put_who, same_who}
+use Rattle.ckpt_machine.proofs.Actors.{same_call-refl, same_call-true}
+use Rattle.ckpt_machine.proofs.CallsKept.{same_call-None}
+use Rattle.ckpt_machine.proofs.Whose.{same_state, apart_states}
 
 -- ---- calls
 
@@ -61,9 +62,9 @@ owner_alone m k sh s origin d own = sym (owner_origin m k sh d own) ∙ origin
 -- and live
 pub owner_live : (m : Machine) (shapes : ℕ → Shape) (k : ℕ) (sh : Shape) (call : CallId) → InvariantIn shapes m → IsOwner m k sh call → is_live m.cluster call ≡ true
 owner_live m shapes k sh call inv own =
-    ap (is_live m.cluster) (sym own.call_is) ∙ (inv.hands call.actor own.state own.in_hand).live (ap is_enter own.driver_is)
+    ap (is_live m.cluster) (sym own.call_is) ∙ (inv.hands (who own.state) own.state own.in_hand).live (ap is_enter own.driver_is)
 
-module _ (m : Machine) (shapes : ℕ → Shape) (inv : InvariantIn shapes m) (s : CallState) (u : UpdateState) (held : m.in_hand s.call.actor ≡ Some s) (is : driver_of s ≡ drivers.Update u) where
+module _ (m : Machine) (shapes : ℕ → Shape) (inv : InvariantIn shapes m) (s : CallState) (u : UpdateState) (held : m.in_hand (who s) ≡ Some s) (is : driver_of s ≡ drivers.Update u) where
   abbrev k : ℕ
   k = u.ckpt
 
@@ -72,7 +73,7 @@ module _ (m : Machine) (shapes : ℕ → Shape) (inv : InvariantIn shapes m) (s 
 
   -- where its steps have led it
   pub at : IsUpdateIn m shapes s u
-  at = subst (λ d. IsInPlace m shapes s d) is (inv.hands s.call.actor s held).here
+  at = subst (λ d. IsInPlace m shapes s d) is (inv.hands (who s) s held).here
 
   -- its checkpoint is made, where it is there
   pub made : (e : Entry) → entry_of u.ckpt m.cluster.entries ≡ Some e → e.making ≡ None
@@ -84,20 +85,14 @@ module _ (m : Machine) (shapes : ℕ → Shape) (inv : InvariantIn shapes m) (s 
   -- where it owns a slot, the shape is as its phase says
   pub own_phase : (sh : Shape) (own : IsOwner m u.ckpt sh s.call) → PhaseFits sh s u u.phase
   own_phase sh own =
-      let state : own.state ≡ s = same_Some own.state s (sym own.in_hand ∙ held) in
+      let state : own.state ≡ s = same_state m.in_hand m.pending m.next inv.calls own.state s own.in_hand held own.call_is in
       let drivers_same : drivers.Update own.driver ≡ drivers.Update u = sym own.driver_is ∙ ap driver_of state ∙ is in
       let driver : own.driver ≡ u = cc drivers_same in
       subst (λ v. PhaseFits sh s v v.phase) driver (subst (λ z. PhaseFits sh z own.driver own.driver.phase) state own.phase)
 
-  -- an owner with the same actor is the call itself
-  pub owner_same : (z : Shape) (call : CallId) → IsOwner m u.ckpt z call → call ≢ s.call → same_actor call.actor s.call.actor ≡ false
-  owner_same z call own other = by_test (same_actor call.actor s.call.actor) refl
-    where
-      by_test : (b : Bool) → same_actor call.actor s.call.actor ≡ b → same_actor call.actor s.call.actor ≡ false
-      by_test false is_not = is_not
-      by_test true same =
-          let state : own.state ≡ s = same_Some own.state s (sym own.in_hand ∙ ap m.in_hand (same_actor-true call.actor s.call.actor same) ∙ held) in
-          absurd (other (sym own.call_is ∙ ap (λ (z : CallState). z.call) state))
+  -- an owner that is another call is in hand under another name
+  pub owner_same : (z : Shape) (call : CallId) (own : IsOwner m u.ckpt z call) → call ≢ s.call → same_who (who own.state) (who s) ≡ false
+  owner_same z call own other = apart_states m.in_hand own.state s own.in_hand held (λ state. other (sym own.call_is ∙ ap (λ (z : CallState). z.call) state))
 
   module _ (e : Entry) (found : entry_of u.ckpt m.cluster.entries ≡ Some e) where
     -- a node that it has is one whose slot it owns
@@ -131,13 +126,13 @@ module _ (m : Machine) (shapes : ℕ → Shape) (inv : InvariantIn shapes m) (s 
   abbrev OwnsNone : Type 0
   OwnsNone = (q : ℕ) (call : CallId) → (shapes u.ckpt).owners q ≡ Some call → call ≢ s.call
 
-  pub ended_keeps : ((e : Entry) → entry_of u.ckpt m.cluster.entries ≡ Some e → OwnsNone) → Invariant (record m { in_hand = put_actor m.in_hand s.call.actor None })
+  pub ended_keeps : ((e : Entry) → entry_of u.ckpt m.cluster.entries ≡ Some e → OwnsNone) → Invariant (record m { in_hand = put_who m.in_hand (who s) None })
   ended_keeps none = record {
     shapes = put shapes u.ckpt (shapes u.ckpt);
-    holds = step_keeps m shapes inv s u held is m.replicas None (shapes u.ckpt) (none_changed m shapes inv s u held is) (refl, λ call q other. refl) stays (λ z there. absurd (cc there)) made inv.replicas;
+    holds = step_keeps m shapes inv s u held is m.replicas None (shapes u.ckpt) (none_changed m shapes inv s u held is) (refl, λ call q other. refl) (same_call-None s) stays (λ z there. absurd (cc there)) made inv.replicas;
   }
     where
-      stays : (e : Entry) → entry_of u.ckpt m.cluster.entries ≡ Some e → e.making ≡ None → IsSpread (record m { in_hand = put_actor m.in_hand s.call.actor None }) u.ckpt (shapes u.ckpt) e
+      stays : (e : Entry) → entry_of u.ckpt m.cluster.entries ≡ Some e → e.making ≡ None → IsSpread (record m { in_hand = put_who m.in_hand (who s) None }) u.ckpt (shapes u.ckpt) e
       stays e found making = let was = spread e found in record {
         nodes = was.nodes;
         some = was.some;
@@ -146,7 +141,7 @@ module _ (m : Machine) (shapes : ℕ → Shape) (inv : InvariantIn shapes m) (s 
         fits = was.fits;
         complete = was.complete;
         lowest = was.lowest;
-        owned = λ q call owns. let own = was.owned q call owns in IsOwner-other m shapes inv s u held is m.replicas None u.ckpt (shapes u.ckpt) call (owner_same (shapes u.ckpt) call own (none e found q call owns)) own;
+        owned = λ q call owns. let own = was.owned q call owns in IsOwner-other m shapes inv s u held is m.replicas None u.ckpt (shapes u.ckpt) call own (owner_same (shapes u.ckpt) call own (none e found q call owns));
         led = was.led;
         marked = λ marks is_some. IsMarker-other m shapes inv s u held is m.replicas None u.ckpt marks (was.marked marks is_some);
         held = λ d is_some. absurd (never_held e found d is_some);

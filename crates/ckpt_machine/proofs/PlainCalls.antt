@@ -16,7 +16,7 @@ use Rattle.cluster_record.specs.declared.calls.SyncKind.TheVariants.{Synchronize
 use Rattle.cluster_record.specs.declared.calls.Making.{Making}
 use Rattle.cluster_record.specs.declared.entries.Entry.{Entry}
 use Rattle.cluster_record.specs.DueOpen.{making_ckpt}
-use Rattle.cluster_record.specs.Calls.{same_actor, number_of, client_of, put_actor}
+use Rattle.cluster_record.specs.Calls.{number_of, client_of}
 use Rattle.cluster_record.specs.Identities.{IdentitiesRise, AllUpTo}
 use Rattle.cluster_record.specs.Makings.{making_of}
 use Rattle.cluster_record.specs.Placement.{is_collocated}
@@ -26,9 +26,9 @@ use Rattle.cluster_record.proofs.IdentityLaws.{KeepsIdentity, IdentitiesRise-fil
 use Rattle.ckpt_machine.specs.Drivers.{Driver}
 use Rattle.ckpt_machine.specs.Drivers as drivers
 use Rattle.ckpt_machine.specs.Driving.{making_in}
-use Rattle.ckpt_machine.specs.Machine.{Machine, Snapshot, CallState}
+use Rattle.ckpt_machine.specs.Machine.{Machine, Snapshot, CallState, who}
 use Rattle.ckpt_types.specs.Asks.{asked}
-use Rattle.ckpt_machine.specs.Steps.{Told, IsDone, driver_of, with_record, without_making, kept_behind, stepped}
+use Rattle.ckpt_machine.specs.Steps.{Told, IsDone, driver_of, with_record, without_making, kept_behind, left_in_hand}
 use Rattle.ckpt_machine.specs.Guards.{LookRefused}
 use Rattle.ckpt_machine.specs.Shape.{Shape, IsOwner, IsMarker, IsHolder}
 use Rattle.weak_marks.specs.Marks.{Marked}
@@ -38,11 +38,13 @@ use Rattle.ckpt_machine.specs.Later.{IsLaterEntry, IsLaterRecord}
 use Rattle.ckpt_machine.proofs.OtherCalls.{IsIn-apart, IsGoodIn-apart}
 use Rattle.ckpt_machine.proofs.Entries.{ComesOf, ComesOf-filter, ComesOf-change_found, ComesOf-then, found_filter, there_still}
 use Rattle.ckpt_machine.proofs.Moment.{IsLaterEntry-refl, making_stays}
-use Rattle.ckpt_machine.proofs.ReplicaSteps.{put_actor-cases, put_actor-other}
 use Rattle.ckpt_machine.proofs.OwnMaking.{making_is}
 use Rattle.ckpt_machine.proofs.RecordSteps.{record_keeps}
+use Rattle.ckpt_machine.proofs.CallsKept.{IsSameCall, same_call-None, calls_left}
 use Rattle.ckpt_machine.proofs.DueStep.{Goes}
-use Rattle.ckpt_machine.proofs.Actors.{same_actor-true}
+use Rattle.ckpt_machine.specs.Whose.{put_who, same_who}
+use Rattle.ckpt_types.specs.declared.identities.Who.{Who}
+use Rattle.ckpt_machine.proofs.Whose.{same_who-true, put_who-cases, put_who-other}
 use Rattle.ckpt_machine.proofs.EntryLists.{AllStay-swept}
 
 -- a synchronisation, or the setting of an active with nothing in its hand
@@ -71,7 +73,7 @@ makes_none (drivers.Sync u) copy plain = refl
 
 -- the call is in hand no more
 abbrev pub ending : CallState → Machine → Machine
-ending s m = record m { in_hand = put_actor m.in_hand s.call.actor None }
+ending s m = record m { in_hand = put_who m.in_hand (who s) None }
 
 pub IsLaterEntry-then : (e f g : Entry) → IsLaterEntry e f → IsLaterEntry f g → IsLaterEntry e g
 IsLaterEntry-then e f g first second = record {
@@ -88,12 +90,12 @@ IsLaterEntry-then e f g first second = record {
 }
 
 -- a call that makes nothing is refused by a look, and ends
-pub look_ends : (m : Machine) (shapes : ℕ → Shape) → InvariantIn shapes m → (s : CallState) → m.in_hand s.call.actor ≡ Some s → (error : AisError) (cause : Cause) (t : Told) → LookRefused m s (asked s.op) error cause → making_in (driver_of s) ≡ None → InvariantIn shapes (ending s m) → IsDone m s (End (Refused error cause)) t → Goes m s (driver_of s) t
+pub look_ends : (m : Machine) (shapes : ℕ → Shape) → InvariantIn shapes m → (s : CallState) → m.in_hand (who s) ≡ Some s → (error : AisError) (cause : Cause) (t : Told) → LookRefused m s (asked s.op) error cause → making_in (driver_of s) ≡ None → InvariantIn shapes (ending s m) → IsDone m s (End (Refused error cause)) t → Goes m s (driver_of s) t
 look_ends m shapes inv s held error cause t look makes ends done =
     let none : making_of s.call m.cluster ≡ None = making_is m shapes inv s held ∙ makes in
     subst (Goes m s (driver_of s)) (sym done) (record {
       row = (refl, refl, look, refl);
-      holds = subst (λ k. let behind = without_making k m in Invariant (stepped behind (kept_behind m s behind.cluster verbs.Look None None words.Refused) (Some (Refused error cause)))) (sym none) (record { shapes = shapes; holds = ends });
+      holds = subst (λ k. let behind = without_making k m in Invariant (left_in_hand behind (kept_behind m s behind.cluster verbs.Look None None words.Refused) (Some (Refused error cause)))) (sym none) (record { shapes = shapes; holds = ends });
       nearer = λ none. absurd (cc none);
     })
 
@@ -101,9 +103,9 @@ look_ends m shapes inv s held error cause t look makes ends done =
 
 module _ (n : Machine) (shapes : ℕ → Shape) (inv : InvariantIn shapes n) (R : RecordState) (rises : IdentitiesRise R.entries) (up_to : AllUpTo n.cluster.last_identity R.entries) (up : R.up ≡ n.cluster.up) (last : R.last_identity ≡ n.cluster.last_identity) (later : ComesOf IsLaterEntry n.cluster.entries R.entries)
     (none_live : n.cluster.up ≡ no_nodes → R.clients ≡ []) (clients : (c : ℕ) → IfSome (find_key client_key c R.clients) (IsGoodClient n.next R c))
-    (live : (a : ActorName) (z : CallState) → n.in_hand a ≡ Some z → is_live n.cluster z.call ≡ true → is_live R z.call ≡ true)
-    (lives : (a : ActorName) (z : CallState) → n.in_hand a ≡ Some z → find_key client_key (client_of z.call) R.clients ≡ find_key client_key (client_of z.call) n.cluster.clients)
-    (makes : (a : ActorName) (z : CallState) (k : ℕ) (e : Entry) → n.in_hand a ≡ Some z → entry_of k n.cluster.entries ≡ Some e → e.making ≡ Some z.call → IsSome (entry_of k R.entries))
+    (live : (a : Who) (z : CallState) → n.in_hand a ≡ Some z → is_live n.cluster z.call ≡ true → is_live R z.call ≡ true)
+    (lives : (a : Who) (z : CallState) → n.in_hand a ≡ Some z → find_key client_key (client_of z.call) R.clients ≡ find_key client_key (client_of z.call) n.cluster.clients)
+    (makes : (a : Who) (z : CallState) (k : ℕ) (e : Entry) → n.in_hand a ≡ Some z → entry_of k n.cluster.entries ≡ Some e → e.making ≡ Some z.call → IsSome (entry_of k R.entries))
     (homes : (a : ActorName) (h : HandleView) → Contains (n.tables a).handles h → find_key client_key (number_of a) R.clients ≡ find_key client_key (number_of a) n.cluster.clients) where
   left_later : ComesOf IsLaterEntry n.cluster.entries (swept R).entries
   left_later = ComesOf-then IsLaterEntry IsLaterEntry IsLaterEntry IsLaterEntry-then n.cluster.entries R.entries (swept R).entries later (ComesOf-filter IsLaterEntry IsLaterEntry-refl (stays R.moment) R.entries rises)
@@ -145,64 +147,66 @@ module _ (n : Machine) (shapes : ℕ → Shape) (inv : InvariantIn shapes n) (R 
   resting_keeps = record_keeps n shapes inv (swept R) n.in_hand swept_later
 
 -- a call in hand once another has ended is another's, and was in hand
-pub left_other : {P : Type 0} → (s : CallState) (m : Machine) (a : ActorName) (z : CallState) → put_actor m.in_hand s.call.actor None a ≡ Some z → (same_actor a s.call.actor ≡ false → m.in_hand a ≡ Some z → P) → P
-left_other {P} s m a z left then_it = elim (put_actor-cases m.in_hand s.call.actor None a z left) [
+pub left_other : {P : Type 0} → (s : CallState) (m : Machine) (a : Who) (z : CallState) → put_who m.in_hand (who s) None a ≡ Some z → (same_who a (who s) ≡ false → m.in_hand a ≡ Some z → P) → P
+left_other {P} s m a z left then_it = elim (put_who-cases m.in_hand (who s) None a z left) [
   | inl here ↦ absurd (let w : None ≡ Some z = here.1 in cc w)
   | inr other ↦ then_it other.0 other.1
 ]
 
 -- ---- a plain call
 
-module _ (m : Machine) (shapes : ℕ → Shape) (inv : InvariantIn shapes m) (s : CallState) (held : m.in_hand s.call.actor ≡ Some s) (plain : is_plain (driver_of s) s.snapshot ≡ true) where
+module _ (m : Machine) (shapes : ℕ → Shape) (inv : InvariantIn shapes m) (s : CallState) (held : m.in_hand (who s) ≡ Some s) (plain : is_plain (driver_of s) s.snapshot ≡ true) where
   -- who has one of these in hand is another
-  apart_from : (a : ActorName) (z : CallState) → m.in_hand a ≡ Some z → is_plain (driver_of z) z.snapshot ≡ false → same_actor a s.call.actor ≡ false
-  apart_from a z at not_plain = by_test (same_actor a s.call.actor) refl
+  apart_from : (a : Who) (z : CallState) → m.in_hand a ≡ Some z → is_plain (driver_of z) z.snapshot ≡ false → same_who a (who s) ≡ false
+  apart_from a z at not_plain = by_test (same_who a (who s)) refl
     where
-      by_test : (b : Bool) → same_actor a s.call.actor ≡ b → same_actor a s.call.actor ≡ false
+      by_test : (b : Bool) → same_who a (who s) ≡ b → same_who a (who s) ≡ false
       by_test false is_not = is_not
       by_test true same =
-          let state : s ≡ z = same_Some s z (sym held ∙ ap m.in_hand (sym (same_actor-true a s.call.actor same)) ∙ at) in
+          let state : s ≡ z = same_Some s z (sym held ∙ ap m.in_hand (sym (same_who-true a (who s) same)) ∙ at) in
           absurd (let w : true ≡ false = sym plain ∙ ap (λ (x : CallState). is_plain (driver_of x) x.snapshot) state ∙ not_plain in cc w)
 
-  pub owner_apart : (k : ℕ) (sh : Shape) (d : CallId) → IsOwner m k sh d → same_actor d.actor s.call.actor ≡ false
-  owner_apart k sh d own = apart_from d.actor own.state own.in_hand (ap (λ d. is_plain d own.state.snapshot) own.driver_is)
+  pub owner_apart : (k : ℕ) (sh : Shape) (d : CallId) (own : IsOwner m k sh d) → same_who (who own.state) (who s) ≡ false
+  owner_apart k sh d own = apart_from (who own.state) own.state own.in_hand (ap (λ d. is_plain d own.state.snapshot) own.driver_is)
 
-  pub marker_apart : (k : ℕ) (marks : Marked) → IsMarker m k marks → same_actor marks.call.actor s.call.actor ≡ false
-  marker_apart k marks own = apart_from marks.call.actor own.state own.in_hand (ap (λ d. is_plain d own.state.snapshot) own.driver_is ∙ ap (λ w. not (is_some w)) own.made_is)
+  pub marker_apart : (k : ℕ) (marks : Marked) (own : IsMarker m k marks) → same_who (who own.state) (who s) ≡ false
+  marker_apart k marks own = apart_from (who own.state) own.state own.in_hand (ap (λ d. is_plain d own.state.snapshot) own.driver_is ∙ ap (λ w. not (is_some w)) own.made_is)
 
-  pub holder_apart : (k : ℕ) (active : Option ℕ) (d : CallId) → IsHolder m k active d → same_actor d.actor s.call.actor ≡ false
-  holder_apart k active d own = apart_from d.actor own.state own.in_hand (ap (λ d. is_plain d own.state.snapshot) own.driver_is ∙ ap (λ kind. is_plain_sync kind own.state.snapshot) own.kind ∙ ap not own.some)
+  pub holder_apart : (k : ℕ) (active : Option ℕ) (d : CallId) (own : IsHolder m k active d) → same_who (who own.state) (who s) ≡ false
+  holder_apart k active d own = apart_from (who own.state) own.state own.in_hand (ap (λ d. is_plain d own.state.snapshot) own.driver_is ∙ ap (λ kind. is_plain_sync kind own.state.snapshot) own.kind ∙ ap not own.some)
 
-  pub maker_apart : (k : ℕ) (d : CallId) → IsMaker m k d → same_actor d.actor s.call.actor ≡ false
-  maker_apart k d maker = apart_from d.actor maker.state maker.in_hand (ap (λ d. is_plain d maker.state.snapshot) maker.driver_is ∙ ap (λ w. not (is_some w)) maker.making_is)
+  pub maker_apart : (k : ℕ) (d : CallId) (maker : IsMaker m k d) → same_who (who maker.state) (who s) ≡ false
+  maker_apart k d maker = apart_from (who maker.state) maker.state maker.in_hand (ap (λ d. is_plain d maker.state.snapshot) maker.driver_is ∙ ap (λ w. not (is_some w)) maker.making_is)
 
   -- ---- it goes on or ends, and nothing else changes
 
   -- what is left of it is where its steps have led it
-  pub plain_steps : (o : Option CallState) → ((z : CallState) → o ≡ Some z → IsInHand (record m { in_hand = put_actor m.in_hand s.call.actor o }) shapes s.call.actor z) → InvariantIn shapes (record m { in_hand = put_actor m.in_hand s.call.actor o })
-  plain_steps o own = record {
+  pub plain_steps : (o : Option CallState) → IsSameCall s o → ((z : CallState) → o ≡ Some z → IsInHand (record m { in_hand = put_who m.in_hand (who s) o }) shapes (who s) z) → InvariantIn shapes (record m { in_hand = put_who m.in_hand (who s) o })
+  plain_steps o same own = record {
     up = inv.up;
     none_live = inv.none_live;
     rises = inv.rises;
     up_to = inv.up_to;
     swept = inv.swept;
-    entries = λ k e found. IsGoodIn-apart m shapes m.next (put_actor m.in_hand s.call.actor o)
-        (λ k sh d is. put_actor-other m.in_hand s.call.actor o d.actor (owner_apart k sh d is)) (λ k marks is. put_actor-other m.in_hand s.call.actor o marks.call.actor (marker_apart k marks is)) (λ k active d is. put_actor-other m.in_hand s.call.actor o d.actor (holder_apart k active d is)) (λ k d is. put_actor-other m.in_hand s.call.actor o d.actor (maker_apart k d is))
+    entries = λ k e found. IsGoodIn-apart m shapes m.next m.pending (put_who m.in_hand (who s) o)
+        (λ k sh d own. put_who-other m.in_hand (who s) o (who own.state) (owner_apart k sh d own)) (λ k marks own. put_who-other m.in_hand (who s) o (who own.state) (marker_apart k marks own)) (λ k active d own. put_who-other m.in_hand (who s) o (who own.state) (holder_apart k active d own)) (λ k d own. put_who-other m.in_hand (who s) o (who own.state) (maker_apart k d own))
         k (shapes k) e e.making (inv.entries k e found);
     replicas = inv.replicas;
     reserves = inv.reserves;
     handles = inv.handles;
     rest = inv.rest;
     clients = inv.clients;
-    hands = λ a z left. elim (put_actor-cases m.in_hand s.call.actor o a z left) [
-      | inl here ↦ subst (λ b. IsInHand (record m { in_hand = put_actor m.in_hand s.call.actor o }) shapes b z) (sym here.0) (own z here.1)
-      | inr other ↦ (let was = inv.hands a z other.1 in record { actor = was.actor; client = was.client; number = was.number; built = was.built; driven = was.driven; live = was.live; here = IsIn-apart m shapes m.next (put_actor m.in_hand s.call.actor o) z (driver_of z) was.here })
+    places = inv.places;
+    hands = λ a z left. elim (put_who-cases m.in_hand (who s) o a z left) [
+      | inl here ↦ subst (λ b. IsInHand (record m { in_hand = put_who m.in_hand (who s) o }) shapes b z) (sym here.0) (own z here.1)
+      | inr other ↦ (let was = inv.hands a z other.1 in record { whose = was.whose; client = was.client; number = was.number; built = was.built; driven = was.driven; live = was.live; here = IsIn-apart m shapes m.next m.pending (put_who m.in_hand (who s) o) z (driver_of z) was.here })
     ];
+    calls = calls_left m.in_hand m.pending m.next inv.calls s held o same;
   }
 
   -- it ends
-  pub plain_ends : InvariantIn shapes (record m { in_hand = put_actor m.in_hand s.call.actor None })
-  plain_ends = plain_steps None (λ z none. absurd (cc none))
+  pub plain_ends : InvariantIn shapes (record m { in_hand = put_who m.in_hand (who s) None })
+  plain_ends = plain_steps None (same_call-None s) (λ z none. absurd (cc none))
 
   -- it ends by a look that refuses it
   pub look_goes : (error : AisError) (cause : Cause) (t : Told) → LookRefused m s (asked s.op) error cause → IsDone m s (End (Refused error cause)) t → Goes m s (driver_of s) t
@@ -212,16 +216,16 @@ module _ (m : Machine) (shapes : ℕ → Shape) (inv : InvariantIn shapes m) (s 
 
   module _ (R : RecordState) (rises : IdentitiesRise R.entries) (up_to : AllUpTo m.cluster.last_identity R.entries) (up : R.up ≡ m.cluster.up) (last : R.last_identity ≡ m.cluster.last_identity) (later : ComesOf IsLaterEntry m.cluster.entries R.entries)
       (none_live : m.cluster.up ≡ no_nodes → R.clients ≡ []) (clients : (c : ℕ) → IfSome (find_key client_key c R.clients) (IsGoodClient m.next R c))
-      (live : (a : ActorName) (z : CallState) → same_actor a s.call.actor ≡ false → m.in_hand a ≡ Some z → is_live m.cluster z.call ≡ true → is_live R z.call ≡ true)
-      (lives : (a : ActorName) (z : CallState) → same_actor a s.call.actor ≡ false → m.in_hand a ≡ Some z → find_key client_key (client_of z.call) R.clients ≡ find_key client_key (client_of z.call) m.cluster.clients)
-      (makes : (a : ActorName) (z : CallState) (k : ℕ) (e : Entry) → same_actor a s.call.actor ≡ false → m.in_hand a ≡ Some z → entry_of k m.cluster.entries ≡ Some e → e.making ≡ Some z.call → IsSome (entry_of k R.entries))
+      (live : (a : Who) (z : CallState) → same_who a (who s) ≡ false → m.in_hand a ≡ Some z → is_live m.cluster z.call ≡ true → is_live R z.call ≡ true)
+      (lives : (a : Who) (z : CallState) → same_who a (who s) ≡ false → m.in_hand a ≡ Some z → find_key client_key (client_of z.call) R.clients ≡ find_key client_key (client_of z.call) m.cluster.clients)
+      (makes : (a : Who) (z : CallState) (k : ℕ) (e : Entry) → same_who a (who s) ≡ false → m.in_hand a ≡ Some z → entry_of k m.cluster.entries ≡ Some e → e.making ≡ Some z.call → IsSome (entry_of k R.entries))
       (homes : (a : ActorName) (h : HandleView) → Contains (m.tables a).handles h → find_key client_key (number_of a) R.clients ≡ find_key client_key (number_of a) m.cluster.clients) where
-    pub swept_keeps : InvariantIn shapes (record (with_record m (swept R)) { in_hand = put_actor m.in_hand s.call.actor None })
+    pub swept_keeps : InvariantIn shapes (record (with_record m (swept R)) { in_hand = put_who m.in_hand (who s) None })
     swept_keeps = resting_keeps (ending s m) shapes plain_ends R rises up_to up last later none_live clients
         (λ a z left. left_other s m a z left (λ other at. live a z other at)) (λ a z left. left_other s m a z left (λ other at. lives a z other at)) (λ a z k e left. left_other s m a z left (λ other at. makes a z k e other at)) homes
 
   -- one entry was changed
-  pub changed_keeps : (k : ℕ) (f : Entry → Entry) → KeepsIdentity f → ((e : Entry) → entry_of k m.cluster.entries ≡ Some e → IsLaterEntry e (f e)) → InvariantIn shapes (record (with_record m (swept (record m.cluster { entries = change_key identity_of k f m.cluster.entries }))) { in_hand = put_actor m.in_hand s.call.actor None })
+  pub changed_keeps : (k : ℕ) (f : Entry → Entry) → KeepsIdentity f → ((e : Entry) → entry_of k m.cluster.entries ≡ Some e → IsLaterEntry e (f e)) → InvariantIn shapes (record (with_record m (swept (record m.cluster { entries = change_key identity_of k f m.cluster.entries }))) { in_hand = put_who m.in_hand (who s) None })
   changed_keeps k f keeps later = swept_keeps (record m.cluster { entries = change_key identity_of k f m.cluster.entries })
       (IdentitiesRise-change_key f keeps k m.cluster.entries inv.rises) (AllUpTo-change_key f keeps m.cluster.last_identity k m.cluster.entries inv.up_to) refl refl
       (ComesOf-change_found IsLaterEntry IsLaterEntry-refl f keeps k m.cluster.entries later) inv.none_live inv.clients

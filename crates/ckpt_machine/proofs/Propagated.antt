@@ -105,24 +105,24 @@ module _ (m : Machine) (shapes : ℕ → Shape) (inv : InvariantIn shapes m) (f 
     fits = good.fits;
     complete = good.complete;
     lowest = good.lowest;
-    owned = λ q d owns. IsOwner-alike m then_machine j (shapes j) d refl (good.owned q d owns);
+    owned = λ q d owns. IsOwner-alike m then_machine j (shapes j) d (good.owned q d owns) refl;
     led = good.led;
-    marked = λ marks is. IsMarker-alike m then_machine j marks refl (good.marked marks is);
-    held = λ d is. (let own = good.held d is in record { collocated = own.collocated; led = own.led; unmarked = own.unmarked; holder = IsHolder-alike m then_machine j e.active d refl (active_same e.active refl) own.holder });
+    marked = λ marks is. IsMarker-alike m then_machine j marks (good.marked marks is) refl;
+    held = λ d is. (let own = good.held d is in record { collocated = own.collocated; led = own.led; unmarked = own.unmarked; holder = IsHolder-alike m then_machine j e.active d own.holder refl (active_same e.active refl) });
   }
     where
       -- the replica of its active is the one that was
       active_same : (o : Option ℕ) → e.active ≡ o → on_node (f j) o ≡ on_node (m.replicas j) o
       active_same None is = refl
       active_same (Some q) is = led j q e found is
-  IsGoodIn-then j e found (Some d) good = (good.0, IsMaker-alike m then_machine j d refl good.1)
+  IsGoodIn-then j e found (Some d) good = (good.0, IsMaker-alike m then_machine j d good.1 refl)
 
   -- a call sees what it saw
   looks_then : (z : CallState) → LooksAlike m then_machine shapes shapes z
   looks_then z = record {
     up = λ r up. up;
     lives = refl;
-    tables = refl;
+    handle = λ there. there;
     making = λ o at. making_still m then_machine z o (λ w at. record { there = at.there; declares = at.declares; nodes = at.nodes; reserved = at.reserved; only = at.only; within = at.within }) at;
     made = λ k was. was;
     later = λ k was e found. (e, found, LooksLater-refl z (shapes k).marks e);
@@ -144,7 +144,9 @@ module _ (m : Machine) (shapes : ℕ → Shape) (inv : InvariantIn shapes m) (f 
     handles = inv.handles;
     rest = inv.rest;
     clients = inv.clients;
+    places = inv.places;
     hands = λ a z held. let was = inv.hands a z held in IsInHand-alike m then_machine shapes shapes z (looks_then z) a (λ live. live) was.number was;
+    calls = inv.calls;
   }
 
 -- ---- the two labels

@@ -1,8 +1,7 @@
 -- After a step of the record that takes entries away, the other calls are where they were, and the checkpoints that are left are as they were.
-use Rattle.std.proofs.Common.{◌≡◌, ℕ, ◌≤◌, Option, Some, None, Bool, true, false, cond, not, ◌&&◌, ◌==◌, refl, sym, ap, subst, ◌∙◌}
+use Rattle.std.proofs.Common.{◌≡◌, ℕ, ◌+◌, ◌≤◌, arith, length, Option, Some, None, Bool, true, false, cond, not, ◌&&◌, ◌==◌, refl, sym, ap, subst, ◌∙◌}
 use Rattle.std.specs.Prelude.{is_some, IsSome, IsSomeAnd, IfSome, slice_index, nat_lt}
 use Rattle.std.proofs.lemmas.Option.{same_Some}
-use Rattle.ckpt_types.specs.declared.identities.ActorName.{ActorName}
 use Rattle.ckpt_types.specs.declared.identities.CallId.{CallId}
 use Rattle.cluster_record.specs.declared.calls.Making.{Making}
 use Rattle.cluster_record.specs.declared.entries.Entry.{Entry}
@@ -13,7 +12,7 @@ use Rattle.ckpt_machine.specs.Entries.{WasMade}
 use Rattle.ckpt_types.specs.Asks.{asked}
 use Rattle.ckpt_machine.specs.InHand.{attributes_asked, IsMakingIn, IsUpdateIn, IsInPlace}
 use Rattle.ckpt_machine.specs.Invariant.{IsGoodIn, IsOfGeneration, InvariantIn}
-use Rattle.ckpt_machine.specs.Machine.{Machine, CallState}
+use Rattle.ckpt_machine.specs.Machine.{Machine, CallState, who}
 use Rattle.ckpt_machine.specs.Options.{is_all}
 use Rattle.ckpt_machine.specs.Steps.{opened_state, with_record, replica_under, reservation_under}
 use Rattle.ckpt_machine.specs.Shape.{Shape, IsCompleteOn, IsOwner}
@@ -24,9 +23,15 @@ use Rattle.ckpt_machine.proofs.Joining.{all_apart}
 use Rattle.ckpt_machine.proofs.OptionLemmas.{IsSomeAnd-at, IsSomeAnd-from}
 use Rattle.ckpt_machine.proofs.OnComplete.{IsOfGeneration-later, under_complete}
 use Rattle.ckpt_machine.proofs.ReservedUnder.{was_reserved}
+use Rattle.ckpt_types.specs.declared.identities.Who.{Who}
+use Rattle.ckpt_types.specs.declared.identities.ActorName.TheVariants.{Client}
+use Rattle.ckpt_types.specs.Limits.{handles_max}
+use Rattle.cluster_record.specs.Makings.{makings_of}
+use Rattle.ckpt_machine.proofs.FewerMakings.{fewer_makings}
+use Rattle.ckpt_machine.proofs.FewerCalls.{calls_fewer}
 use Rattle.ckpt_machine.proofs.NodeLists.{slice_index-replicate}
 
-module _ (m : Machine) (shapes : ℕ → Shape) (inv : InvariantIn shapes m) (R : RecordState) (hands : ActorName → Option CallState) (after_it : IsLaterRecord m R hands) where
+module _ (m : Machine) (shapes : ℕ → Shape) (inv : InvariantIn shapes m) (R : RecordState) (hands : Who → Option CallState) (after_it : IsLaterRecord m R hands) where
   abbrev then_machine : Machine
   then_machine = record (with_record m R) { in_hand = hands }
 
@@ -42,7 +47,7 @@ module _ (m : Machine) (shapes : ℕ → Shape) (inv : InvariantIn shapes m) (R 
   -- an update that owns a slot is of a checkpoint whose nodes stay
   owned_placed : (k : ℕ) (sh : Shape) (e f : Entry) → entry_of k m.cluster.entries ≡ Some e → IsLaterEntry e f → (d : CallId) → IsOwner m k sh d → f.complete ≡ e.complete
   owned_placed k sh e f was later d own =
-      let at : IsUpdateIn m shapes own.state own.driver = subst (λ d. IsInPlace m shapes own.state d) own.driver_is (inv.hands d.actor own.state own.in_hand).here in
+      let at : IsUpdateIn m shapes own.state own.driver = subst (λ d. IsInPlace m shapes own.state d) own.driver_is (inv.hands (who own.state) own.state own.in_hand).here in
       later.placed (all_apart e.attributes (subst (λ o. IfSome o (λ (x : Entry). is_all x.attributes ≡ true)) (ap (λ j. entry_of j m.cluster.entries) own.ckpt ∙ was) at.all))
 
   -- ---- what was made
@@ -66,7 +71,7 @@ module _ (m : Machine) (shapes : ℕ → Shape) (inv : InvariantIn shapes m) (R 
 
   -- ---- where a call is
 
-  module _ (a : ActorName) (z : CallState) (left : hands a ≡ Some z) where
+  module _ (a : Who) (z : CallState) (left : hands a ≡ Some z) where
     reservation_kept : (k r : ℕ) (f : Entry) → entry_of k R.entries ≡ Some f → (slice_index f.complete r == 0) ≡ true → then_machine.reserved k r ≡ m.reserved k r
     reservation_kept k r f is none = ap (λ o. reservation_under o r (m.reserved k r)) is ∙ ap (λ b. cond b (m.reserved k r) None) none
 
@@ -104,7 +109,7 @@ module _ (m : Machine) (shapes : ℕ → Shape) (inv : InvariantIn shapes m) (R 
     looks_kept = record {
       up = λ r up. ap (λ nodes. nat_lt r 8 && not (slice_index nodes r == 0)) after_it.up ∙ up;
       lives = ap is_some (after_it.lives a z left);
-      tables = refl;
+      handle = λ there. there;
       making = λ o at. making_still m then_machine z o making_kept at;
       made = WasMade-kept;
       later = λ k was f found. let (e, there, later) = after_it.later k f found in (e, there, LooksLater-later z (shapes k).marks e f later);
@@ -119,6 +124,10 @@ module _ (m : Machine) (shapes : ℕ → Shape) (inv : InvariantIn shapes m) (R 
   reserves_kept j q n f found was =
       let (e, there, later) = after_it.later j f found in
       ap (λ o. is_some o) later.making ∙ subst (λ o. IsSomeAnd o (λ (x : Entry). IsSome x.making)) there (inv.reserves j q n was)
+
+  -- what is in the making was so, by the same call
+  making_was : (k : ℕ) (f : Entry) → entry_of k R.entries ≡ Some f → (e : Entry) × (entry_of k m.cluster.entries ≡ Some e) × (f.making ≡ e.making)
+  making_was k f found = let (e, was, later) = after_it.later k f found in (e, was, later.making)
 
   -- the invariant holds after the step
   pub record_keeps : InvariantIn shapes then_machine
@@ -136,5 +145,7 @@ module _ (m : Machine) (shapes : ℕ → Shape) (inv : InvariantIn shapes m) (R 
     handles = λ b h among. IsGoodHandle-later m.cluster R WasMade-kept (λ k was f found. let (e, there, later) = after_it.later k f found in (e, there, later.attributes, later.grows)) b h (after_it.homes b h among) (inv.handles b h among);
     rest = inv.rest;
     clients = after_it.clients;
+    places = λ c. let few : length (m.tables (Client c)).handles + makings_of c m.cluster.entries ≤ handles_max = inv.places c in omega (arith, few, fewer_makings c m.cluster.entries R.entries inv.rises after_it.rises making_was);
     hands = λ a z left. let was = inv.hands a z (after_it.was_held a z left) in IsInHand-alike m then_machine shapes shapes z (looks_kept a z left) a (after_it.live a z left) was.number was;
+    calls = calls_fewer m.in_hand hands m.pending m.next after_it.was_held inv.calls;
   }

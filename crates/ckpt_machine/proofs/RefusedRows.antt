@@ -5,6 +5,8 @@ use Rattle.ckpt_types.specs.declared.answers.Cause.TheVariants.{Plain}
 use Rattle.ckpt_types.specs.declared.answers.Outcome.TheVariants.{Refused}
 use Rattle.ckpt_types.specs.declared.identities.ActorName.TheVariants.{Client}
 use Rattle.ckpt_types.specs.declared.identities.CallId.{CallId}
+use Rattle.ckpt_types.specs.declared.identities.Who.TheVariants.{Actor}
+use Rattle.node_msgs.specs.declared.details.Details.TheVariants as beside
 use Rattle.ckpt_types.specs.declared.operation.Op.TheVariants as ops
 use Rattle.ckpt_types.specs.declared.update.Update.TheVariants as updates
 use Rattle.run_labels.specs.declared.labels.Label.{Label}
@@ -21,7 +23,7 @@ abbrev up : List Label
 up = labels.Nodes 1 ∷ []
 
 abbrev refusal_label : Label
-refusal_label = labels.Began first (ops.Close 0) (Some (Refused errors.BadHandle Plain))
+refusal_label = labels.Began first (ops.Close 0) (Some (Refused errors.BadHandle Plain)) beside.Nothing
 
 is_refusal : IsRefusal refusal_label
 is_refusal = tt
@@ -34,7 +36,7 @@ others : (last (up ++ refusal_label ∷ [])).next (Client 1) ≡ 1
 others = refl
 
 -- it is in hand no more
-call_has_ended : (last (up ++ refusal_label ∷ [])).in_hand (Client 0) ≡ None
+call_has_ended : (last (up ++ refusal_label ∷ [])).in_hand (Actor (Client 0)) ≡ None
 call_has_ended = refl
 
 -- the record is as it was

@@ -1,6 +1,6 @@
 -- A call that ends with a refusal has nothing after it, and leaves all else as it was.
 use Rattle.node_msgs.specs.declared.details.Details.{Details}
-use Rattle.std.proofs.Common.{◌≡◌, ◌⊎◌, ℕ, inl, inr, List, [], ◌∷◌, ◌++◌, Option, Some, None, true, false, cond, not, ◌==◌, refl, sym, ap, subst, ◌∙◌, append_assoc, arith}
+use Rattle.std.proofs.Common.{◌≡◌, ◌⊎◌, ℕ, inl, inr, List, [], ◌∷◌, ◌++◌, ◌<◌, Option, Some, None, true, false, cond, not, ◌==◌, refl, sym, ap, subst, ◌∙◌, append_assoc, arith}
 use Rattle.std.specs.Prelude.{IsSomeAnd, slice_index}
 use Rattle.std.proofs.lemmas.Option.{same_Some}
 use Rattle.ckpt_types.specs.declared.answers.Outcome.{Outcome}
@@ -18,42 +18,51 @@ use Rattle.cluster_record.specs.Places.{put}
 use Rattle.std.proofs.lemmas.Bool.{eqb-true}
 use Rattle.ckpt_machine.specs.Guards.{IsMadeBy, CommitRow, Row, Allowed}
 use Rattle.ckpt_machine.specs.Invariant.{IsGoodIn, Invariant}
-use Rattle.ckpt_machine.specs.Machine.{Machine, ReplicaState, Snapshot, CallState}
+use Rattle.ckpt_machine.specs.Machine.{Machine, ReplicaState, Snapshot, CallState, who}
 use Rattle.ckpt_machine.specs.Owned.{OwnsNothing, HasNoEffect, HasNothing}
-use Rattle.ckpt_machine.specs.Refusals.{IsRefused, IsRefusal, LeavesAll, UndoesOwn, LeavesBy, unmade, unmade_swept, Refuses, call_told}
+use Rattle.ckpt_machine.specs.Refusals.{IsRefused, IsRefusal, LeavesAll, UndoesOwn, LeavesBy, end_kept, unmade, unmade_swept, Refuses, call_told}
 use Rattle.ckpt_machine.specs.Runs.{last}
 use Rattle.ckpt_machine.specs.Shape.{IsCompleteOn, IsSpread}
-use Rattle.ckpt_machine.specs.Steps.{Told, IsDone, IsDue, due, after_beginning, changed, step_of, after, replica_under, replicas_under, reservation_under, snapshot_under, opened_state}
+use Rattle.ckpt_machine.specs.Steps.{Told, IsDone, IsDue, due, after_beginning, call_begun, changed, kept_behind, step_of, after, replica_under, replicas_under, reservation_under, snapshot_under, opened_state}
 use Rattle.ckpt_machine.proofs.Copying.{IsSource}
 use Rattle.ckpt_machine.proofs.EachReplica.{run_copies}
 use Rattle.ckpt_machine.proofs.OwnMaking.{making_there}
 use Rattle.ckpt_machine.proofs.Follows.{IsIncomplete, IsBare, Has}
-use Rattle.ckpt_machine.proofs.Histories.{HasHistory, commits_by, commit, gone, nothing_left, Commits, Applies, slot_owned, marks_owned, making_incomplete, had, keeps_history, run_history}
+use Rattle.ckpt_machine.proofs.Histories.{HasHistory, commits_by, commit, gone, nothing_left, Commits, Applies, slot_owned, marks_owned, making_incomplete, follows, had, keeps_history, run_history}
 use Rattle.ckpt_machine.proofs.Lawful.{lawful}
 use Rattle.ckpt_machine.proofs.EntryLists.{find_key-without, AllStay-filter, swept-all}
-use Rattle.ckpt_machine.proofs.ReplicaSteps.{put_actor-here}
 use Rattle.ckpt_machine.proofs.Refusing.{at_node, commit_ends, left_none, none_begun, refusal_leaves}
 use Rattle.ckpt_machine.specs.Laws.{RefusedHasNothing}
 use Rattle.ckpt_machine.proofs.Runs.{last-push, run_before, run_front}
+use Rattle.call_dispatch.specs.PendingCalls.{PendingCalls}
+use Rattle.ckpt_types.specs.declared.identities.ActorName.{ActorName}
+use Rattle.ckpt_types.specs.declared.identities.Who.{Who}
+use Rattle.ckpt_types.specs.declared.words.OpWord.{OpWord}
+use Rattle.ckpt_types.specs.OpWord.{word_of_op, stepped_as}
+use Rattle.ckpt_machine.specs.Whose.{put_who}
+use Rattle.ckpt_machine.proofs.Dropped.{held_as, ended_none}
+use Rattle.ckpt_machine.proofs.Starting.{first_kept}
+use Rattle.ckpt_machine.proofs.Whose.{put_who-cases}
 use Rattle.ckpt_machine.proofs.OptionLemmas.{IsSomeAnd-at, IsSomeAnd-more}
 
--- ---- who has no call in hand owns nothing
+-- ---- a call that is not in hand owns nothing
 
-module _ (m : Machine) (inv : Invariant m) (bare : IsBare m) (call : CallId) (none : m.in_hand call.actor ≡ None) where
-  not_in_hand : (d : CallId) (s : CallState) → m.in_hand d.actor ≡ Some s → d ≡ call → ⊥
-  not_in_hand d s held is = let w : None ≡ Some s = sym none ∙ ap (λ (d : CallId). m.in_hand d.actor) (sym is) ∙ held in cc w
+-- the call is in hand under no name
+abbrev pub IsNotInHand : Machine → CallId → Type 0
+IsNotInHand m call = (w : Who) (s : CallState) → m.in_hand w ≡ Some s → s.call ≡ call → ⊥
 
+module _ (m : Machine) (inv : Invariant m) (bare : IsBare m) (call : CallId) (none : IsNotInHand m call) where
   no_maker : (k : ℕ) (e : Entry) → entry_of k m.cluster.entries ≡ Some e → e.making ≡ Some call → ⊥
   no_maker k e found is =
       let good = subst (λ maker. IsGoodIn m k (inv.shapes k) e maker) is (inv.holds.entries k e found) in
-      not_in_hand call good.1.state good.1.in_hand refl
+      none (who good.1.state) good.1.state good.1.in_hand good.1.call_is
 
   -- nor does it hold anything
   no_holder : (k : ℕ) (e : Entry) → entry_of k m.cluster.entries ≡ Some e → (maker : Option CallId) → e.making ≡ maker → e.hold ≡ Some call → ⊥
   no_holder k e found None made is =
       let good : IsSpread m k (inv.shapes k) e = subst (IsGoodIn m k (inv.shapes k) e) made (inv.holds.entries k e found) in
       let own = (good.held call is).holder in
-      not_in_hand call own.state own.in_hand refl
+      none (who own.state) own.state own.in_hand own.call_is
   no_holder k e found (Some d) made is =
       let good : IsGoodIn m k (inv.shapes k) e (Some d) = subst (IsGoodIn m k (inv.shapes k) e) made (inv.holds.entries k e found) in
       let w : None ≡ Some call = sym good.0.free ∙ is in cc w
@@ -62,8 +71,8 @@ module _ (m : Machine) (inv : Invariant m) (bare : IsBare m) (call : CallId) (no
   owns_nothing = record {
     slots = λ k r x slot there staged.
         let (own, origin, update) = slot_owned m inv.shapes inv.holds bare k r x slot there staged in
-        (λ is. not_in_hand slot.owner own.state own.in_hand is, λ is. not_in_hand slot.owner own.state own.in_hand (sym origin ∙ is));
-    marks = λ k r x marks there marked is. let own = marks_owned m inv.shapes inv.holds bare k r x marks there marked in not_in_hand marks.call own.state own.in_hand is;
+        (λ is. none (who own.state) own.state own.in_hand (own.call_is ∙ is), λ is. none (who own.state) own.state own.in_hand (own.call_is ∙ sym origin ∙ is));
+    marks = λ k r x marks there marked is. let own = marks_owned m inv.shapes inv.holds bare k r x marks there marked in none (who own.state) own.state own.in_hand (own.call_is ∙ is);
     makes = no_maker;
     holds = λ k e found is. no_holder k e found e.making refl is;
   }
@@ -79,7 +88,7 @@ no_commit m s t verb row refused = at_node t.ckpt t.node _ (subst (λ verb. Row 
 
 -- ---- a step that refuses
 
-module _ (m : Machine) (inv : Invariant m) (history : HasHistory m) (s : CallState) (held : m.in_hand s.call.actor ≡ Some s) (t : Told) (row : Row m s t.verb t) (done : IsDone m s (due m s) t) (refused : IsRefused t.end) where
+module _ (m : Machine) (inv : Invariant m) (history : HasHistory m) (s : CallState) (held : m.in_hand (who s) ≡ Some s) (t : Told) (row : Row m s t.verb t) (done : IsDone m s (due m s) t) (refused : IsRefused t.end) where
   -- its call had no effect
   had_none : (k r : ℕ) → Has m k r s.call → ⊥
   had_none k r has =
@@ -109,22 +118,41 @@ module _ (m : Machine) (inv : Invariant m) (history : HasHistory m) (s : CallSta
 begun_none : (m : Machine) → HasHistory m → (call : CallId) (op : Op) (end : Option Outcome) → call.number ≡ m.next call.actor → HasNoEffect (after_beginning m call op end) call
 begun_none m history call op end number k r x there has = let below = history.given k r call (record { replica = x; there = there; effect = has }) in omega (arith, below, number)
 
+-- a call that is refused at its beginning is in hand under no name
+begun_nowhere : (m : Machine) → Invariant m → (call : CallId) (op : Op) (end : Option Outcome) → call.number ≡ m.next call.actor → IsRefused end → IsNotInHand (after_beginning m call op end) call
+begun_nowhere m inv call op end number refused w z at same =
+    elim (put_who-cases m.in_hand (stepped_as call (word_of_op op)) (call_begun end call op (first_kept m call op)) w z at) [
+      | inl own ↦ (let none : None ≡ Some z = sym (none_begun end call op (first_kept m call op) refused) ∙ own.1 in cc none)
+      | inr other ↦ (
+          let below : call.number < m.next call.actor = subst (λ (d : CallId). d.number < m.next d.actor) same (inv.holds.hands w z other.1).number in
+          omega (arith, below, number))
+    ]
+
+-- one that is refused at a step is so behind it
+ended_nowhere : (m : Machine) (inv : Invariant m) (history : HasHistory m) (s : CallState) (held : m.in_hand (who s) ≡ Some s) (t : Told) (row : Row m s t.verb t) → IsRefused t.end → IsNotInHand (step_of m (Some s) t.verb t.ckpt t.node t.reply t.end) s.call
+ended_nowhere m inv history s held t row refused w z at same =
+    let n = changed m s t.verb t.ckpt t.node t.reply in
+    ended_none m.in_hand m.pending m.next inv.holds.calls s held n.in_hand (follows m inv history s held t row).in_hand w z
+    (subst (λ o. put_who n.in_hand (who s) o w ≡ Some z) (left_none t.end (kept_behind m s n.cluster t.verb t.ckpt t.node t.reply) refused) at) same
+
 -- what is refused has nothing
 pub refused_has_nothing : (m : Machine) (l : Label) → Invariant m → HasHistory m → Allowed m l → IsDue m l → IsRefusal l → IsSomeAnd (call_told l) (HasNothing (after m l))
-refused_has_nothing m (labels.Began call op end) inv history allowed is refused = record {
-  owns = owns_nothing (after_beginning m call op end) (lawful m (labels.Began call op end) inv is).1 (keeps_history m (labels.Began call op end) inv history allowed is).bare call (put_actor-here m.in_hand call.actor _ ∙ none_begun end call op _ refused);
+refused_has_nothing m (labels.Began call op end details) inv history allowed is refused = record {
+  owns = owns_nothing (after_beginning m call op end) (lawful m (labels.Began call op end details) inv is).1 (keeps_history m (labels.Began call op end details) inv history allowed is).bare call (begun_nowhere m inv call op end is.number refused);
   effects = begun_none m history call op end is.number;
 }
 refused_has_nothing m (labels.Stepped call op verb k r reply end details) inv history allowed step refused =
     let s = step.state in
-    let held : m.in_hand s.call.actor ≡ Some s = ap (λ (c : CallId). m.in_hand c.actor) step.call_is ∙ step.in_hand in
+    let t : Told = record { verb = verb; ckpt = k; node = r; reply = reply; end = end; details = details } in
+    let held : m.in_hand (who s) ≡ Some s = held_as m call op s step.in_hand step.call_is step.word in
     let same : allowed.state ≡ s = same_Some allowed.state s (sym allowed.in_hand ∙ step.in_hand) in
+    let row = subst (λ z. Row m z verb t) same allowed.row in
     let n = step_of m (Some s) verb k r reply end in
-    let ended : n.in_hand call.actor ≡ None = ap (λ (c : CallId). n.in_hand c.actor) (sym step.call_is) ∙ put_actor-here (changed m s verb k r reply).in_hand s.call.actor _ ∙ left_none end _ refused in
-    let none : HasNoEffect n s.call = has_none m inv history s held _ (subst (λ z. Row m z verb _) same allowed.row) step.done refused in
+    let nowhere : IsNotInHand n call = subst (IsNotInHand n) step.call_is (ended_nowhere m inv history s held t row refused) in
+    let none : HasNoEffect n s.call = has_none m inv history s held t row step.done refused in
     record {
       owns = owns_nothing (after m (labels.Stepped call op verb k r reply end details)) (lawful m (labels.Stepped call op verb k r reply end details) inv step).1 (keeps_history m (labels.Stepped call op verb k r reply end details) inv history allowed step).bare call
-          (subst (λ o. (step_of m o verb k r reply end).in_hand call.actor ≡ None) (sym step.in_hand) ended);
+          (subst (λ o. IsNotInHand (step_of m o verb k r reply end) call) (sym step.in_hand) nowhere);
       effects = subst (λ o. HasNoEffect (step_of m o verb k r reply end) call) (sym step.in_hand) (subst (HasNoEffect n) step.call_is none);
     }
 refused_has_nothing m l inv history allowed is refused = absurd refused
@@ -224,9 +252,9 @@ module _ (m : Machine) (inv : Invariant m) (bare : IsBare m) (sources : HaveSour
         | false ↦ λ is. snapshot_kept j (entry_of j m.cluster.entries) refl
       ] refl
 
-  -- nothing else goes with it
-  pub leaves_unmade : (n : Machine) → LeavesAll call.actor (unmade_swept k m) n → LeavesAll call.actor (unmade k m) n
-  leaves_unmade n all = record {
+  -- nothing else goes with it, whatever calls are not dispatched
+  unmade_all : (whose : Who) (pending : ActorName → PendingCalls) (n : Machine) → LeavesAll whose (record (unmade_swept k m) { pending = pending }) n → LeavesAll whose (record (unmade k m) { pending = pending }) n
+  unmade_all whose pending n all = record {
     cluster = all.cluster ∙ same_record;
     replicas = λ j r. all.replicas j r ∙ ap (λ R. replicas_under m.cluster R m.replicas j r) same_record ∙ same_replicas j r;
     reserved = λ j r. all.reserved j r ∙ ap (λ (R : RecordState). reservation_under (entry_of j R.entries) r (m.reserved j r)) same_record ∙ same_reserved j r;
@@ -235,18 +263,21 @@ module _ (m : Machine) (inv : Invariant m) (bare : IsBare m) (sources : HaveSour
     pending = all.pending;
     next = all.next;
     others = all.others;
-    operations = all.operations;
     ended = all.ended;
   }
 
-undoes_alone : (m : Machine) → Invariant m → IsBare m → HaveSources m → (call : CallId) (n : Machine) → UndoesOwn unmade_swept call m n → UndoesOwn unmade call m n
-undoes_alone m inv bare sources call n own = record { ckpt = own.ckpt; own = own.own; rest = leaves_unmade m inv bare sources call own.ckpt own.own n own.rest }
+  pub leaves_unmade : (whose : Who) (word : OpWord) (end : Option Outcome) (n : Machine) → LeavesAll whose (end_kept call word end (unmade_swept k m)) n → LeavesAll whose (end_kept call word end (unmade k m)) n
+  leaves_unmade whose word None n all = unmade_all whose m.pending n all
+  leaves_unmade whose word (Some end) n all = unmade_all whose (end_kept call word (Some end) m).pending n all
+
+undoes_alone : (m : Machine) → Invariant m → IsBare m → HaveSources m → (call : CallId) (word : OpWord) (end : Option Outcome) (n : Machine) → UndoesOwn unmade_swept call word end m n → UndoesOwn unmade call word end m n
+undoes_alone m inv bare sources call word end n own = record { ckpt = own.ckpt; own = own.own; rest = leaves_unmade m inv bare sources call own.ckpt own.own (stepped_as call word) word end n own.rest }
 
 -- where the invariant holds nothing else goes with a making
 leaves_alone : (m n : Machine) (l : Label) → Invariant m → IsBare m → HaveSources m → LeavesBy unmade_swept l m n → LeavesBy unmade l m n
-leaves_alone m n (labels.Began call op end) inv bare sources leaves = leaves
-leaves_alone m n (labels.Stepped call op verbs.Look k r reply end details) inv bare sources leaves = elim leaves [ inl all ↦ inl all | inr own ↦ inr (undoes_alone m inv bare sources call n own) ]
-leaves_alone m n (labels.Stepped call op verbs.Undo k r reply end details) inv bare sources leaves = undoes_alone m inv bare sources call n leaves
+leaves_alone m n (labels.Began call op end details) inv bare sources leaves = leaves
+leaves_alone m n (labels.Stepped call op verbs.Look k r reply end details) inv bare sources leaves = elim leaves [ inl all ↦ inl all | inr own ↦ inr (undoes_alone m inv bare sources call op end n own) ]
+leaves_alone m n (labels.Stepped call op verbs.Undo k r reply end details) inv bare sources leaves = undoes_alone m inv bare sources call op end n leaves
 leaves_alone m n (labels.Stepped call op verb k r reply end details) inv bare sources leaves = leaves
 leaves_alone m n l inv bare sources leaves = absurd leaves
 

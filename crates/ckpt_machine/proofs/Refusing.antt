@@ -30,16 +30,20 @@ use Rattle.cluster_record.specs.declared.entries.Entry.{Entry}
 use Rattle.cluster_record.specs.RecordState.{entry_of}
 use Rattle.ckpt_types.specs.Asks.{Ask, asked}
 use Rattle.node_core.specs.Serving.{update_answer}
-use Rattle.ckpt_machine.specs.Machine.{Machine, ReplicaState, CallState}
-use Rattle.ckpt_machine.specs.Steps.{changed, call_begun, stepped, step_of, after, ids_asked, Told, without_making, kept_behind}
+use Rattle.ckpt_machine.specs.Machine.{Machine, ReplicaState, CallState, who}
+use Rattle.ckpt_machine.specs.Steps.{asked_handle, changed, call_begun, pending_begun, handle_opened, with_pending, stepped, step_of, after, ids_asked, Told, without_making, kept_behind}
 use Rattle.ckpt_machine.specs.Tables.{ended_at_once}
 use Rattle.ckpt_machine.specs.Complete.{complete_replicas}
 use Rattle.ckpt_machine.specs.Options.{is_all, is_weak, is_by_element}
 use Rattle.cluster_record.specs.StepDone.{StepDone}
 use Rattle.ckpt_machine.specs.Guards.{HoldOk, ActivateOk, AtCkpt, AtNode, AtNodeAlone, AtNone, OnReplica, OnAll, OnActive, CommitOk, ActiveRefused, ActiveHeld, BeginsOnActive, ApplyOk, MarkOk, Row, Allowed, ends_update, IterOk, NextOk, NextAnswer, InstallOk, steps_with, all_served, unless_unserved, LookRow, UndoRow, AsksToOpen}
-use Rattle.ckpt_machine.specs.Refusals.{IsRefused, IsRefusal, LeavesAll, UndoesOwn, LeavesBy, unmade_swept}
+use Rattle.ckpt_machine.specs.Refusals.{IsRefused, IsRefusal, LeavesAll, UndoesOwn, LeavesBy, end_kept, unmade_swept}
 use Rattle.ckpt_machine.proofs.Actors.{same_actor-true}
-use Rattle.ckpt_machine.proofs.ReplicaSteps.{put_actor-here, put_actor-other}
+use Rattle.std.specs.Prelude.{if◌then◌else◌}
+use Rattle.call_dispatch.specs.PendingCalls.{PendingCalls, ended_in}
+use Rattle.client_handles.specs.declared.handle_view.HandleView.{HandleView}
+use Rattle.ckpt_types.specs.OpWord.{word_of_op, is_async, stepped_as}
+use Rattle.ckpt_machine.proofs.Whose.{put_who-other, put_who-here}
 
 -- ---- what is not so
 
@@ -195,22 +199,41 @@ left_none None s refused = absurd refused
 
 -- nor is one that is refused at its beginning
 pub none_begun : (end : Option Outcome) (call : CallId) (op : Op) (kept : Kept) → IsRefused end → call_begun end call op kept ≡ None
-none_begun (Some o) call op kept refused = refl
+none_begun (Some (Refused error cause)) call op kept refused = refl
+none_begun (Some NoMemory) call op kept refused = refl
+none_begun (Some o) call op kept refused = absurd refused
 none_begun None call op kept refused = absurd refused
 
-leaves_step : (m n : Machine) (s : CallState) (end : Option Outcome) → n ≡ m → IsRefused end → LeavesAll s.call.actor m (stepped n s end)
-leaves_step m n s end same refused = record {
+-- and none of its kind is under way then, nor is any given
+begins_no_other : (end : Option Outcome) (call : CallId) (op : Op) (h : Option HandleView) (p : PendingCalls) → IsRefused end → pending_begun end call op h p ≡ p
+begins_no_other (Some (Refused error cause)) call op h p refused = refl
+begins_no_other (Some NoMemory) call op h p refused = refl
+begins_no_other (Some o) call op h p refused = absurd refused
+begins_no_other None call op h p refused = absurd refused
+
+-- an open that is refused has opened no handle
+opens_none : (o : Outcome) (t : ClientState) → IsRefused (Some o) → handle_opened o t ≡ None
+opens_none (Refused error cause) t refused = refl
+opens_none NoMemory t refused = refl
+opens_none o t refused = absurd refused
+
+leaves_step : (m n : Machine) (s : CallState) (end : Option Outcome) → n ≡ m → IsRefused end → LeavesAll (who s) (end_kept s.call (word_of_op s.op) end m) (stepped n s end)
+leaves_step m n s None same refused = absurd refused
+leaves_step m n s (Some o) same refused = record {
   cluster = ap (λ (x : Machine). x.cluster) same;
   replicas = λ k r. ap (λ (x : Machine). x.replicas k r) same;
   reserved = λ k r. ap (λ (x : Machine). x.reserved k r) same;
   snapshots = λ k. ap (λ (x : Machine). x.snapshots k) same;
   tables = λ a. ap (λ (x : Machine). x.tables a) same;
-  pending = λ a. ap (λ (x : Machine). x.pending a) same;
+  pending = λ a. ap (λ h. (kept_so h n).pending a) (opens_none o (n.tables s.call.actor) refused) ∙ ap (λ (x : Machine). (kept_so None x).pending a) same;
   next = λ a. ap (λ (x : Machine). x.next a) same;
-  others = λ a other. put_actor-other n.in_hand s.call.actor _ a other ∙ ap (λ (x : Machine). x.in_hand a) same;
-  operations = λ d. ap (λ (x : Machine). x.operations d) same;
-  ended = put_actor-here n.in_hand s.call.actor _ ∙ left_none end _ refused;
+  others = λ w other. put_who-other n.in_hand (who s) _ w other ∙ ap (λ (x : Machine). x.in_hand w) same;
+  ended = put_who-here n.in_hand (who s) _;
 }
+  where
+    -- its end is kept where it is an asynchronous one, with the handle that it has opened
+    kept_so : Option ℕ → Machine → Machine
+    kept_so h x = with_pending s.call.actor (λ p. if is_async (word_of_op s.op) then ended_in s.call h o p else p) x
 
 -- the state after a step of a call that is in hand
 abbrev stepped_behind : Machine → CallState → Verb → Option ℕ → Option ℕ → StepReply → Option Outcome → Machine
@@ -221,63 +244,65 @@ abbrev looked_behind : Machine → CallState → Option ℕ → Option ℕ → O
 looked_behind m s k r end making = let n = without_making making m in stepped n (kept_behind m s n.cluster verbs.Look k r words.Refused) end
 
 -- a look that refuses leaves all, or undoes what its call was making
-leaves_look : (m : Machine) (s : CallState) (k r : Option ℕ) (reply : StepReply) (end : Option Outcome) → LookRow m s reply end → IsRefused end → LeavesAll s.call.actor m (stepped_behind m s verbs.Look k r reply end) ⊎ UndoesOwn unmade_swept s.call m (stepped_behind m s verbs.Look k r reply end)
+leaves_look : (m : Machine) (s : CallState) (k r : Option ℕ) (reply : StepReply) (end : Option Outcome) → LookRow m s reply end → IsRefused end → LeavesAll (who s) (end_kept s.call (word_of_op s.op) end m) (stepped_behind m s verbs.Look k r reply end) ⊎ UndoesOwn unmade_swept s.call (word_of_op s.op) end m (stepped_behind m s verbs.Look k r reply end)
 leaves_look m s k r words.Done end row refused = absurd (no_refusal_looked m s end row refused)
 leaves_look m s k r words.Refused end row refused = by_making (making_of s.call m.cluster) refl
   where
-    by_making : (making : Option ℕ) → making_of s.call m.cluster ≡ making → LeavesAll s.call.actor m (looked_behind m s k r end making) ⊎ UndoesOwn unmade_swept s.call m (looked_behind m s k r end making)
+    by_making : (making : Option ℕ) → making_of s.call m.cluster ≡ making → LeavesAll (who s) (end_kept s.call (word_of_op s.op) end m) (looked_behind m s k r end making) ⊎ UndoesOwn unmade_swept s.call (word_of_op s.op) end m (looked_behind m s k r end making)
     by_making None is = inl (leaves_step m m (kept_behind m s m.cluster verbs.Look k r words.Refused) end refl refused)
     by_making (Some j) is = inr (record { ckpt = j; own = is; rest = leaves_step (unmade_swept j m) (unmade_swept j m) (kept_behind m s (unmade_swept j m).cluster verbs.Look k r words.Refused) end refl refused })
 leaves_look m s k r reply end row refused = absurd row
 
-leaves_undo : (m : Machine) (s : CallState) (k r : Option ℕ) (reply : StepReply) (end : Option Outcome) → AtCkpt k r (λ k. (name : List ℕ) × (a : Option CreationAttributes) × AsksToOpen s name a × UndoRow m s k reply end) → IsRefused end → UndoesOwn unmade_swept s.call m (stepped_behind m s verbs.Undo k r reply end)
+leaves_undo : (m : Machine) (s : CallState) (k r : Option ℕ) (reply : StepReply) (end : Option Outcome) → AtCkpt k r (λ k. (name : List ℕ) × (a : Option CreationAttributes) × AsksToOpen s name a × UndoRow m s k reply end) → IsRefused end → UndoesOwn unmade_swept s.call (word_of_op s.op) end m (stepped_behind m s verbs.Undo k r reply end)
 leaves_undo m s (Some k) None words.Ok end row refused = record { ckpt = k; own = row.3.0; rest = leaves_step (unmade_swept k m) (unmade_swept k m) (kept_behind m s (unmade_swept k m).cluster verbs.Undo (Some k) None words.Ok) end refl refused }
 leaves_undo m s (Some k) None reply end row refused = absurd row.3
 leaves_undo m s (Some k) (Some r) reply end row refused = absurd row
 leaves_undo m s None r reply end row refused = absurd row
 
--- a refused beginning ends no iteration
-refusal_ends_none : (end : Option Outcome) (ask : Ask) (t : ClientState) → IsRefused end → ended_at_once end ask t ≡ t
-refusal_ends_none (Some (Refused error cause)) ask t refused = refl
-refusal_ends_none (Some NoMemory) ask t refused = refl
-refusal_ends_none (Some o) ask t refused = absurd refused
-refusal_ends_none None ask t refused = absurd refused
+-- a refused beginning ends no iteration, and gives no callback
+refusal_ends_none : (end : Option Outcome) (ask : Ask) (p : PendingCalls) (t : ClientState) → IsRefused end → ended_at_once end ask p t ≡ t
+refusal_ends_none (Some (Refused error cause)) ask p t refused = refl
+refusal_ends_none (Some NoMemory) ask p t refused = refl
+refusal_ends_none (Some o) ask p t refused = absurd refused
+refusal_ends_none None ask p t refused = absurd refused
 
 -- what is put there where it is already changes nothing
-put_same : (f : ActorName → ClientState) (a : ActorName) (t : ClientState) → t ≡ f a → (b : ActorName) → put_actor f a t b ≡ f b
+put_same : {X : Type 0} (f : ActorName → X) (a : ActorName) (t : X) → t ≡ f a → (b : ActorName) → put_actor f a t b ≡ f b
 put_same f a t same b = elim (same_actor b a) as (λ is. same_actor b a ≡ is → cond is t (f b) ≡ f b) [
   | true ↦ λ is. same ∙ ap f (sym (same_actor-true b a is))
   | false ↦ λ is. refl
 ] refl
 
 -- where the call that steps is the one in hand
-leaves_at : (m : Machine) (call : CallId) (verb : Verb) (k r : Option ℕ) (reply : StepReply) (end : Option Outcome) (P : CallId → Machine → Type 0) (s : CallState) → m.in_hand call.actor ≡ Some s → s.call ≡ call → P s.call (stepped_behind m s verb k r reply end) → P call (step_of m (m.in_hand call.actor) verb k r reply end)
-leaves_at m call verb k r reply end P s here is p = subst (λ (o : Option CallState). P call (step_of m o verb k r reply end)) (sym here) (subst (λ (d : CallId). P d (stepped_behind m s verb k r reply end)) is p)
+leaves_at : (m : Machine) (call : CallId) (op : OpWord) (verb : Verb) (k r : Option ℕ) (reply : StepReply) (end : Option Outcome) (P : CallId → OpWord → Machine → Type 0) (s : CallState) → m.in_hand (stepped_as call op) ≡ Some s → s.call ≡ call → word_of_op s.op ≡ op
+    → P s.call (word_of_op s.op) (stepped_behind m s verb k r reply end) → P call op (step_of m (m.in_hand (stepped_as call op)) verb k r reply end)
+leaves_at m call op verb k r reply end P s here call_is word_is p =
+    subst (λ (o : Option CallState). P call op (step_of m o verb k r reply end)) (sym here)
+    (subst (λ (w : OpWord). P call w (stepped_behind m s verb k r reply end)) word_is (subst (λ (d : CallId). P d (word_of_op s.op) (stepped_behind m s verb k r reply end)) call_is p))
 
 step_leaves : (m : Machine) (call : CallId) (op : OpWord) (verb : Verb) (k r : Option ℕ) (reply : StepReply) (end : Option Outcome) (details : Details)
     → Allowed m (labels.Stepped call op verb k r reply end details) → IsRefused end → LeavesBy unmade_swept (labels.Stepped call op verb k r reply end details) m (after m (labels.Stepped call op verb k r reply end details))
 step_leaves m call op verbs.Look k r reply end details allowed refused =
-    leaves_at m call verbs.Look k r reply end (λ d n. LeavesAll d.actor m n ⊎ UndoesOwn unmade_swept d m n) allowed.state allowed.in_hand allowed.call_is (leaves_look m allowed.state k r reply end allowed.row.2 refused)
+    leaves_at m call op verbs.Look k r reply end (λ d w n. LeavesAll (stepped_as d w) (end_kept d w end m) n ⊎ UndoesOwn unmade_swept d w end m n) allowed.state allowed.in_hand allowed.call_is allowed.word (leaves_look m allowed.state k r reply end allowed.row.2 refused)
 step_leaves m call op verbs.Undo k r reply end details allowed refused =
-    leaves_at m call verbs.Undo k r reply end (λ d n. UndoesOwn unmade_swept d m n) allowed.state allowed.in_hand allowed.call_is (leaves_undo m allowed.state k r reply end allowed.row.0 refused)
+    leaves_at m call op verbs.Undo k r reply end (λ d w n. UndoesOwn unmade_swept d w end m n) allowed.state allowed.in_hand allowed.call_is allowed.word (leaves_undo m allowed.state k r reply end allowed.row.0 refused)
 step_leaves m call op verb k r reply end details allowed refused =
     let s = allowed.state in
     let n = changed m s verb k r reply in
-    leaves_at m call verb k r reply end (λ d n. LeavesAll d.actor m n) s allowed.in_hand allowed.call_is (leaves_step m n (kept_behind m s n.cluster verb k r reply) end (changed_same m s verb k r reply end details allowed.row refused tt) refused)
+    leaves_at m call op verb k r reply end (λ d w n. LeavesAll (stepped_as d w) (end_kept d w end m) n) s allowed.in_hand allowed.call_is allowed.word (leaves_step m n (kept_behind m s n.cluster verb k r reply) end (changed_same m s verb k r reply end details allowed.row refused tt) refused)
 
 -- THE LAW: a label that the machine allows and that ends a call with a refusal leaves all as it was, but for the call and a making of its own
 pub refusal_leaves : (m : Machine) (l : Label) → Allowed m l → IsRefusal l → LeavesBy unmade_swept l m (after m l)
-refusal_leaves m (labels.Began call op end) allowed refused = record {
+refusal_leaves m (labels.Began call op end details) allowed refused = record {
   cluster = refl;
   replicas = λ k r. refl;
   reserved = λ k r. refl;
   snapshots = λ k. refl;
-  tables = put_same m.tables call.actor _ (refusal_ends_none end (asked op) (m.tables call.actor) refused);
-  pending = λ a. refl;
+  tables = put_same m.tables call.actor _ (refusal_ends_none end (asked op) (m.pending call.actor) (m.tables call.actor) refused);
+  pending = put_same m.pending call.actor _ (begins_no_other end call op (asked_handle m call.actor op) (m.pending call.actor) refused);
   next = λ a. refl;
-  others = λ a other. put_actor-other m.in_hand call.actor _ a other;
-  operations = λ d. refl;
-  ended = put_actor-here m.in_hand call.actor _ ∙ none_begun end call op _ refused;
+  others = λ w other. put_who-other m.in_hand (stepped_as call (word_of_op op)) _ w other;
+  ended = put_who-here m.in_hand (stepped_as call (word_of_op op)) _ ∙ none_begun end call op _ refused;
 }
 refusal_leaves m (labels.Stepped call op verb k r reply end details) allowed refused = step_leaves m call op verb k r reply end details allowed refused
 refusal_leaves m l allowed refused = absurd refused

@@ -169,12 +169,12 @@ led_replay : (e f : Entry) → GoesOnMade e f → (o : Option Snapshot) (x : Rep
 led_replay e f goes None x none copied was = let then = replay_kept e f goes x was in record { replays = then.replays; marked = then.marked }
 led_replay e f goes (Some s) x none copied was = replayed f (with_lead (Some s) f.generation x) none (copy_kept e f s goes copied)
 
-kept_replay : IsKept (λ o r x. IsReplayedIn o x) IsReplayedCopy
-kept_replay = record {
+kept_replay : (log : List Label) → IsKept (λ o r x. IsReplayedIn o x) IsReplayedCopy log
+kept_replay log = record {
   opened = λ e r f found. subst (λ f. IsReplayed f (opened_state e)) (same_Some e f found) (record { replays = refl; marked = tt });
-  stays = λ e f r x stays made was g found. subst (λ g. IsReplayed g x) (same_Some f g found) (replay_kept e f stays x (was e refl));
-  stays_copied = λ e f s stays source was. copy_kept e f s stays was;
-  led = λ e f r o x goes made free none copied was g found. subst (λ g. IsReplayed g (with_lead o f.generation x)) (same_Some f g found) (led_replay e f goes o x none copied (was e refl));
+  stays = λ e f r x identity stays made was g found. subst (λ g. IsReplayed g x) (same_Some f g found) (replay_kept e f stays x (was e refl));
+  stays_copied = λ e f s identity stays source was. copy_kept e f s stays was;
+  led = λ e f r o x identity goes made free none copied was g found. subst (λ g. IsReplayed g (with_lead o f.generation x)) (same_Some f g found) (led_replay e f goes o x none copied (was e refl));
   pulled = λ e r x source active none was. replay_there e x none (was e refl);
   put = λ e r s x present free none copied was f found. subst (λ f. IsReplayed f (replica_from s x)) (same_Some e f found) (replayed e (replica_from s x) none copied);
   staged = λ m s k r x step was e found. (let it = was e found in record { replays = it.replays; marked = it.marked });
@@ -187,4 +187,4 @@ kept_replay = record {
 
 -- THE LAW: each replica is the replay of its effects
 pub run_replays : (log : List Label) → IsRun log → (k r : ℕ) (e : Entry) (x : ReplicaState) → entry_of k (last log).cluster.entries ≡ Some e → (last log).replicas k r ≡ Some x → IsReplay e x
-run_replays log run k r e x found there = ((run_each (λ o r x. IsReplayedIn o x) IsReplayedCopy kept_replay log run).replica k r x there e found).replays
+run_replays log run k r e x found there = ((run_each (λ o r x. IsReplayedIn o x) IsReplayedCopy log (kept_replay log) run).replica k r x there e found).replays

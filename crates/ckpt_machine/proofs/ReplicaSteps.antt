@@ -1,7 +1,6 @@
--- A step that changes one replica and the call in hand of one actor leaves what holds of every other call and of every other checkpoint.
-use Rattle.std.proofs.Common.{◌≡◌, ◌⊎◌, ℕ, inl, inr, Option, Some, None, Bool, true, false, cond, ◌&&◌, ◌==◌, refl, sym, ap, subst, ◌∙◌}
+-- A step that changes one replica and one call in hand leaves what holds of every other call and of every other checkpoint.
+use Rattle.std.proofs.Common.{◌≡◌, ◌≢◌, ◌⊎◌, ℕ, inl, inr, Option, Some, None, Bool, true, false, cond, ◌&&◌, ◌==◌, refl, sym, ap, subst, ◌∙◌}
 use Rattle.std.proofs.lemmas.Bool.{eqb-true, eq-eqb}
-use Rattle.std.proofs.lemmas.Option.{same_Some}
 use Rattle.ckpt_types.specs.declared.identities.ActorName.{ActorName}
 use Rattle.ckpt_types.specs.declared.identities.CallId.{CallId}
 use Rattle.cluster_record.specs.declared.entries.Entry.{Entry}
@@ -10,13 +9,17 @@ use Rattle.cluster_record.specs.Calls.{same_actor, put_actor}
 use Rattle.cluster_record.specs.Places.{put, put2}
 use Rattle.cluster_record.specs.RecordState.{entry_of}
 use Rattle.ckpt_machine.specs.Drivers as drivers
-use Rattle.ckpt_machine.specs.Machine.{Machine, ReplicaState, CallState}
+use Rattle.ckpt_machine.specs.Machine.{Machine, ReplicaState, CallState, who}
 use Rattle.ckpt_machine.specs.Steps.{driver_of}
 use Rattle.ckpt_machine.specs.Shape.{Shape, is_owner, IsOwner, IsMarker, IsHolder, IsSpread}
 use Rattle.weak_marks.specs.Marks.{Marked}
 use Rattle.ckpt_machine.specs.InHand.{is_marked_by, IsInHand}
 use Rattle.ckpt_machine.specs.Invariant.{IsMaker, IsGoodIn, IsCompleteAt, InvariantIn}
 use Rattle.ckpt_machine.proofs.Actors.{same_actor-refl, same_actor-true}
+use Rattle.ckpt_machine.specs.Whose.{put_who, same_who}
+use Rattle.ckpt_types.specs.declared.identities.Who.{Who}
+use Rattle.ckpt_machine.proofs.Whose.{put_who-cases, put_who-other, apart_states}
+use Rattle.ckpt_machine.proofs.CallsKept.{IsSameCall, apart_from, calls_left}
 use Rattle.ckpt_machine.proofs.OtherCalls.{LooksAlike, LooksLater-refl, making_still, IsInHand-alike, IsOwner-alike, IsMarker-alike, IsGoodIn-alike}
 
 -- ---- calls
@@ -39,20 +42,12 @@ put_actor-other f a x b other = ap (λ t. cond t x (f b)) other
 pub put_actor-same : {X : Type 0} (f : ActorName → X) (a : ActorName) (x : X) → x ≡ f a → (b : ActorName) → put_actor f a x b ≡ f b
 put_actor-same f a x same b = elim (same_actor b a) as (λ t. same_actor b a ≡ t → cond t x (f b) ≡ f b) [ true ↦ λ is. same ∙ ap f (sym (same_actor-true b a is)) | false ↦ λ other. refl ] refl
 
--- what is in hand is another's than one's who has nothing in hand
-pub held_by_other : {X : Type 0} (f : ActorName → Option X) (a : ActorName) → f a ≡ None → (b : ActorName) (x : X) → f b ≡ Some x → same_actor b a ≡ false
-held_by_other f a idle b x held = by_test (same_actor b a) refl
-  where
-    by_test : (t : Bool) → same_actor b a ≡ t → same_actor b a ≡ false
-    by_test false other = other
-    by_test true same = absurd (let w : None ≡ Some x = sym idle ∙ ap f (sym (same_actor-true b a same)) ∙ held in cc w)
-
 -- ---- the step
 
-module _ (m : Machine) (shapes : ℕ → Shape) (inv : InvariantIn shapes m) (s : CallState) (u : UpdateState) (held : m.in_hand s.call.actor ≡ Some s) (is : driver_of s ≡ drivers.Update u) where
+module _ (m : Machine) (shapes : ℕ → Shape) (inv : InvariantIn shapes m) (s : CallState) (u : UpdateState) (held : m.in_hand (who s) ≡ Some s) (is : driver_of s ≡ drivers.Update u) where
   -- the state with other replicas of its checkpoint, and with this left of the call
   abbrev with_step : (ℕ → ℕ → Option ReplicaState) → Option CallState → Machine
-  with_step f o = record m { replicas = f; in_hand = put_actor m.in_hand s.call.actor o }
+  with_step f o = record m { replicas = f; in_hand = put_who m.in_hand (who s) o }
 
   -- replicas of other checkpoints stay
   abbrev StaysElsewhere : (ℕ → ℕ → Option ReplicaState) → Type 0
@@ -65,66 +60,47 @@ module _ (m : Machine) (shapes : ℕ → Shape) (inv : InvariantIn shapes m) (s 
   none_changed j q other = refl
 
   -- the owner of a slot of another checkpoint is another call
-  other_owner : (j : ℕ) (sh : Shape) (call : CallId) → (j == u.ckpt) ≡ false → (own : IsOwner m j sh call) → same_actor call.actor s.call.actor ≡ false
-  other_owner j sh call other own = by_test (same_actor call.actor s.call.actor) refl
-    where
-      by_test : (b : Bool) → same_actor call.actor s.call.actor ≡ b → same_actor call.actor s.call.actor ≡ false
-      by_test false is_not = is_not
-      by_test true same =
-          let state : own.state ≡ s = same_Some own.state s (sym own.in_hand ∙ ap m.in_hand (same_actor-true call.actor s.call.actor same) ∙ held) in
-          let drivers_same : drivers.Update own.driver ≡ drivers.Update u = sym own.driver_is ∙ ap driver_of state ∙ is in
-          let driver : own.driver ≡ u = cc drivers_same in
-          let ckpt : j ≡ u.ckpt = sym own.ckpt ∙ ap (λ (v : UpdateState). v.ckpt) driver in
-          absurd (let e : true ≡ false = sym (eq-eqb j u.ckpt ckpt) ∙ other in cc)
+  other_owner : (j : ℕ) (sh : Shape) (call : CallId) → (j == u.ckpt) ≡ false → (own : IsOwner m j sh call) → same_who (who own.state) (who s) ≡ false
+  other_owner j sh call other own = apart_states m.in_hand own.state s own.in_hand held (λ state.
+      let drivers_same : drivers.Update own.driver ≡ drivers.Update u = sym own.driver_is ∙ ap driver_of state ∙ is in
+      let driver : own.driver ≡ u = cc drivers_same in
+      let ckpt : j ≡ u.ckpt = sym own.ckpt ∙ ap (λ (v : UpdateState). v.ckpt) driver in
+      let e : true ≡ false = sym (eq-eqb j u.ckpt ckpt) ∙ other in
+      cc e)
 
-  pub IsOwner-other : (f : ℕ → ℕ → Option ReplicaState) (o : Option CallState) (j : ℕ) (sh : Shape) (call : CallId) → same_actor call.actor s.call.actor ≡ false → IsOwner m j sh call → IsOwner (with_step f o) j sh call
-  IsOwner-other f o j sh call other own = IsOwner-alike m (with_step f o) j sh call (put_actor-other m.in_hand s.call.actor o call.actor other) own
+  pub IsOwner-other : (f : ℕ → ℕ → Option ReplicaState) (o : Option CallState) (j : ℕ) (sh : Shape) (call : CallId) (own : IsOwner m j sh call) → same_who (who own.state) (who s) ≡ false → IsOwner (with_step f o) j sh call
+  IsOwner-other f o j sh call own other = IsOwner-alike m (with_step f o) j sh call own (put_who-other m.in_hand (who s) o (who own.state) other)
 
   -- a weak write is another call
-  marker_other : (j : ℕ) (marks : Marked) → IsMarker m j marks → same_actor marks.call.actor s.call.actor ≡ false
-  marker_other j marks own = by_test (same_actor marks.call.actor s.call.actor) refl
-    where
-      by_test : (b : Bool) → same_actor marks.call.actor s.call.actor ≡ b → same_actor marks.call.actor s.call.actor ≡ false
-      by_test false is_not = is_not
-      by_test true same =
-          let state : own.state ≡ s = same_Some own.state s (sym own.in_hand ∙ ap m.in_hand (same_actor-true marks.call.actor s.call.actor same) ∙ held) in
-          let apart : drivers.Active own.driver ≡ drivers.Update u = sym own.driver_is ∙ ap driver_of state ∙ is in
-          absurd (cc apart)
+  marker_other : (j : ℕ) (marks : Marked) (own : IsMarker m j marks) → same_who (who own.state) (who s) ≡ false
+  marker_other j marks own = apart_states m.in_hand own.state s own.in_hand held (λ state.
+      let apart : drivers.Active own.driver ≡ drivers.Update u = sym own.driver_is ∙ ap driver_of state ∙ is in
+      cc apart)
 
   pub IsMarker-other : (f : ℕ → ℕ → Option ReplicaState) (o : Option CallState) (j : ℕ) (marks : Marked) → IsMarker m j marks → IsMarker (with_step f o) j marks
-  IsMarker-other f o j marks own = IsMarker-alike m (with_step f o) j marks (put_actor-other m.in_hand s.call.actor o marks.call.actor (marker_other j marks own)) own
+  IsMarker-other f o j marks own = IsMarker-alike m (with_step f o) j marks own (put_who-other m.in_hand (who s) o (who own.state) (marker_other j marks own))
 
   -- so is the setting of an active
-  holder_other : (j : ℕ) (active : Option ℕ) (call : CallId) → IsHolder m j active call → same_actor call.actor s.call.actor ≡ false
-  holder_other j active call own = by_test (same_actor call.actor s.call.actor) refl
-    where
-      by_test : (b : Bool) → same_actor call.actor s.call.actor ≡ b → same_actor call.actor s.call.actor ≡ false
-      by_test false is_not = is_not
-      by_test true same =
-          let state : own.state ≡ s = same_Some own.state s (sym own.in_hand ∙ ap m.in_hand (same_actor-true call.actor s.call.actor same) ∙ held) in
-          let apart : drivers.Sync own.driver ≡ drivers.Update u = sym own.driver_is ∙ ap driver_of state ∙ is in
-          absurd (cc apart)
+  holder_other : (j : ℕ) (active : Option ℕ) (call : CallId) (own : IsHolder m j active call) → same_who (who own.state) (who s) ≡ false
+  holder_other j active call own = apart_states m.in_hand own.state s own.in_hand held (λ state.
+      let apart : drivers.Sync own.driver ≡ drivers.Update u = sym own.driver_is ∙ ap driver_of state ∙ is in
+      cc apart)
 
   -- one in the making is by another call
-  maker_other : (j : ℕ) (call : CallId) → IsMaker m j call → same_actor call.actor s.call.actor ≡ false
-  maker_other j call maker = by_test (same_actor call.actor s.call.actor) refl
-    where
-      by_test : (b : Bool) → same_actor call.actor s.call.actor ≡ b → same_actor call.actor s.call.actor ≡ false
-      by_test false is_not = is_not
-      by_test true same =
-          let state : maker.state ≡ s = same_Some maker.state s (sym maker.in_hand ∙ ap m.in_hand (same_actor-true call.actor s.call.actor same) ∙ held) in
-          let apart : drivers.Open maker.driver ≡ drivers.Update u = sym maker.driver_is ∙ ap driver_of state ∙ is in
-          absurd (cc apart)
+  maker_other : (j : ℕ) (call : CallId) (maker : IsMaker m j call) → same_who (who maker.state) (who s) ≡ false
+  maker_other j call maker = apart_states m.in_hand maker.state s maker.in_hand held (λ state.
+      let apart : drivers.Open maker.driver ≡ drivers.Update u = sym maker.driver_is ∙ ap driver_of state ∙ is in
+      cc apart)
 
   IsGoodIn-other : (f : ℕ → ℕ → Option ReplicaState) (o : Option CallState) → StaysElsewhere f → (j : ℕ) (sh : Shape) (e : Entry) (maker : Option CallId) → (j == u.ckpt) ≡ false → IsGoodIn m j sh e maker → IsGoodIn (with_step f o) j sh e maker
   IsGoodIn-other f o stays j sh e maker other good = IsGoodIn-alike m (with_step f o) j sh e (λ q there. stays j q other)
-      (λ call own. put_actor-other m.in_hand s.call.actor o call.actor (other_owner j sh call other own)) (λ marks own. put_actor-other m.in_hand s.call.actor o marks.call.actor (marker_other j marks own)) (λ active call own. put_actor-other m.in_hand s.call.actor o call.actor (holder_other j active call own)) (λ call own. put_actor-other m.in_hand s.call.actor o call.actor (maker_other j call own)) maker good
+      (λ call own. put_who-other m.in_hand (who s) o (who own.state) (other_owner j sh call other own)) (λ marks own. put_who-other m.in_hand (who s) o (who own.state) (marker_other j marks own)) (λ active call own. put_who-other m.in_hand (who s) o (who own.state) (holder_other j active call own)) (λ call own. put_who-other m.in_hand (who s) o (who own.state) (maker_other j call own)) maker good
 
   -- ---- the other calls in hand
 
   -- in the changed shape the marks are as they were, and other calls own just what they owned
   abbrev KeepsOthers : Shape → Type 0
-  KeepsOthers sh = (sh.marks ≡ (shapes u.ckpt).marks) × ((call : CallId) (q : ℕ) → same_actor call.actor s.call.actor ≡ false → is_owner call (sh.owners q) ≡ is_owner call ((shapes u.ckpt).owners q))
+  KeepsOthers sh = (sh.marks ≡ (shapes u.ckpt).marks) × ((call : CallId) (q : ℕ) → call ≢ s.call → is_owner call (sh.owners q) ≡ is_owner call ((shapes u.ckpt).owners q))
 
   shape_other : (sh : Shape) (j : ℕ) → (j == u.ckpt) ≡ false → put shapes u.ckpt sh j ≡ shapes j
   shape_other sh j other = ap (λ b. cond b sh (shapes j)) other
@@ -132,7 +108,7 @@ module _ (m : Machine) (shapes : ℕ → Shape) (inv : InvariantIn shapes m) (s 
   shape_here : (sh : Shape) (j : ℕ) → (j == u.ckpt) ≡ true → put shapes u.ckpt sh j ≡ sh
   shape_here sh j same = ap (λ b. cond b sh (shapes j)) same
 
-  owners_kept : (sh : Shape) → KeepsOthers sh → (call : CallId) (j q : ℕ) → same_actor call.actor s.call.actor ≡ false → is_owner call ((put shapes u.ckpt sh j).owners q) ≡ is_owner call ((shapes j).owners q)
+  owners_kept : (sh : Shape) → KeepsOthers sh → (call : CallId) (j q : ℕ) → call ≢ s.call → is_owner call ((put shapes u.ckpt sh j).owners q) ≡ is_owner call ((shapes j).owners q)
   owners_kept sh keeps call j q other =
       elim (j == u.ckpt) as (λ b. (j == u.ckpt) ≡ b → is_owner call ((cond b sh (shapes j)).owners q) ≡ is_owner call ((shapes j).owners q)) [
         | true ↦ λ same. keeps.1 call q other ∙ ap (λ k. is_owner call ((shapes k).owners q)) (sym (eqb-true j u.ckpt same))
@@ -146,11 +122,11 @@ module _ (m : Machine) (shapes : ℕ → Shape) (inv : InvariantIn shapes m) (s 
         | false ↦ λ same. refl
       ] refl
 
-  looks_same : (f : ℕ → ℕ → Option ReplicaState) (o : Option CallState) (sh : Shape) → KeepsOthers sh → (z : CallState) → same_actor z.call.actor s.call.actor ≡ false → LooksAlike m (with_step f o) shapes (put shapes u.ckpt sh) z
+  looks_same : (f : ℕ → ℕ → Option ReplicaState) (o : Option CallState) (sh : Shape) → KeepsOthers sh → (z : CallState) → z.call ≢ s.call → LooksAlike m (with_step f o) shapes (put shapes u.ckpt sh) z
   looks_same f o sh keeps z other = record {
     up = λ r up. up;
     lives = refl;
-    tables = refl;
+    handle = λ there. there;
     making = λ v at. making_still m (with_step f o) z v (λ w at. record { there = at.there; declares = at.declares; nodes = at.nodes; reserved = at.reserved; only = at.only; within = at.within }) at;
     made = λ k was. was;
     later = λ k was e found. (e, found, LooksLater-refl z (shapes k).marks e);
@@ -158,23 +134,23 @@ module _ (m : Machine) (shapes : ℕ → Shape) (inv : InvariantIn shapes m) (s 
     marks = λ k was. marks_kept sh keeps z.call k;
   }
 
-  IsInHand-other : (f : ℕ → ℕ → Option ReplicaState) (o : Option CallState) (sh : Shape) → KeepsOthers sh → (a : ActorName) (z : CallState) → same_actor a s.call.actor ≡ false → IsInHand m shapes a z → IsInHand (with_step f o) (put shapes u.ckpt sh) a z
-  IsInHand-other f o sh keeps a z other at = IsInHand-alike m (with_step f o) shapes (put shapes u.ckpt sh) z (looks_same f o sh keeps z (ap (λ b. same_actor b s.call.actor) at.actor ∙ other)) a (λ live. live) at.number at
+  IsInHand-other : (f : ℕ → ℕ → Option ReplicaState) (o : Option CallState) (sh : Shape) → KeepsOthers sh → (w : Who) (z : CallState) → z.call ≢ s.call → IsInHand m shapes w z → IsInHand (with_step f o) (put shapes u.ckpt sh) w z
+  IsInHand-other f o sh keeps w z other at = IsInHand-alike m (with_step f o) shapes (put shapes u.ckpt sh) z (looks_same f o sh keeps z other) w (λ live. live) at.number at
 
   -- ---- the whole
 
   -- a call in hand is where its steps have led it
-  hand_at : IsInHand m shapes s.call.actor s
-  hand_at = inv.hands s.call.actor s held
+  hand_at : IsInHand m shapes (who s) s
+  hand_at = inv.hands (who s) s held
 
   -- the invariant holds after the step, where it holds of the call and of its checkpoint
-  pub step_keeps : (f : ℕ → ℕ → Option ReplicaState) (o : Option CallState) (sh : Shape) → StaysElsewhere f → KeepsOthers sh
+  pub step_keeps : (f : ℕ → ℕ → Option ReplicaState) (o : Option CallState) (sh : Shape) → StaysElsewhere f → KeepsOthers sh → IsSameCall s o
       → ((e : Entry) → entry_of u.ckpt m.cluster.entries ≡ Some e → e.making ≡ None → IsSpread (with_step f o) u.ckpt sh e)
-      → ((z : CallState) → o ≡ Some z → IsInHand (with_step f o) (put shapes u.ckpt sh) s.call.actor z)
+      → ((z : CallState) → o ≡ Some z → IsInHand (with_step f o) (put shapes u.ckpt sh) (who s) z)
       → ((e : Entry) → entry_of u.ckpt m.cluster.entries ≡ Some e → e.making ≡ None)
       → ((j q : ℕ) (x : ReplicaState) → f j q ≡ Some x → IsCompleteAt m.cluster j q x.generation)
       → InvariantIn (put shapes u.ckpt sh) (with_step f o)
-  step_keeps f o sh stays keeps spread own made complete = record {
+  step_keeps f o sh stays keeps same spread own made complete = record {
     up = inv.up;
     none_live = inv.none_live;
     rises = inv.rises;
@@ -186,10 +162,12 @@ module _ (m : Machine) (shapes : ℕ → Shape) (inv : InvariantIn shapes m) (s 
     handles = inv.handles;
     rest = inv.rest;
     clients = inv.clients;
-    hands = λ a z there. elim (put_actor-cases m.in_hand s.call.actor o a z there) [
+    places = inv.places;
+    hands = λ a z there. elim (put_who-cases m.in_hand (who s) o a z there) [
       | inl here ↦ subst (λ b. IsInHand (with_step f o) (put shapes u.ckpt sh) b z) (sym here.0) (own z here.1)
-      | inr other ↦ IsInHand-other f o sh keeps a z other.0 (inv.hands a z other.1)
+      | inr other ↦ IsInHand-other f o sh keeps a z (apart_from m.in_hand m.pending m.next inv.calls s held a z other.1 other.0) (inv.hands a z other.1)
     ];
+    calls = calls_left m.in_hand m.pending m.next inv.calls s held o same;
   }
     where
       by_test : (j : ℕ) (e : Entry) → entry_of j m.cluster.entries ≡ Some e → (b : Bool) → (j == u.ckpt) ≡ b → IsGoodIn (with_step f o) j (put shapes u.ckpt sh j) e e.making

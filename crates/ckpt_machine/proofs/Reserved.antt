@@ -7,60 +7,65 @@ use Rattle.ckpt_types.specs.declared.identities.CallId.{CallId}
 use Rattle.cluster_record.specs.declared.calls.Making.{Making}
 use Rattle.cluster_record.specs.declared.entries.Entry.{Entry}
 use Rattle.cluster_record.specs.DueOpen.{OpenState}
-use Rattle.cluster_record.specs.Calls.{same_actor, put_actor}
 use Rattle.weak_marks.specs.Marks.{Marked}
 use Rattle.cluster_record.specs.RecordState.{entry_of}
 use Rattle.ckpt_machine.specs.Drivers as drivers
-use Rattle.ckpt_machine.specs.Machine.{Machine, CallState}
+use Rattle.ckpt_machine.specs.Machine.{Machine, CallState, who}
 use Rattle.ckpt_machine.specs.Steps.{driver_of}
 use Rattle.ckpt_machine.specs.Shape.{Shape, IsOwner, IsMarker, IsHolder}
 use Rattle.ckpt_machine.specs.InHand.{IsMakingIn, IsInHand}
 use Rattle.ckpt_machine.specs.Invariant.{IsMaker, IsGoodIn, InvariantIn}
-use Rattle.ckpt_machine.proofs.Actors.{same_actor-true}
+use Rattle.ckpt_types.specs.OpWord.{word_of_op, stepped_as}
+use Rattle.ckpt_machine.proofs.CallsKept.{apart_from, same_call-Some, calls_left}
 use Rattle.ckpt_machine.proofs.OtherCalls.{making_still, LooksAlike, LooksLater-refl, IsHolder-alike, IsInHand-alike, IsOwner-alike, IsMarker-alike, IsMaker-alike}
-use Rattle.ckpt_machine.proofs.OwnMaking.{making_at, owner_apart, marker_apart, holder_apart, maker_same, not_own, actor_apart}
+use Rattle.ckpt_machine.proofs.OwnMaking.{making_at, owner_apart, marker_apart, holder_apart, maker_same, not_own}
 use Rattle.ckpt_machine.proofs.OptionLemmas.{IsSomeAnd-at, IsSomeAnd-from}
-use Rattle.ckpt_machine.proofs.ReplicaSteps.{put_actor-cases, put_actor-here, put_actor-other}
+use Rattle.ckpt_machine.specs.Whose.{put_who, same_who}
+use Rattle.ckpt_machine.proofs.Whose.{same_who-true, one_state, put_who-cases, put_who-other, put_who-here}
 
-module _ (m : Machine) (shapes : ℕ → Shape) (inv : InvariantIn shapes m) (s : CallState) (o : OpenState) (making : Making) (held : m.in_hand s.call.actor ≡ Some s) (is : driver_of s ≡ drivers.Open o) (makes : o.making ≡ Some making)
+module _ (m : Machine) (shapes : ℕ → Shape) (inv : InvariantIn shapes m) (s : CallState) (o : OpenState) (making : Making) (held : m.in_hand (who s) ≡ Some s) (is : driver_of s ≡ drivers.Open o) (makes : o.making ≡ Some making)
     (g : ℕ → ℕ → Option ℕ) (elsewhere : (j q : ℕ) → (j == making.ckpt) ≡ false → g j q ≡ m.reserved j q)
-    (w : CallState) (call_is : w.call ≡ s.call) (v : OpenState) (driver_is : driver_of w ≡ drivers.Open v) (then_making : Making) (then_makes : v.making ≡ Some then_making) (same_ckpt : then_making.ckpt ≡ making.ckpt) where
+    (w : CallState) (call_is : w.call ≡ s.call) (op_is : w.op ≡ s.op) (v : OpenState) (driver_is : driver_of w ≡ drivers.Open v) (then_making : Making) (then_makes : v.making ≡ Some then_making) (same_ckpt : then_making.ckpt ≡ making.ckpt) where
   -- the state with these reservations, and with this left of the call
   abbrev then_machine : Machine
-  then_machine = record m { reserved = g; in_hand = put_actor m.in_hand s.call.actor (Some w) }
+  then_machine = record m { reserved = g; in_hand = put_who m.in_hand (who s) (Some w) }
+
+  -- it is in hand under the same name
+  name_is : who w ≡ who s
+  name_is = λ i. stepped_as (call_is i) (word_of_op (op_is i))
 
   -- ---- checkpoints
 
   -- a slot has its owner still
   IsOwner-then : (j : ℕ) (sh : Shape) (d : CallId) → IsOwner m j sh d → IsOwner then_machine j sh d
-  IsOwner-then j sh d own = IsOwner-alike m then_machine j sh d (put_actor-other m.in_hand s.call.actor (Some w) d.actor (owner_apart m s o held is j sh d own)) own
+  IsOwner-then j sh d own = IsOwner-alike m then_machine j sh d own (put_who-other m.in_hand (who s) (Some w) (who own.state) (owner_apart m s o held is j sh d own))
 
   -- and marks their call
   IsMarker-then : (j : ℕ) (marks : Marked) → IsMarker m j marks → IsMarker then_machine j marks
-  IsMarker-then j marks own = IsMarker-alike m then_machine j marks (put_actor-other m.in_hand s.call.actor (Some w) marks.call.actor (marker_apart m s o held is j marks own)) own
+  IsMarker-then j marks own = IsMarker-alike m then_machine j marks own (put_who-other m.in_hand (who s) (Some w) (who own.state) (marker_apart m s o held is j marks own))
 
   -- and a hold its call
   IsHolder-then : (j : ℕ) (active : Option ℕ) (d : CallId) → IsHolder m j active d → IsHolder then_machine j active d
-  IsHolder-then j active d own = IsHolder-alike m then_machine j active d (put_actor-other m.in_hand s.call.actor (Some w) d.actor (holder_apart m s o held is j active d own)) refl own
+  IsHolder-then j active d own = IsHolder-alike m then_machine j active d own (put_who-other m.in_hand (who s) (Some w) (who own.state) (holder_apart m s o held is j active d own)) refl
 
   -- one in the making is by another call, or is this one
   IsMaker-then : (j : ℕ) (d : CallId) → IsMaker m j d → IsMaker then_machine j d
-  IsMaker-then j d own = by_test (same_actor d.actor s.call.actor) refl
+  IsMaker-then j d own = by_test (same_who (who own.state) (who s)) refl
     where
-      by_test : (b : Bool) → same_actor d.actor s.call.actor ≡ b → IsMaker then_machine j d
-      by_test false other = IsMaker-alike m then_machine j d (put_actor-other m.in_hand s.call.actor (Some w) d.actor other) own
+      by_test : (b : Bool) → same_who (who own.state) (who s) ≡ b → IsMaker then_machine j d
+      by_test false other = IsMaker-alike m then_machine j d own (put_who-other m.in_hand (who s) (Some w) (who own.state) other)
       by_test true same =
-          let actor : d.actor ≡ s.call.actor = same_actor-true d.actor s.call.actor same in
-          let state : own.state ≡ s = same_Some own.state s (sym own.in_hand ∙ ap m.in_hand actor ∙ held) in
+          let name : who own.state ≡ who s = same_who-true (who own.state) (who s) same in
+          let state : own.state ≡ s = one_state m.in_hand (who own.state) (who s) own.state s own.in_hand held name in
           record {
             state = w;
-            in_hand = ap (put_actor m.in_hand s.call.actor (Some w)) actor ∙ put_actor-here m.in_hand s.call.actor (Some w);
+            in_hand = ap (put_who m.in_hand (who s) (Some w)) name_is ∙ put_who-here m.in_hand (who s) (Some w);
             call_is = call_is ∙ ap (λ (x : CallState). x.call) (sym state) ∙ own.call_is;
             driver = v;
             driver_is = driver_is;
             making = then_making;
             making_is = then_makes;
-            ckpt = same_ckpt ∙ sym (maker_same m s o held is making makes j d own actor);
+            ckpt = same_ckpt ∙ sym (maker_same m s o held is making makes j d own name);
           }
 
   -- a checkpoint is as it was
@@ -91,7 +96,7 @@ module _ (m : Machine) (shapes : ℕ → Shape) (inv : InvariantIn shapes m) (s 
   looks_then z other = record {
     up = λ r up. up;
     lives = refl;
-    tables = refl;
+    handle = λ there. there;
     making = λ o at. making_still m then_machine z o (making_then z other) at;
     made = λ k was. was;
     later = λ k was e found. (e, found, LooksLater-refl z (shapes k).marks e);
@@ -112,7 +117,7 @@ module _ (m : Machine) (shapes : ℕ → Shape) (inv : InvariantIn shapes m) (s 
           IsSomeAnd-from (entry_of j m.cluster.entries) (λ e. IsSome e.making) e (ap (λ k. entry_of k m.cluster.entries) (eqb-true j making.ckpt same) ∙ found) (ap (λ o. is_some o) by)
 
   -- the invariant holds after it, where it holds of the call
-  pub reserved_keeps : IsInHand then_machine shapes s.call.actor w → InvariantIn shapes then_machine
+  pub reserved_keeps : IsInHand then_machine shapes (who s) w → InvariantIn shapes then_machine
   reserved_keeps own = record {
     up = inv.up;
     none_live = inv.none_live;
@@ -125,8 +130,10 @@ module _ (m : Machine) (shapes : ℕ → Shape) (inv : InvariantIn shapes m) (s 
     handles = inv.handles;
     rest = inv.rest;
     clients = inv.clients;
-    hands = λ a z there. elim (put_actor-cases m.in_hand s.call.actor (Some w) a z there) [
-      | inl here ↦ subst (λ b. IsInHand then_machine shapes b z) (sym here.0) (subst (IsInHand then_machine shapes s.call.actor) (same_Some w z here.1) own)
-      | inr other ↦ (let was = inv.hands a z other.1 in IsInHand-alike m then_machine shapes shapes z (looks_then z (actor_apart s a z was.actor other.0)) a (λ live. live) was.number was)
+    places = inv.places;
+    hands = λ a z there. elim (put_who-cases m.in_hand (who s) (Some w) a z there) [
+      | inl here ↦ subst (λ b. IsInHand then_machine shapes b z) (sym here.0) (subst (IsInHand then_machine shapes (who s)) (same_Some w z here.1) own)
+      | inr other ↦ (let was = inv.hands a z other.1 in IsInHand-alike m then_machine shapes shapes z (looks_then z (apart_from m.in_hand m.pending m.next inv.calls s held a z other.1 other.0)) a (λ live. live) was.number was)
     ];
+    calls = calls_left m.in_hand m.pending m.next inv.calls s held (Some w) (same_call-Some s w call_is op_is);
   }

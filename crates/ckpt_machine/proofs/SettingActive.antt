@@ -1,6 +1,6 @@
 -- The setting of an active: it holds its checkpoint, where another node leads it, and then has its client's node lead it; by a look it is refused where the checkpoint is gone, or another call holds it.
 use Rattle.std.specs.Option.{option_map}
-use Rattle.std.proofs.Common.{◌≡◌, ◌⊎◌, ℕ, ◌+◌, ◌<◌, ◌≤◌, inl, inr, Option, Some, None, Bool, true, false, cond, not, ◌&&◌, ◌==◌, refl, sym, ap, subst, ◌∙◌, arith}
+use Rattle.std.proofs.Common.{◌≡◌, ◌≢◌, ◌⊎◌, ℕ, ◌+◌, ◌<◌, ◌≤◌, inl, inr, Option, Some, None, Bool, true, false, cond, not, ◌&&◌, ◌==◌, refl, sym, ap, subst, ◌∙◌, arith}
 use Rattle.std.specs.Prelude.{is_some, IsSomeAnd, IfSome, slice_index}
 use Rattle.std.proofs.lemmas.Bool.{eqb-true, eq-eqb}
 use Rattle.std.proofs.lemmas.Option.{same_Some}
@@ -8,7 +8,6 @@ use Rattle.ckpt_types.specs.declared.ais_error.AisError.TheVariants.{NotExist, T
 use Rattle.ckpt_types.specs.declared.answers.Answer.TheVariants as answers
 use Rattle.ckpt_types.specs.declared.answers.Cause.TheVariants.{Plain, Holder}
 use Rattle.ckpt_types.specs.declared.answers.Outcome.TheVariants.{Done, Refused}
-use Rattle.ckpt_types.specs.declared.identities.ActorName.{ActorName}
 use Rattle.ckpt_types.specs.declared.identities.CallId.{CallId}
 use Rattle.weak_marks.specs.Marks.{Marked, call_of}
 use Rattle.node_msgs.specs.declared.details.Details.TheVariants as beside
@@ -19,7 +18,7 @@ use Rattle.node_msgs.specs.declared.steps.Verb.TheVariants as verbs
 use Rattle.cluster_record.specs.declared.calls.SyncKind.{SyncKind}
 use Rattle.cluster_record.specs.declared.calls.SyncKind.TheVariants.{Synchronize, ActiveSet}
 use Rattle.cluster_record.specs.declared.entries.Entry.{Entry}
-use Rattle.cluster_record.specs.Calls.{same_actor, same_call, put_actor}
+use Rattle.cluster_record.specs.Calls.{same_call}
 use Rattle.cluster_record.specs.DueSync.{SyncState, lead_next, unless_held, kind_next, sync_on, sync_next}
 use Rattle.cluster_record.specs.Placement.{is_collocated}
 use Rattle.cluster_record.specs.Places.{put2}
@@ -32,13 +31,14 @@ use Rattle.ckpt_machine.specs.Guards.{HoldOk, HoldKeptOff, MayLead, ActivateOk, 
 use Rattle.ckpt_machine.specs.InHand.{is_marked_by, is_held_by, is_enter, IsInPlace, IsInHand, IsSettingIn, IsSyncBy}
 use Rattle.ckpt_machine.specs.Invariant.{IsGoodIn, IsOfGeneration, IsCompleteAt, InvariantIn, Invariant}
 use Rattle.ckpt_machine.specs.Left.{setting_left, kind_left, steps_left}
-use Rattle.ckpt_machine.specs.Machine.{Machine, ReplicaState, Snapshot, CallState}
+use Rattle.ckpt_machine.specs.Machine.{Machine, ReplicaState, Snapshot, CallState, who}
 use Rattle.ckpt_machine.specs.Options.{is_all}
 use Rattle.ckpt_machine.specs.Propagation.{on_node, copied}
 use Rattle.ckpt_machine.specs.Shape.{Shape, IsCompleteOn, marks_at, IsApart, IsShapedBy, IsActiveBy, IsHolder, IsSpread}
-use Rattle.ckpt_machine.specs.Steps.{Told, IsDone, IsEvent, IsEventAnswer, marks_on, kept_off, driver_of, with_record, with_lead, change_replica, led_from, counted_at, kept_behind, stepped}
+use Rattle.ckpt_machine.specs.Steps.{Told, IsDone, IsEvent, IsEventAnswer, marks_on, kept_off, driver_of, with_record, with_lead, change_replica, led_from, counted_at, kept_behind, left_in_hand}
 use Rattle.ckpt_machine.proofs.ActiveBy.{active_by-complete}
-use Rattle.ckpt_machine.proofs.Actors.{same_actor-true, same_actor-refl, same_call-true, same_call-refl}
+use Rattle.ckpt_machine.proofs.Actors.{same_call-true, same_call-refl, same_call-false}
+use Rattle.ckpt_machine.proofs.CallsKept.{same_call-None, same_call-Some, apart_from}
 use Rattle.ckpt_machine.proofs.DueStep.{Goes}
 use Rattle.ckpt_machine.proofs.EntrySteps.{owner_other, marker_other, gone_ends, entry_here, record_is, WasMade-then, left_snapshots, then_machine, entry_keeps, entry_other}
 use Rattle.ckpt_machine.proofs.HeldBy.{held_by}
@@ -50,22 +50,14 @@ use Rattle.ckpt_machine.proofs.OnTheActive.{marker_live}
 use Rattle.ckpt_machine.proofs.OptionLemmas.{IsSomeAnd-at, IsSomeAnd-from, IfSome-at}
 use Rattle.ckpt_machine.proofs.OtherCalls.{LooksLater, IsOwner-alike, IsMarker-alike}
 use Rattle.ckpt_machine.proofs.PlainCalls.{is_plain_sync, is_plain, look_ends, look_goes, plain_ends}
-use Rattle.ckpt_machine.proofs.ReplicaSteps.{put_actor-here, put_actor-other}
 use Rattle.ckpt_machine.proofs.StepLabels.{Told-is, unhindered-told, IsEvent-told}
-use Rattle.ckpt_machine.proofs.Sync.{call_apart}
+use Rattle.ckpt_machine.specs.Whose.{put_who}
+use Rattle.ckpt_machine.proofs.Whose.{put_who-other, put_who-here}
 
 -- what is not there is none
 none_of : {X : Type 0} (o : Option X) → is_some o ≡ false → o ≡ None
 none_of None none = refl
 none_of (Some x) none = absurd (cc none)
-
--- two actors are two in either order
-actor_turned : (a b : ActorName) → same_actor a b ≡ false → same_actor b a ≡ false
-actor_turned a b apart = by_test (same_actor b a) refl
-  where
-    by_test : (t : Bool) → same_actor b a ≡ t → same_actor b a ≡ false
-    by_test false is_not = is_not
-    by_test true same = absurd (let w : true ≡ false = sym (same_actor-refl b) ∙ ap (λ c. same_actor c b) (same_actor-true b a same) ∙ apart in cc w)
 
 -- a hold leaves the identity as it is
 pub with_hold-identity : (call : CallId) → KeepsIdentity (with_hold call)
@@ -94,10 +86,10 @@ generation_under-same r e same = by_test (is_active r e.active) refl same
 pub generation_under-stays : (r : ℕ) (e : Entry) → e.active ≡ Some r → generation_under r e ≡ e.generation
 generation_under-stays r e active = ap (λ b. cond b e.generation (e.generation + 1)) (ap (is_active r) active ∙ eq-eqb r r refl)
 
-module _ (m : Machine) (shapes : ℕ → Shape) (inv : InvariantIn shapes m) (s : CallState) (u : SyncState) (held : m.in_hand s.call.actor ≡ Some s) (is : driver_of s ≡ drivers.Sync u) (local : ℕ) (kind : u.kind ≡ ActiveSet local) where
+module _ (m : Machine) (shapes : ℕ → Shape) (inv : InvariantIn shapes m) (s : CallState) (u : SyncState) (held : m.in_hand (who s) ≡ Some s) (is : driver_of s ≡ drivers.Sync u) (local : ℕ) (kind : u.kind ≡ ActiveSet local) where
   -- where its steps have led it
   pub at_setting : IsSettingIn m s u local
-  at_setting = subst (IsSyncBy m s u) kind (subst (λ d. IsInPlace m shapes s d) is (inv.hands s.call.actor s held).here)
+  at_setting = subst (IsSyncBy m s u) kind (subst (λ d. IsInPlace m shapes s d) is (inv.hands (who s) s held).here)
 
   abbrev pub k : ℕ
   k = u.ckpt
@@ -197,7 +189,7 @@ module _ (m : Machine) (shapes : ℕ → Shape) (inv : InvariantIn shapes m) (s 
         holder_then : IsHolder held_machine k e.active s.call
         holder_then = record {
           state = then_state (hold_set k s.call m.cluster);
-          in_hand = put_actor-here m.in_hand s.call.actor (Some (then_state (hold_set k s.call m.cluster)));
+          in_hand = put_who-here m.in_hand (who s) (Some (then_state (hold_set k s.call m.cluster)));
           call_is = refl;
           driver = u;
           driver_is = ap (driver_taken (hold_done (hold_set k s.call m.cluster))) is;
@@ -217,13 +209,13 @@ module _ (m : Machine) (shapes : ℕ → Shape) (inv : InvariantIn shapes m) (s 
           fits = spread.fits;
           complete = spread.complete;
           lowest = spread.lowest;
-          owned = λ q d owns. let own = spread.owned q d owns in IsOwner-alike m held_machine k (shapes k) d (put_actor-other m.in_hand s.call.actor _ d.actor (owner_other m shapes inv s u held is k (shapes k) d own)) own;
+          owned = λ q d owns. let own = spread.owned q d owns in IsOwner-alike m held_machine k (shapes k) d own (put_who-other m.in_hand (who s) _ (who own.state) (owner_other m shapes inv s u held is k (shapes k) d own));
           led = spread.led;
           marked = λ marks stand. absurd (let w : Some marks ≡ None = sym stand ∙ unmarked in cc w);
           held = λ d holds. record { collocated = collocated; led = ap is_some active; unmarked = unmarked; holder = subst (IsHolder held_machine k e.active) (same_Some s.call d holds) holder_then };
         }
 
-        looks_then : (z : CallState) → same_actor z.call.actor s.call.actor ≡ false → LooksLater z (shapes k).marks e held_entry
+        looks_then : (z : CallState) → z.call ≢ s.call → LooksLater z (shapes k).marks e held_entry
         looks_then z apart = record {
           complete = λ all. refl;
           grows = λ q there. there;
@@ -231,7 +223,7 @@ module _ (m : Machine) (shapes : ℕ → Shape) (inv : InvariantIn shapes m) (s 
           rises = omega arith;
           generation = λ own. refl;
           active = λ same. refl;
-          hold = call_apart s.call z.call (actor_turned z.call.actor s.call.actor apart) ∙ sym (ap (is_held_by z.call) free);
+          hold = same_call-false s.call z.call (λ same. apart (sym same)) ∙ sym (ap (is_held_by z.call) free);
         }
 
         here_then : IsSettingIn held_machine (then_state (hold_set k s.call m.cluster)) u local
@@ -251,10 +243,10 @@ module _ (m : Machine) (shapes : ℕ → Shape) (inv : InvariantIn shapes m) (s 
 
         held_keeps : InvariantIn shapes held_machine
         held_keeps = entry_keeps m shapes inv s u held is e found made (with_hold s.call) (with_hold-identity s.call) held_entry held_is made refl (ap (λ (x : Entry). x.attributes) held_is) (ap (stays m.cluster.moment) held_is)
-            m.replicas (λ j q apart. refl) (Some (then_state (hold_set k s.call m.cluster))) looks_then spread_then
+            m.replicas (λ j q apart. refl) (Some (then_state (hold_set k s.call m.cluster))) looks_then (same_call-Some s (then_state (hold_set k s.call m.cluster)) refl refl) spread_then
             (λ j q x there. generation_then j q x there (j == k) refl)
-            (λ z same. subst (IsInHand held_machine shapes s.call.actor) (same_Some (then_state (hold_set k s.call m.cluster)) z same) (let hand = inv.hands s.call.actor s held in record {
-              actor = refl;
+            (λ z same. subst (IsInHand held_machine shapes (who s)) (same_Some (then_state (hold_set k s.call m.cluster)) z same) (let hand = inv.hands (who s) s held in record {
+              whose = refl;
               client = hand.client;
               number = hand.number;
               built = hand.built;
@@ -286,7 +278,7 @@ module _ (m : Machine) (shapes : ℕ → Shape) (inv : InvariantIn shapes m) (s 
               (at_setting.place, at_setting.asks, IsSomeAnd-from (entry_of k m.cluster.entries) _ e found (IsSomeAnd-from (m.replicas k r) (HoldOk s r None e) leads.replica leads.there (record { collocated = collocated; active = active; other = ap (λ q. r == q) (sym at_setting.node) ∙ other; free = free; unmarked = marks_are ∙ unmarked; answer = refl }))),
               refl,
             );
-            holds = subst (λ (b : Machine). Invariant (stepped b (then_state b.cluster) None)) (sym step_is) (record { shapes = shapes; holds = held_keeps });
+            holds = subst (λ (b : Machine). Invariant (left_in_hand b (then_state b.cluster) None)) (sym step_is) (record { shapes = shapes; holds = held_keeps });
             nearer = λ goes_on. subst (λ d. steps_left (swept (hold_set k s.call m.cluster)) (driver_taken (hold_done (swept (hold_set k s.call m.cluster))) d) < steps_left m.cluster d) (sym is)
                 (subst (λ kd. kind_left (entry_of k (swept (hold_set k s.call m.cluster)).entries) u kd < kind_left (entry_of k m.cluster.entries) u kd) (sym kind) (let a = left_then in let b = left_before in omega (arith, a, b)));
           })
@@ -310,7 +302,7 @@ module _ (m : Machine) (shapes : ℕ → Shape) (inv : InvariantIn shapes m) (s 
                   free = free;
                   held = record {
                     marks = subst (λ o. IsSomeAnd o (λ (w : Marked). w.call ≡ marks.call)) (sym (marks_are ∙ stand)) refl;
-                    another = call_apart marks.call s.call (marker_other m shapes inv s u held is k marks marker);
+                    another = same_call-false marks.call s.call (λ same. apart_from m.in_hand m.pending m.next inv.calls s held (who marker.state) marker.state marker.in_hand (marker_other m shapes inv s u held is k marks marker) (marker.call_is ∙ same));
                     live = marker_live m shapes k marks inv marker;
                     answer = refl;
                     told = refl;
@@ -430,14 +422,14 @@ module _ (m : Machine) (shapes : ℕ → Shape) (inv : InvariantIn shapes m) (s 
         fits = spread.fits;
         complete = spread.complete;
         lowest = spread.lowest;
-        owned = λ q d owns. let has = spread.owned q d owns in IsOwner-alike m led_machine k (shapes k) d (put_actor-other m.in_hand s.call.actor _ d.actor (owner_other m shapes inv s u held is k (shapes k) d has)) has;
+        owned = λ q d owns. let has = spread.owned q d owns in IsOwner-alike m led_machine k (shapes k) d has (put_who-other m.in_hand (who s) _ (who has.state) (owner_other m shapes inv s u held is k (shapes k) d has));
         led = λ marks stand. refl;
-        marked = λ marks stand. let has = spread.marked marks stand in IsMarker-alike m led_machine k marks (put_actor-other m.in_hand s.call.actor _ marks.call.actor (marker_other m shapes inv s u held is k marks has)) has;
+        marked = λ marks stand. let has = spread.marked marks stand in IsMarker-alike m led_machine k marks has (put_who-other m.in_hand (who s) _ (who has.state) (marker_other m shapes inv s u held is k marks has));
         held = λ d none. absurd (cc none);
       }
 
       -- to another call it looks as it did
-      led_looks : (z : CallState) → same_actor z.call.actor s.call.actor ≡ false → LooksLater z (shapes k).marks e led_entry
+      led_looks : (z : CallState) → z.call ≢ s.call → LooksLater z (shapes k).marks e led_entry
       led_looks z apart = record {
         complete = λ all. refl;
         grows = λ q there. there;
@@ -454,7 +446,7 @@ module _ (m : Machine) (shapes : ℕ → Shape) (inv : InvariantIn shapes m) (s 
 
           by_hold : (o : Option CallId) → e.hold ≡ o → is_held_by z.call o ≡ false
           by_hold None holds = refl
-          by_hold (Some d) holds = call_apart d z.call (ap (λ (c : CallId). same_actor c.actor z.call.actor) (own d holds) ∙ actor_turned z.call.actor s.call.actor apart)
+          by_hold (Some d) holds = same_call-false d z.call (λ same. apart (sym same ∙ own d holds))
 
       led_generation : (j q : ℕ) (x : ReplicaState) → led_replicas j q ≡ Some x → IsCompleteAt R j q x.generation
       led_generation j q x there = by_test (j == k) refl there
@@ -484,7 +476,7 @@ module _ (m : Machine) (shapes : ℕ → Shape) (inv : InvariantIn shapes m) (s 
 
       led_keeps : InvariantIn shapes led_machine
       led_keeps = entry_keeps m shapes inv s u held is e found made (with_active local) (with_active-identity local) led_entry led_is made refl (ap (λ (x : Entry). x.attributes) led_is) (ap (stays m.cluster.moment) led_is)
-          led_replicas led_elsewhere None led_looks led_spread led_generation (λ z none. absurd (cc none))
+          led_replicas led_elsewhere None led_looks (same_call-None s) led_spread led_generation (λ z none. absurd (cc none))
 
       -- the node may lead
       may_lead : MayLead s.call local e.hold e.active
@@ -505,8 +497,8 @@ module _ (m : Machine) (shapes : ℕ → Shape) (inv : InvariantIn shapes m) (s 
             (at_setting.place, at_setting.asks, IsSomeAnd-from (entry_of k m.cluster.entries) (ActivateOk s local (Some (Done answers.Nothing))) e found (record { collocated = collocated; local = at_setting.node; may = may_lead; answer = refl })),
             refl,
           );
-          holds = subst (λ (b : Machine). Invariant (record (led_from s.snapshot k local b) { in_hand = put_actor (led_from s.snapshot k local b).in_hand s.call.actor None })) (sym led_step_is)
-              (subst (λ (z : Option ReplicaState × ℕ). Invariant (record (change_replica led_record k local z.0 (with_lead s.snapshot z.1)) { in_hand = put_actor (change_replica led_record k local z.0 (with_lead s.snapshot z.1)).in_hand s.call.actor None })) (λ i. (sym here.there i, generation_in (sym led_here i)))
+          holds = subst (λ (b : Machine). Invariant (record (led_from s.snapshot k local b) { in_hand = put_who (led_from s.snapshot k local b).in_hand (who s) None })) (sym led_step_is)
+              (subst (λ (z : Option ReplicaState × ℕ). Invariant (record (change_replica led_record k local z.0 (with_lead s.snapshot z.1)) { in_hand = put_who (change_replica led_record k local z.0 (with_lead s.snapshot z.1)).in_hand (who s) None })) (λ i. (sym here.there i, generation_in (sym led_here i)))
               (record { shapes = shapes; holds = led_keeps }));
           nearer = λ none. absurd (cc none);
         })
@@ -545,7 +537,7 @@ module _ (m : Machine) (shapes : ℕ → Shape) (inv : InvariantIn shapes m) (s 
 -- ---- either of the two
 
 -- the next step of a synchronisation or of the setting of an active
-pub sync_goes : (m : Machine) (shapes : ℕ → Shape) (inv : InvariantIn shapes m) (s : CallState) (u : SyncState) → m.in_hand s.call.actor ≡ Some s → driver_of s ≡ drivers.Sync u → (t : Told) → IsDone m s (sync_next m.cluster u) t → Goes m s (driver_of s) t
+pub sync_goes : (m : Machine) (shapes : ℕ → Shape) (inv : InvariantIn shapes m) (s : CallState) (u : SyncState) → m.in_hand (who s) ≡ Some s → driver_of s ≡ drivers.Sync u → (t : Told) → IsDone m s (sync_next m.cluster u) t → Goes m s (driver_of s) t
 sync_goes m shapes inv s u held is t done = by_kind u.kind refl
   where
     by_kind : (kind : SyncKind) → u.kind ≡ kind → Goes m s (driver_of s) t

@@ -1,5 +1,5 @@
 -- A stage at the lowest complete node that the call lacks.
-use Rattle.std.proofs.Common.{◌≡◌, ◌⊎◌, ℕ, ◌<◌, inl, inr, Option, Some, None, Bool, true, false, cond, ◌&&◌, ◌==◌, Ok, length, ◌∷◌, ◌++◌, [], ℤ, refl, sym, ap, subst, ◌∙◌, arith}
+use Rattle.std.proofs.Common.{◌≡◌, ◌≢◌, ◌⊎◌, ℕ, ◌<◌, inl, inr, Option, Some, None, Bool, true, false, cond, ◌&&◌, ◌==◌, Ok, length, ◌∷◌, ◌++◌, [], ℤ, refl, sym, ap, subst, ◌∙◌, arith}
 use Rattle.std.specs.Prelude.{IsSome, IsSomeAnd, IfSome, is_ok, slice_index, slice_set}
 use Rattle.std.proofs.lemmas.Bool.{eqb-true, eq-eqb}
 use Rattle.std.proofs.lemmas.Option.{same_Some}
@@ -8,7 +8,6 @@ use Rattle.ckpt_types.specs.Updates.{outcome}
 use Rattle.cluster_record.specs.declared.entries.Entry.{Entry}
 use Rattle.cluster_record.specs.declared.calls.UpdatePhase.TheVariants.{Staging}
 use Rattle.cluster_record.specs.DueUpdate.{UpdateState, kept_moment}
-use Rattle.cluster_record.specs.Calls.{same_actor, put_actor}
 use Rattle.cluster_record.specs.Places.{put, put2}
 use Rattle.cluster_record.specs.RecordState.{entry_of, complete_of}
 use Rattle.cluster_record.specs.StepDone.{StepDone, done_of, has, lacks, last_having}
@@ -17,8 +16,8 @@ use Rattle.node_msgs.specs.declared.steps.StepReply.TheVariants as words
 use Rattle.ckpt_machine.specs.Drivers as drivers
 use Rattle.ckpt_types.specs.Asks.{update_of}
 use Rattle.ckpt_machine.specs.Driving.{driver_taken}
-use Rattle.ckpt_machine.specs.Machine.{Machine, Applied, ReplicaState, CallState}
-use Rattle.ckpt_machine.specs.Steps.{driver_of, staged_moment, with_slot, stepped, kept_behind}
+use Rattle.ckpt_machine.specs.Machine.{Machine, Applied, ReplicaState, CallState, who}
+use Rattle.ckpt_machine.specs.Steps.{driver_of, staged_moment, with_slot, left_in_hand, kept_behind}
 use Rattle.ckpt_machine.specs.Complete.{complete_replicas, replicas_from}
 use Rattle.ckpt_machine.specs.Guards.{OnEach, IfSlot, StageOk, StageRow}
 use Rattle.ckpt_machine.specs.Shape.{Shape, IsCompleteOn, IsShaped, is_owner, IsOwner, IsSpread, slot_by, sections_by, effects_by}
@@ -26,10 +25,13 @@ use Rattle.ckpt_machine.specs.InHand.{is_enter, IsUpdateIn, IsInPlace, IsInHand,
 use Rattle.ckpt_machine.specs.Invariant.{InvariantIn, Invariant}
 use Rattle.ckpt_machine.proofs.NodeLists.{OnEach-from, index-set, index-other, length-slice_set, index-within, not-lacked, has-itself}
 use Rattle.ckpt_machine.proofs.OnComplete.{put_complete}
-use Rattle.ckpt_machine.proofs.ReplicaSteps.{put_actor-here, IsMarker-other, one_changed, step_keeps}
+use Rattle.ckpt_machine.proofs.ReplicaSteps.{IsMarker-other, one_changed, step_keeps}
 use Rattle.ckpt_machine.proofs.Owning.{never_held, is_owner-true, owner_alone, at, made, on_all, all_is}
 use Rattle.ckpt_machine.proofs.OnAll.{shaped_replicas, by_shape}
-use Rattle.ckpt_machine.proofs.Actors.{same_actor-refl, same_call-refl}
+use Rattle.ckpt_machine.specs.Whose.{put_who}
+use Rattle.ckpt_machine.proofs.Whose.{put_who-here}
+use Rattle.ckpt_machine.proofs.Actors.{same_call-refl}
+use Rattle.ckpt_machine.proofs.CallsKept.{same_call-Some}
 
 -- the shape is of the call's own update, which has an outcome, and which no replica has
 pub record Stages (z : Shape) (s : CallState) (t : ℤ) (e : Entry) : Type 0 where
@@ -63,7 +65,7 @@ pub on_complete : (m : Machine) (k : ℕ) (e : Entry) → entry_of k m.cluster.e
 on_complete m k e found P each =
     subst (λ o. OnEach P (replicas_from (m.replicas k) 0 (complete_of o))) (sym found) (OnEach-from P (m.replicas k) 0 e.complete (λ d there. subst (λ (j : ℕ). IfSome (m.replicas k j) P) (omega arith) (each d there)))
 
-module _ (m : Machine) (shapes : ℕ → Shape) (inv : InvariantIn shapes m) (s : CallState) (u : UpdateState) (held : m.in_hand s.call.actor ≡ Some s) (is : driver_of s ≡ drivers.Update u)
+module _ (m : Machine) (shapes : ℕ → Shape) (inv : InvariantIn shapes m) (s : CallState) (u : UpdateState) (held : m.in_hand (who s) ≡ Some s) (is : driver_of s ≡ drivers.Update u)
     (e : Entry) (found : entry_of u.ckpt m.cluster.entries ≡ Some e) (z : Shape) (t : ℤ) (spread : IsSpread m u.ckpt z e) (stages : Stages z s t e) (mom : staged_moment m u.ckpt ≡ t) where
   -- each slot is of this very update
   pub own_alone : (q : ℕ) (d : CallId) → z.owners q ≡ Some d → d ≡ s.call
@@ -109,10 +111,10 @@ module _ (m : Machine) (shapes : ℕ → Shape) (inv : InvariantIn shapes m) (s 
     then_driver = record { call = u.call; ckpt = u.ckpt; owned = slice_set u.owned r (slice_index e.complete r); moment = t; phase = Staging }
 
     abbrev then_machine : Machine
-    then_machine = record m { replicas = put2 m.replicas u.ckpt r (Some with_stage); in_hand = put_actor m.in_hand s.call.actor (Some then_state) }
+    then_machine = record m { replicas = put2 m.replicas u.ckpt r (Some with_stage); in_hand = put_who m.in_hand (who s) (Some then_state) }
 
     module _ (complete : IsCompleteOn e r) (moment_is : kept_moment (last_having 0 e.complete u.owned) m.cluster.moment u.moment ≡ t) (owns : OwnsIn z s u e) (before : (q : ℕ) → q < r → lacks (slice_index e.complete q) (slice_index u.owned q) ≡ false) (free : z.owners r ≡ None)
-        (keeps : (z.marks ≡ (shapes u.ckpt).marks) × ((call : CallId) (q : ℕ) → same_actor call.actor s.call.actor ≡ false → is_owner call (z.owners q) ≡ is_owner call ((shapes u.ckpt).owners q))) where
+        (keeps : (z.marks ≡ (shapes u.ckpt).marks) × ((call : CallId) (q : ℕ) → call ≢ s.call → is_owner call (z.owners q) ≡ is_owner call ((shapes u.ckpt).owners q))) where
       driver_then : driver_of then_state ≡ drivers.Update then_driver
       unfolding stage_done
       driver_then =
@@ -123,7 +125,7 @@ module _ (m : Machine) (shapes : ℕ → Shape) (inv : InvariantIn shapes m) (s 
       owner_then : IsOwner then_machine u.ckpt staged s.call
       owner_then = record {
         state = then_state;
-        in_hand = put_actor-here m.in_hand s.call.actor (Some then_state);
+        in_hand = put_who-here m.in_hand (who s) (Some then_state);
         call_is = refl;
         driver = then_driver;
         driver_is = driver_then;
@@ -193,23 +195,18 @@ module _ (m : Machine) (shapes : ℕ → Shape) (inv : InvariantIn shapes m) (s 
         | false ↦ λ other. ap (has (slice_index e.complete q)) (index-other u.owned r q (slice_index e.complete r) other) ∙ owns q there
       ] refl
 
-      keeps_then : (call : CallId) (q : ℕ) → same_actor call.actor s.call.actor ≡ false → is_owner call (staged.owners q) ≡ is_owner call ((shapes u.ckpt).owners q)
+      keeps_then : (call : CallId) (q : ℕ) → call ≢ s.call → is_owner call (staged.owners q) ≡ is_owner call ((shapes u.ckpt).owners q)
       keeps_then call q other = elim (q == r) as (λ b. (q == r) ≡ b → is_owner call (cond b (Some s.call) (z.owners q)) ≡ is_owner call ((shapes u.ckpt).owners q)) [
         | true ↦ λ same. not_own call other ∙ sym (ap (λ (p : ℕ). is_owner call (z.owners p)) (eqb-true q r same) ∙ ap (is_owner call) free) ∙ keeps.1 call q other
         | false ↦ λ same. keeps.1 call q other
       ] refl
         where
-          not_own : (call : CallId) → same_actor call.actor s.call.actor ≡ false → is_owner call (Some s.call) ≡ false
+          not_own : (call : CallId) → call ≢ s.call → is_owner call (Some s.call) ≡ false
           not_own call other = by_test (is_owner call (Some s.call)) refl
             where
               by_test : (b : Bool) → is_owner call (Some s.call) ≡ b → is_owner call (Some s.call) ≡ false
               by_test false no_it = no_it
-              by_test true owns =
-                  let same : s.call ≡ call = (let w = is_owner-true call (Some s.call) owns in same_Some s.call call w) in
-                  absurd (let w : true ≡ false = sym (same_actor_same call same) ∙ other in cc)
-                where
-                  same_actor_same : (call : CallId) → s.call ≡ call → same_actor call.actor s.call.actor ≡ true
-                  same_actor_same call same = ap (λ (c : CallId). same_actor c.actor s.call.actor) (sym same) ∙ same_actor-refl s.call.actor
+              by_test true owns = absurd (let w = is_owner-true call (Some s.call) owns in other (sym (same_Some s.call call w)))
 
       -- the invariant holds after it
       pub stage_keeps : Invariant then_machine
@@ -217,7 +214,7 @@ module _ (m : Machine) (shapes : ℕ → Shape) (inv : InvariantIn shapes m) (s 
           let was = at m shapes inv s u held is in
           record {
             shapes = put shapes u.ckpt staged;
-            holds = step_keeps m shapes inv s u held is (put2 m.replicas u.ckpt r (Some with_stage)) (Some then_state) staged (one_changed m shapes inv s u held is with_stage r) (keeps.0, keeps_then) spread_all own_then (made m shapes inv s u held is)
+            holds = step_keeps m shapes inv s u held is (put2 m.replicas u.ckpt r (Some with_stage)) (Some then_state) staged (one_changed m shapes inv s u held is with_stage r) (keeps.0, keeps_then) (same_call-Some s then_state refl refl) spread_all own_then (made m shapes inv s u held is)
                 (put_complete m.cluster m.replicas u.ckpt r with_stage (inv.replicas u.ckpt r x there) inv.replicas);
           }
         where
@@ -238,9 +235,9 @@ module _ (m : Machine) (shapes : ℕ → Shape) (inv : InvariantIn shapes m) (s 
             some = λ f there. tt;
           }
 
-          own_then : (w : CallState) → Some then_state ≡ Some w → IsInHand then_machine (put shapes u.ckpt staged) s.call.actor w
-          own_then w same = let hand = inv.hands s.call.actor s held in subst (IsInHand then_machine (put shapes u.ckpt staged) s.call.actor) (same_Some then_state w same) (record {
-            actor = refl;
+          own_then : (w : CallState) → Some then_state ≡ Some w → IsInHand then_machine (put shapes u.ckpt staged) (who s) w
+          own_then w same = let hand = inv.hands (who s) s held in subst (IsInHand then_machine (put shapes u.ckpt staged) (who s)) (same_Some then_state w same) (record {
+            whose = refl;
             client = hand.client;
             number = hand.number;
             built = hand.built;
@@ -249,6 +246,6 @@ module _ (m : Machine) (shapes : ℕ → Shape) (inv : InvariantIn shapes m) (s 
             here = subst (IsInPlace then_machine (put shapes u.ckpt staged) then_state) (sym driver_then) here_then;
           })
 
-      pub stage_leads : Invariant (stepped (record m { replicas = put2 m.replicas u.ckpt r (Some with_stage) }) (kept_behind m s m.cluster verbs.Stage (Some u.ckpt) (Some r) words.Ok) None)
+      pub stage_leads : Invariant (left_in_hand (record m { replicas = put2 m.replicas u.ckpt r (Some with_stage) }) (kept_behind m s m.cluster verbs.Stage (Some u.ckpt) (Some r) words.Ok) None)
       unfolding stage_done
       stage_leads = stage_keeps

@@ -8,7 +8,7 @@ use Rattle.cluster_record.specs.DueUpdate.{UpdateState}
 use Rattle.cluster_record.specs.RecordState.{entry_of, complete_of}
 use Rattle.cluster_record.specs.StepDone.{has, lacks, last_having}
 use Rattle.ckpt_machine.specs.Drivers as drivers
-use Rattle.ckpt_machine.specs.Machine.{Machine, ReplicaState, CallState}
+use Rattle.ckpt_machine.specs.Machine.{Machine, ReplicaState, CallState, who}
 use Rattle.ckpt_machine.specs.Steps.{driver_of, staged_moment, moment_from, moment_of_slot}
 use Rattle.ckpt_machine.specs.Shape.{Shape, IsCompleteOn, IsShaped, IsSpread, IsStaging, PhaseFits, slot_by}
 use Rattle.ckpt_machine.specs.Invariant.{InvariantIn}
@@ -17,7 +17,7 @@ use Rattle.ckpt_machine.proofs.Owning.{at, spread, own_phase, owns_had, all_is}
 use Rattle.ckpt_machine.proofs.OnAll.{shaped_replicas}
 use Rattle.ckpt_machine.proofs.Stage.{IfSome-more}
 
-module _ (m : Machine) (shapes : ℕ → Shape) (inv : InvariantIn shapes m) (s : CallState) (u : UpdateState) (held : m.in_hand s.call.actor ≡ Some s) (is : driver_of s ≡ drivers.Update u) (e : Entry) (found : entry_of u.ckpt m.cluster.entries ≡ Some e) where
+module _ (m : Machine) (shapes : ℕ → Shape) (inv : InvariantIn shapes m) (s : CallState) (u : UpdateState) (held : m.in_hand (who s) ≡ Some s) (is : driver_of s ≡ drivers.Update u) (e : Entry) (found : entry_of u.ckpt m.cluster.entries ≡ Some e) where
   abbrev was : IsSpread m u.ckpt (shapes u.ckpt) e
   was = spread m shapes inv s u held is e found
 

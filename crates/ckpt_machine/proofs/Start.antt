@@ -25,6 +25,12 @@ invariant_empty = record {
     handles = λ c h among. let (i, below, is) = among in absurd (omega (arith, below));
     rest = λ a. NoneLent-no_tables;
     clients = λ c. tt;
-    hands = λ a s held. absurd (cc held);
+    places = λ c. omega arith;
+    hands = λ w s held. absurd (cc held);
+    calls = record {
+      one_name = λ w v s t at there same. absurd (cc at);
+      begun = λ a c among. let (i, below, is) = among in absurd (omega (arith, below));
+      kept = λ w s at async. absurd (cc at);
+    };
   };
 }

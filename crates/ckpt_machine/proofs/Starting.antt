@@ -1,84 +1,110 @@
 -- A call that goes on behind its beginning is in hand, and something drives it.
-use Rattle.std.proofs.Common.{◌≡◌, ℕ, inl, inr, Option, Some, None, Bool, true, false, refl, sym, ap, ◌∙◌}
-use Rattle.std.specs.Option.{option_or, option_map}
+use Rattle.std.proofs.Common.{◌≡◌, ℕ, Option, Some, None, Bool, true, false, cond, not, ◌||◌, refl, sym, ap, ◌∙◌}
+use Rattle.std.specs.Option.{option_map}
+use Rattle.std.specs.Prelude.{is_none}
 use Rattle.std.proofs.lemmas.Option.{same_Some}
+use Rattle.ckpt_types.specs.declared.answers.Answer.TheVariants as answers
 use Rattle.ckpt_types.specs.declared.answers.Outcome.{Outcome}
-use Rattle.ckpt_types.specs.declared.answers.Outcome.TheVariants.{NoMemory}
+use Rattle.ckpt_types.specs.declared.answers.Outcome.TheVariants.{Done, Refused, NoMemory}
 use Rattle.ckpt_types.specs.declared.identities.CallId.{CallId}
-use Rattle.ckpt_types.specs.declared.open_flags.OpenFlags.{OpenFlags}
 use Rattle.ckpt_types.specs.declared.operation.Op.{Op}
+use Rattle.ckpt_types.specs.declared.operation.Op.TheVariants as ops
+use Rattle.node_msgs.specs.declared.details.Details.{Details}
 use Rattle.client_handles.specs.declared.handle_view.HandleView.{HandleView}
 use Rattle.cluster_record.specs.Calls.{number_of}
-use Rattle.cluster_record.specs.RecordState.{RecordState, is_live_client}
-use Rattle.ckpt_types.specs.Asks.{Ask, asked, IsBuiltAsk}
+use Rattle.cluster_record.specs.RecordState.{RecordState}
+use Rattle.ckpt_types.specs.Asks.{Ask, asked, IsBuilt, IsBuiltAsk}
 use Rattle.ckpt_types.specs.Asks as asks
-use Rattle.ckpt_machine.specs.Beginning.{begin_end, if_live, on_handle, end_iteration, may_write, sync_begin, unless_forbidden}
+use Rattle.ckpt_types.specs.OpWord.{is_async, word_of_op, stepped_as}
+use Rattle.ckpt_machine.specs.Beginning.{Standing}
+use Rattle.ckpt_machine.specs.BeginRows.{goes_on_behind, MeetsNoRefusal, BeginRow}
 use Rattle.ckpt_machine.specs.Drivers.{Driver}
 use Rattle.ckpt_machine.specs.Driving.{Kept, on_kept, driver_start, change_start, kind_of_change}
 use Rattle.ckpt_machine.specs.Machine.{Machine, CallState}
-use Rattle.ckpt_machine.specs.Steps.{asked_handle, kept_at_beginning, IsBeginEnd, IsBegun, started_call, call_begun, after_beginning}
+use Rattle.ckpt_machine.specs.Steps.{asked_handle, kept_at_beginning, IsBegun, standing_of, goes_on, started_call, call_begun, after_beginning}
 use Rattle.ckpt_machine.specs.Tables.{ckpt_of_handle}
-use Rattle.ckpt_machine.proofs.ReplicaSteps.{put_actor-here}
+use Rattle.ckpt_machine.proofs.BeginRows.{row_of}
+use Rattle.ckpt_machine.proofs.Whose.{put_who-here}
 
 -- ---- what a beginning that goes on has passed
 
--- what is said of a client that is live goes on only where it is
-pub if_live-None : (live : Bool) (o : Option Outcome) → if_live live o ≡ None → (live ≡ true) × (o ≡ None)
-if_live-None true o e = (refl, e)
-if_live-None false o e = absurd (cc e)
+-- the client is live, and nothing else is bad of the handle
+pub live_client : (live bad : Bool) → (not live || bad) ≡ false → (live ≡ true) × (bad ≡ false)
+live_client true bad good = (refl, good)
+live_client false bad good = absurd (cc good)
 
--- what is said on a handle goes on only where there is one
-pub on_handle-None : (h : Option HandleView) (bad : Bool) (may : OpenFlags → Bool) → on_handle h bad may ≡ None → (x : HandleView) × (h ≡ Some x)
-on_handle-None None bad may e = absurd (cc e)
-on_handle-None (Some x) bad may e = (x, refl)
+-- the place stands for one
+pub handle_there : (h : Option HandleView) → is_none h ≡ false → (x : HandleView) × (h ≡ Some x)
+handle_there None good = absurd (cc good)
+handle_there (Some x) good = (x, refl)
 
--- what ends an iteration goes on with nothing
-pub iteration_answers : (h : Option HandleView) → end_iteration h ≡ None → ⊥
-iteration_answers None e = cc e
-iteration_answers (Some h) e = cc e
+-- it takes steps, as neither the end of an iteration nor a dispatch does, nor what is not built
+abbrev pub takes_steps : Ask → Bool
+takes_steps (asks.EndIteration iteration) = false
+takes_steps (asks.Dispatch flags) = false
+takes_steps asks.Unbuilt = false
+takes_steps ask = true
 
--- of two answers neither is one where the first that is one is none
-option_or-None : {X : Type 0} (a b : Option X) → option_or a b ≡ None → (a ≡ None) × (b ≡ None)
-option_or-None None b e = (refl, e)
-option_or-None (Some x) b e = absurd (cc e)
+-- a call that goes on has met no refusal, and takes steps
+pub record HasPassed (st : Standing) (ask : Ask) : Type 0 where
+  pub unrefused : MeetsNoRefusal st ask
+  pub takes : takes_steps ask ≡ true
 
--- what brings the active's sections to others goes on only on a handle that is good, of a checkpoint whose flags do not forbid it
-pub sync_begin-None : (h : Option HandleView) (bad : Bool) (forbid : ℕ → Bool) → sync_begin h bad forbid ≡ None → (on_handle h bad may_write ≡ None) × (unless_forbidden forbid h ≡ None)
-sync_begin-None h bad forbid e = option_or-None (on_handle h bad may_write) (unless_forbidden forbid h) e
+-- what goes on unanswered takes steps
+behind_takes : (ask : Ask) → IsBuiltAsk ask → goes_on_behind ask ≡ true → takes_steps ask ≡ true
+behind_takes (asks.EndIteration iteration) built goes = absurd (cc goes)
+behind_takes (asks.Dispatch flags) built goes = absurd (cc goes)
+behind_takes asks.Unbuilt built goes = absurd built
+behind_takes ask built goes = refl
 
--- a call that goes on answers nothing at once
-pub goes_on_begun : (ask : Ask) (due end : Option Outcome) → IsBeginEnd ask due end → end ≡ None → due ≡ None
-goes_on_begun ask due end (inl same) none = sym same ∙ none
-goes_on_begun ask due end (inr refused) none = absurd (let e : None ≡ Some NoMemory = sym none ∙ refused.2 in cc e)
+-- so does an asynchronous call
+async_takes : (op : Op) → is_async (word_of_op op) ≡ true → takes_steps (asked op) ≡ true
+async_takes (ops.OpenAsync place invocation name flags a) async = refl
+async_takes (ops.SyncAsync place invocation) async = refl
+async_takes op async = absurd (cc async)
+
+-- by its row
+pub row_passed : (st : Standing) (op : Op) (end : Option Outcome) → IsBuilt op → BeginRow st (asked op) end → goes_on (word_of_op op) end ≡ true → HasPassed st (asked op)
+row_passed st op None built row goes = record { unrefused = row.0; takes = behind_takes (asked op) built row.1 }
+row_passed st op (Some (Done answers.Nothing)) built row goes = record { unrefused = row.0; takes = async_takes op goes }
+row_passed st op (Some (Done (answers.Dispatched given))) built row goes = record { unrefused = row.0; takes = async_takes op goes }
+row_passed st op (Some (Refused error cause)) built row goes = absurd (cc goes)
+row_passed st op (Some NoMemory) built row goes = absurd (cc goes)
+row_passed st op end built row goes = absurd row
+
+-- where it is due
+pub begun_passed : (m : Machine) (call : CallId) (op : Op) (end : Option Outcome) (details : Details) → IsBegun m call op end details → goes_on (word_of_op op) end ≡ true → HasPassed (standing_of m call.actor op) (asked op)
+begun_passed m call op end details is = row_passed (standing_of m call.actor op) op end is.built (row_of (standing_of m call.actor op) (asked op) is.built end is.answer)
 
 -- ---- what drives it
 
 -- one on a handle keeps the checkpoint of it
-kept_starts : (live : Bool) (h : Option HandleView) (bad : Bool) (may : OpenFlags → Bool) (start : ℕ → Driver) → if_live live (on_handle h bad may) ≡ None → (d : Driver) × (on_kept (ckpt_of_handle h) start ≡ Some d)
-kept_starts live None bad may start goes = absurd (let refused = (if_live-None live (on_handle None bad may) goes).1 in cc refused)
-kept_starts live (Some x) bad may start goes = (start x.id, refl)
+kept_starts : (live : Bool) (h : Option HandleView) (start : ℕ → Driver) → (not live || is_none h) ≡ false → (d : Driver) × (on_kept (ckpt_of_handle h) start ≡ Some d)
+kept_starts live None start good = absurd (let missing = (live_client live true good).1 in cc missing)
+kept_starts live (Some x) start good = (start x.id, refl)
 
--- what is asked for, is built and is not answered at its beginning drives a call, whether it takes room or not
-pub goes_on_driven : (R : RecordState) (c : ℕ) (live : Bool) (call : CallId) (h : Option HandleView) (ask : Ask) → IsBuiltAsk ask → begin_end live h ask ≡ None → (d : Driver) × (driver_start call ask (kept_at_beginning R c h) ≡ Some d)
-goes_on_driven R c live call h (asks.Enter r version callbacks) built goes = (_, refl)
-goes_on_driven R c live call h (asks.Open place name flags timeout a) built goes = (_, refl)
-goes_on_driven R c live call h (asks.Change place update) built goes = by_all (kept_at_beginning R c h).all
+-- what is asked for, and has passed, drives a call
+pub goes_on_driven : (R : RecordState) (c : ℕ) (st : Standing) (call : CallId) (ask : Ask) → HasPassed st ask → (d : Driver) × (driver_start call ask (kept_at_beginning R c st.handle) ≡ Some d)
+goes_on_driven R c st call (asks.Enter r version callbacks) passed = (_, refl)
+goes_on_driven R c st call (asks.Open place name flags timeout a) passed = (_, refl)
+goes_on_driven R c st call (asks.Change place update) passed = by_all (kept_at_beginning R c st.handle).all
   where
-    by_all : (all : Bool) → (d : Driver) × (change_start call all (kind_of_change (kept_at_beginning R c h).weak update) (ckpt_of_handle h) ≡ Some d)
-    by_all true = kept_starts live h _ _ _ goes
-    by_all false = kept_starts live h _ _ _ goes
-goes_on_driven R c live call h (asks.Read place elements) built goes = kept_starts live h _ _ _ goes
-goes_on_driven R c live call h (asks.Status place) built goes = kept_starts live h _ _ _ goes
-goes_on_driven R c live call h (asks.Iterate iteration place chosen time) built goes = kept_starts live h _ _ _ goes
-goes_on_driven R c live call h (asks.Next iteration) built goes = kept_starts live h _ _ _ goes
-goes_on_driven R c live call h (asks.EndIteration iteration) built goes = absurd (iteration_answers h (if_live-None live (end_iteration h) goes).1)
-goes_on_driven R c live call h (asks.Close place) built goes = kept_starts live h _ _ _ goes
-goes_on_driven R c live call h (asks.Retain place duration) built goes = kept_starts live h _ _ _ goes
-goes_on_driven R c live call h (asks.Unlink name) built goes = (_, refl)
-goes_on_driven R c live call h asks.Leave built goes = (_, refl)
-goes_on_driven R c live call h (asks.Synchronize place timeout) built goes = let (lives, rest) = if_live-None live _ goes in kept_starts true h _ _ _ (sync_begin-None h _ _ rest).0
-goes_on_driven R c live call h (asks.SetActive place) built goes = let (lives, rest) = if_live-None live _ goes in kept_starts true h _ _ _ (sync_begin-None h _ _ rest).0
-goes_on_driven R c live call h asks.Unbuilt built goes = absurd built
+    by_all : (all : Bool) → (d : Driver) × (change_start call all (kind_of_change (kept_at_beginning R c st.handle).weak update) (ckpt_of_handle st.handle) ≡ Some d)
+    by_all true = kept_starts st.live st.handle _ passed.unrefused.handle
+    by_all false = kept_starts st.live st.handle _ passed.unrefused.handle
+goes_on_driven R c st call (asks.Read place elements) passed = kept_starts st.live st.handle _ passed.unrefused.handle
+goes_on_driven R c st call (asks.Status place) passed = kept_starts st.live st.handle _ passed.unrefused.handle
+goes_on_driven R c st call (asks.Iterate iteration place chosen time) passed = kept_starts st.live st.handle _ passed.unrefused.handle
+goes_on_driven R c st call (asks.Next iteration) passed = kept_starts st.live st.handle _ passed.unrefused.handle
+goes_on_driven R c st call (asks.EndIteration iteration) passed = absurd (let none = passed.takes in cc none)
+goes_on_driven R c st call (asks.Close place) passed = kept_starts st.live st.handle _ passed.unrefused.handle
+goes_on_driven R c st call (asks.Retain place duration) passed = kept_starts st.live st.handle _ passed.unrefused.handle
+goes_on_driven R c st call (asks.Unlink name) passed = (_, refl)
+goes_on_driven R c st call asks.Leave passed = (_, refl)
+goes_on_driven R c st call (asks.Synchronize place timeout) passed = kept_starts st.live st.handle _ passed.unrefused.handle
+goes_on_driven R c st call (asks.SetActive place) passed = kept_starts st.live st.handle _ passed.unrefused.handle
+goes_on_driven R c st call (asks.Dispatch flags) passed = absurd (let none = passed.takes in cc none)
+goes_on_driven R c st call asks.Unbuilt passed = absurd (let none = passed.takes in cc none)
 
 -- ---- in hand behind its beginning
 
@@ -86,23 +112,33 @@ goes_on_driven R c live call h asks.Unbuilt built goes = absurd built
 abbrev pub first_kept : Machine → CallId → Op → Kept
 first_kept m call op = kept_at_beginning m.cluster (number_of call.actor) (asked_handle m call.actor op)
 
--- where something drives it, it is in hand with that
-pub driven_begun : (call : CallId) (op : Op) (kept : Kept) (d : Driver) → driver_start call (asked op) kept ≡ Some d → call_begun None call op kept ≡ Some (started_call call op kept d)
-driven_begun call op kept d driven = ap (option_map (started_call call op kept)) driven
+-- where it goes on and something drives it, it is in hand with that
+pub driven_begun : (end : Option Outcome) (call : CallId) (op : Op) (kept : Kept) (d : Driver) → goes_on (word_of_op op) end ≡ true → driver_start call (asked op) kept ≡ Some d → call_begun end call op kept ≡ Some (started_call call op kept d)
+driven_begun end call op kept d goes driven = ap (λ b. cond b (option_map (started_call call op kept) (driver_start call (asked op) kept)) None) goes ∙ ap (option_map (started_call call op kept)) driven
 
--- and one that is in hand behind its beginning is as it began, with what drives it
+-- where it does not, it is not
+pub none_begun : (end : Option Outcome) (call : CallId) (op : Op) (kept : Kept) → goes_on (word_of_op op) end ≡ false → call_begun end call op kept ≡ None
+none_begun end call op kept ends = ap (λ b. cond b (option_map (started_call call op kept) (driver_start call (asked op) kept)) None) ends
+
+-- one that is in hand behind its beginning goes on
+pub begun_goes : (end : Option Outcome) (call : CallId) (op : Op) (kept : Kept) (s : CallState) → call_begun end call op kept ≡ Some s → goes_on (word_of_op op) end ≡ true
+begun_goes end call op kept s is = by_test (goes_on (word_of_op op) end) is where
+  by_test : (b : Bool) → cond b (option_map (started_call call op kept) (driver_start call (asked op) kept)) None ≡ Some s → b ≡ true
+  by_test true is = refl
+  by_test false is = absurd (cc is)
+
+-- and is as it began, with what drives it
 pub begun_as : (end : Option Outcome) (call : CallId) (op : Op) (kept : Kept) (s : CallState) → call_begun end call op kept ≡ Some s
     → (d : Driver) × (driver_start call (asked op) kept ≡ Some d) × (started_call call op kept d ≡ s)
-begun_as (Some e) call op kept s is = absurd (cc is)
-begun_as None call op kept s is = by_driver (driver_start call (asked op) kept) refl is where
+begun_as end call op kept s is = by_driver (driver_start call (asked op) kept) refl (sym (ap (λ b. cond b (option_map (started_call call op kept) (driver_start call (asked op) kept)) None) (begun_goes end call op kept s is)) ∙ is) where
   by_driver : (o : Option Driver) → driver_start call (asked op) kept ≡ o → option_map (started_call call op kept) o ≡ Some s
       → (d : Driver) × (driver_start call (asked op) kept ≡ Some d) × (started_call call op kept d ≡ s)
   by_driver None starts is = absurd (cc is)
   by_driver (Some d) starts is = (d, starts, same_Some (started_call call op kept d) s is)
 
 -- A CALL THAT GOES ON IS IN HAND, AND DRIVEN
-pub goes_on_in_hand : (m : Machine) (call : CallId) (op : Op) → IsBegun m call op None
-    → (d : Driver) × (driver_start call (asked op) (first_kept m call op) ≡ Some d) × ((after_beginning m call op None).in_hand call.actor ≡ Some (started_call call op (first_kept m call op) d))
-goes_on_in_hand m call op is =
-    let (d, driven) = goes_on_driven m.cluster (number_of call.actor) (is_live_client (number_of call.actor) m.cluster) call (asked_handle m call.actor op) (asked op) is.built (goes_on_begun (asked op) _ None is.answer refl) in
-    (d, driven, put_actor-here m.in_hand call.actor (call_begun None call op (first_kept m call op)) ∙ driven_begun call op (first_kept m call op) d driven)
+pub goes_on_in_hand : (m : Machine) (call : CallId) (op : Op) (end : Option Outcome) (details : Details) → IsBegun m call op end details → goes_on (word_of_op op) end ≡ true
+    → (d : Driver) × (driver_start call (asked op) (first_kept m call op) ≡ Some d) × ((after_beginning m call op end).in_hand (stepped_as call (word_of_op op)) ≡ Some (started_call call op (first_kept m call op) d))
+goes_on_in_hand m call op end details is goes =
+    let (d, driven) = goes_on_driven m.cluster (number_of call.actor) (standing_of m call.actor op) call (asked op) (begun_passed m call op end details is goes) in
+    (d, driven, put_who-here m.in_hand (stepped_as call (word_of_op op)) (call_begun end call op (first_kept m call op)) ∙ driven_begun end call op (first_kept m call op) d goes driven)

@@ -1,7 +1,7 @@
 -- A synchronisation: it pulls what the active has and installs it at each other complete node, and is refused or done by a look where the record says so.
 use Rattle.std.specs.List.{list_any}
 use Rattle.std.specs.Option.{option_map}
-use Rattle.std.proofs.Common.{◌≡◌, ℕ, ◌<◌, ◌≤◌, List, ◌∷◌, length, Option, Some, None, Bool, true, false, cond, ◌&&◌, ◌==◌, ℤ, refl, sym, ap, subst, ◌∙◌, arith}
+use Rattle.std.proofs.Common.{◌≡◌, ℕ, ◌<◌, ◌≤◌, List, ◌∷◌, length, Option, Some, None, Bool, true, false, cond, ◌==◌, ℤ, refl, sym, ap, subst, ◌∙◌, arith}
 use Rattle.std.specs.Prelude.{is_some, IfSome, IsSomeAnd, slice_get, slice_set}
 use Rattle.std.proofs.lemmas.Option.{same_Some}
 use Rattle.moment_rules.specs.Times.{is_reached}
@@ -12,9 +12,9 @@ use Rattle.ckpt_types.specs.declared.answers.Cause.{Cause}
 use Rattle.ckpt_types.specs.declared.answers.Cause.TheVariants.{Plain, Holder, Generations, Deadline}
 use Rattle.ckpt_types.specs.declared.answers.Outcome.{Outcome}
 use Rattle.ckpt_types.specs.declared.answers.Outcome.TheVariants.{Done, Refused}
-use Rattle.ckpt_types.specs.declared.identities.ActorName.{ActorName}
-use Rattle.ckpt_types.specs.declared.identities.CallId.{CallId}
-use Rattle.ckpt_types.specs.Asks.{asked}
+use Rattle.ckpt_types.specs.declared.identities.Who.{Who}
+use Rattle.ckpt_types.specs.Asks.{Ask, asked}
+use Rattle.ckpt_types.specs.Asks as asks
 use Rattle.weak_marks.specs.Marks.{Marked, call_of}
 use Rattle.node_msgs.specs.declared.details.Details.{Details}
 use Rattle.node_msgs.specs.declared.details.Details.TheVariants as beside
@@ -29,7 +29,7 @@ use Rattle.node_core.specs.Serving.{reply_at, details_at, pull_reply}
 use Rattle.cluster_record.specs.declared.calls.SyncKind.TheVariants.{Synchronize}
 use Rattle.cluster_record.specs.declared.calls.PulledAt.{PulledAt}
 use Rattle.cluster_record.specs.declared.entries.Entry.{Entry}
-use Rattle.cluster_record.specs.Calls.{same_actor, same_call, put_actor, left}
+use Rattle.cluster_record.specs.Calls.{same_call, left}
 use Rattle.cluster_record.specs.DueSync.{SyncState, first_unserved, ended_by}
 use Rattle.cluster_record.specs.RecordState.{entry_of, complete_of}
 use Rattle.cluster_record.specs.StepDone.{StepDone, done_of, counting, generation_in}
@@ -39,20 +39,23 @@ use Rattle.ckpt_machine.specs.Guards.{deadline_of, IsInTime, OnLed, HasNoActive,
 use Rattle.ckpt_machine.specs.InHand.{is_enter, IsInPlace, IsInHand, IsSyncBy, IsSynchronizeIn, HasServedActive, pulled_as}
 use Rattle.ckpt_machine.specs.Invariant.{IsGoodIn, InvariantIn, Invariant}
 use Rattle.ckpt_machine.specs.Left.{sync_left, kind_left, steps_left}
-use Rattle.ckpt_machine.specs.Machine.{Machine, ReplicaState, Snapshot, CallState}
+use Rattle.ckpt_machine.specs.Machine.{Machine, ReplicaState, Snapshot, CallState, who}
 use Rattle.ckpt_machine.specs.Options.{is_all}
 use Rattle.ckpt_machine.specs.Propagation.{copied}
 use Rattle.ckpt_machine.specs.Shape.{Shape, IsApart, IsSpread}
-use Rattle.ckpt_machine.specs.Steps.{Told, IsDone, IsServed, ended_details, driver_of, payload_due, details_due, count_in}
+use Rattle.ckpt_machine.specs.Steps.{Told, IsDone, IsServed, ended_details, driver_of, payload_due, details_due, count_in, with_tables, without_syncs}
+use Rattle.ckpt_machine.specs.Tables.{handle_closed, closing}
 use Rattle.ckpt_machine.proofs.ActiveNode.{ActiveOf, active_seen, on_its_replica}
 use Rattle.ckpt_machine.proofs.DueStep.{Goes}
-use Rattle.ckpt_machine.proofs.EndedTables.{closing_keeps}
 use Rattle.ckpt_machine.proofs.OnTheActive.{marker_live}
 use Rattle.ckpt_machine.proofs.OptionLemmas.{IsSomeAnd-from}
 use Rattle.ckpt_machine.proofs.PlainCalls.{is_plain_sync, is_plain, ending, marker_apart, plain_steps, plain_ends, look_goes}
-use Rattle.ckpt_machine.proofs.ReplicaSteps.{put_actor-here}
+use Rattle.ckpt_machine.proofs.Actors.{same_call-false}
+use Rattle.ckpt_machine.proofs.CallsKept.{same_call-left, apart_from}
 use Rattle.ckpt_machine.proofs.Served.{slice_get-set, served_set, set_length, tells_all, ends_alike, all_are, unserved-few}
+use Rattle.ckpt_machine.specs.Whose.{put_who}
 use Rattle.ckpt_machine.proofs.StepLabels.{IsServed-told}
+use Rattle.ckpt_machine.proofs.ReplicaSteps.{put_actor-same}
 
 -- what is left of a call that has not ended
 pub left_is : {X E : Type 0} (end : Option E) (x z : X) → left end x ≡ Some z → x ≡ z
@@ -64,14 +67,18 @@ pub ended_nothing : (end : Option Outcome) (details : Details) → details ≡ b
 ended_nothing None details nothing = refl
 ended_nothing (Some e) details nothing = nothing
 
--- a call of another actor is another call
-pub call_apart : (c d : CallId) → same_actor c.actor d.actor ≡ false → same_call c d ≡ false
-call_apart c d other = ap (λ b. b && (c.number == d.number)) other
+-- the state that a look leaves, by what is asked for
+abbrev closed_by : CallState → Machine → Ask → Machine
+closed_by s m ask = with_tables s.call.actor (closing ask) (without_syncs (handle_closed ask (m.tables s.call.actor)) s.call.actor m)
 
-module _ (m : Machine) (shapes : ℕ → Shape) (inv : InvariantIn shapes m) (s : CallState) (u : SyncState) (held : m.in_hand s.call.actor ≡ Some s) (is : driver_of s ≡ drivers.Sync u) (sync : (deadline : Option ℤ) × (u.kind ≡ Synchronize deadline)) where
+-- a synchronisation ends no handle
+closes_none : (s : CallState) (m : Machine) (place : ℕ) (timeout : Option ℤ) → closed_by s m (asks.Synchronize place timeout) ≡ m
+closes_none s m place timeout = λ i. record m { tables = λ a. put_actor-same m.tables s.call.actor (m.tables s.call.actor) refl a i; pending = λ a. put_actor-same m.pending s.call.actor (m.pending s.call.actor) refl a i }
+
+module _ (m : Machine) (shapes : ℕ → Shape) (inv : InvariantIn shapes m) (s : CallState) (u : SyncState) (held : m.in_hand (who s) ≡ Some s) (is : driver_of s ≡ drivers.Sync u) (sync : (deadline : Option ℤ) × (u.kind ≡ Synchronize deadline)) where
   -- where its steps have led it
   pub at_sync : IsSynchronizeIn m s u
-  at_sync = subst (IsSyncBy m s u) sync.1 (subst (λ d. IsInPlace m shapes s d) is (inv.hands s.call.actor s held).here)
+  at_sync = subst (IsSyncBy m s u) sync.1 (subst (λ d. IsInPlace m shapes s d) is (inv.hands (who s) s held).here)
 
   -- it owns and makes nothing
   pub plain : is_plain (driver_of s) s.snapshot ≡ true
@@ -106,7 +113,7 @@ module _ (m : Machine) (shapes : ℕ → Shape) (inv : InvariantIn shapes m) (s 
     abbrev pub then_driver : SyncState
     then_driver = record u { pulled = pulled; served = served }
 
-    module _ (f : ℕ → ℕ → Option ReplicaState) (g : ActorName → Option CallState) where
+    module _ (f : ℕ → ℕ → Option ReplicaState) (g : Who → Option CallState) where
       -- the state with these replicas, and with these calls in hand
       abbrev pub then_machine : Machine
       then_machine = record m { replicas = f; in_hand = g }
@@ -131,11 +138,11 @@ module _ (m : Machine) (shapes : ℕ → Shape) (inv : InvariantIn shapes m) (s 
       }
 
       -- it is in hand so
-      pub hand_then : driver_taken d (drivers.Sync u) ≡ drivers.Sync then_driver → IsSynchronizeIn then_machine then_state then_driver → IsInHand then_machine shapes s.call.actor then_state
+      pub hand_then : driver_taken d (drivers.Sync u) ≡ drivers.Sync then_driver → IsSynchronizeIn then_machine then_state then_driver → IsInHand then_machine shapes (who s) then_state
       hand_then takes at =
-          let hand = inv.hands s.call.actor s held in
+          let hand = inv.hands (who s) s held in
           record {
-            actor = refl;
+            whose = refl;
             client = hand.client;
             number = hand.number;
             built = hand.built;
@@ -200,7 +207,7 @@ module _ (m : Machine) (shapes : ℕ → Shape) (inv : InvariantIn shapes m) (s 
               ),
               refl,
             );
-            holds = record { shapes = shapes; holds = closing_keeps (ending s m) shapes (plain_ends m shapes inv s held plain) s.call.actor (put_actor-here m.in_hand s.call.actor None) (asked s.op) };
+            holds = subst (λ (b : Machine). Invariant (ending s b)) (sym (ap (closed_by s m) at_sync.asks ∙ closes_none s m at_sync.place at_sync.timeout)) (record { shapes = shapes; holds = plain_ends m shapes inv s held plain });
             nearer = λ none. absurd (cc none);
           })
 
@@ -258,13 +265,13 @@ module _ (m : Machine) (shapes : ℕ → Shape) (inv : InvariantIn shapes m) (s 
             (subst (λ o. IfSome o (λ (e : Entry). at.replica.generation ≤ e.generation)) (sym at.found) (let same : at.replica.generation ≡ at.entry.generation = at.generation in omega (arith, same)))
 
         -- the call goes on with it, or ends
-        pulled_keeps : (end : Option Outcome) → Invariant (record m { in_hand = put_actor m.in_hand s.call.actor (left end (then_state pull_done snap_then (Some keeps_then) served_then)) })
+        pulled_keeps : (end : Option Outcome) → Invariant (record m { in_hand = put_who m.in_hand (who s) (left end (then_state pull_done snap_then (Some keeps_then) served_then)) })
         pulled_keeps end =
             let z = then_state pull_done snap_then (Some keeps_then) served_then in
-            let hands = put_actor m.in_hand s.call.actor (left end z) in
+            let hands = put_who m.in_hand (who s) (left end z) in
             record {
               shapes = shapes;
-              holds = plain_steps m shapes inv s held plain (left end z) (λ w same. subst (IsInHand (record m { in_hand = hands }) shapes s.call.actor) (left_is end z w same)
+              holds = plain_steps m shapes inv s held plain (left end z) (same_call-left s z end refl refl) (λ w same. subst (IsInHand (record m { in_hand = hands }) shapes (who s)) (left_is end z w same)
                   (hand_then pull_done snap_then (Some keeps_then) served_then m.replicas hands refl (here_then pull_done snap_then (Some keeps_then) served_then m.replicas hands pulled_then (set_length u.served at.node true ∙ at_sync.nodes) tells_then led_then older_then)));
             }
 
@@ -283,7 +290,9 @@ module _ (m : Machine) (shapes : ℕ → Shape) (inv : InvariantIn shapes m) (s 
 
         -- the marks of another call hold it off, which is live
         another : (marks : Marked) → (shapes u.ckpt).marks ≡ Some marks → same_call marks.call s.call ≡ false
-        another marks stand = call_apart marks.call s.call (marker_apart m shapes inv s held plain u.ckpt marks (spread.marked marks stand))
+        another marks stand =
+            let own = spread.marked marks stand in
+            same_call-false marks.call s.call (λ same. apart_from m.in_hand m.pending m.next inv.calls s held (who own.state) own.state own.in_hand (marker_apart m shapes inv s held plain u.ckpt marks own) (own.call_is ∙ same))
 
         pull_by : (t : Told) → IsServed m s at.node request t → (o : Option Marked) → (shapes u.ckpt).marks ≡ o → Goes m s (driver_of s) t
         pull_by t served None stand = subst (Goes m s (driver_of s)) (sym (IsServed-told m s at.node request t (drivers.Sync u) (replies.Done (answers.Pulled (length at.replica.effects))) served is (answered t served None stand))) (record {

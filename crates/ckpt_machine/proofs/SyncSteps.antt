@@ -35,7 +35,7 @@ use Rattle.ckpt_machine.specs.Guards.{deadline_of, is_service, serves, all_serve
 use Rattle.ckpt_machine.specs.InHand.{active_kind, pulled_as, IsSynchronizeIn, IsSettingIn, IsSyncBy, IsOnceAt, IsInPlace}
 use Rattle.ckpt_machine.specs.Invariant.{Invariant}
 use Rattle.ckpt_machine.specs.Listing.{is_active}
-use Rattle.ckpt_machine.specs.Machine.{Machine, Snapshot, CallState}
+use Rattle.ckpt_machine.specs.Machine.{Machine, Snapshot, CallState, who}
 use Rattle.ckpt_machine.specs.Shape.{Shape}
 use Rattle.ckpt_machine.specs.Steps.{Told, IsDone, due, driver_of, rooms_of}
 use Rattle.ckpt_machine.specs.Driving.{driver_next}
@@ -86,12 +86,17 @@ IsSynchronize (asks.Synchronize place timeout) = Unit {0}
 IsSynchronize ask = ⊥
 
 -- a call with the word `sync` asks for a synchronisation
-pub asks_sync : (op : Op) → word_of_op op ≡ opwords.Sync → (place : ℕ) × (timeout : ℤ) × (asked op ≡ asks.Synchronize place timeout)
-asks_sync (ops.Sync place timeout) is = (place, timeout, refl)
+pub asks_sync : (op : Op) → word_of_op op ≡ opwords.Sync → (place : ℕ) × (timeout : Option ℤ) × (asked op ≡ asks.Synchronize place timeout)
+asks_sync (ops.Sync place timeout) is = (place, Some timeout, refl)
 asks_sync op is = absurd (cc is)
 
+-- and so does one with the word `syncasync`
+pub asks_sync_async : (op : Op) → word_of_op op ≡ opwords.SyncAsync → (place : ℕ) × (timeout : Option ℤ) × (asked op ≡ asks.Synchronize place timeout)
+asks_sync_async (ops.SyncAsync place invocation) is = (place, None, refl)
+asks_sync_async op is = absurd (cc is)
+
 -- a synchronisation drives a call in hand that asks for one
-pub drives_sync : (m : Machine) (shapes : ℕ → Shape) (s : CallState) (place : ℕ) (timeout : ℤ) → asked s.op ≡ asks.Synchronize place timeout → (d : Driver) → IsInPlace m shapes s d → (u : SyncState) × (d ≡ drivers.Sync u) × IsSynchronizeIn m s u
+pub drives_sync : (m : Machine) (shapes : ℕ → Shape) (s : CallState) (place : ℕ) (timeout : Option ℤ) → asked s.op ≡ asks.Synchronize place timeout → (d : Driver) → IsInPlace m shapes s d → (u : SyncState) × (d ≡ drivers.Sync u) × IsSynchronizeIn m s u
 drives_sync m shapes s place timeout is (drivers.Sync u) at = (u, refl, by_kind u.kind at)
   where
     by_kind : (kind : SyncKind) → IsSyncBy m s u kind → IsSynchronizeIn m s u
@@ -169,9 +174,9 @@ module _ (m : Machine) (s : CallState) (t : Told) (pulls : t.verb ≡ verbs.Pull
       by_entry (Some e) done = by_active e e.active (subst (λ kind. IsDone m s (kind_next m.cluster u e kind) t) kind done)
 
 -- the hand of a synchronisation that pulls is empty
-pub pulls_empty : (m : Machine) (inv : Invariant m) (s : CallState) (t : Told) (place : ℕ) (timeout : ℤ) → m.in_hand s.call.actor ≡ Some s → asked s.op ≡ asks.Synchronize place timeout → IsDone m s (due m s) t → t.verb ≡ verbs.Pull → s.snapshot ≡ None
+pub pulls_empty : (m : Machine) (inv : Invariant m) (s : CallState) (t : Told) (place : ℕ) (timeout : Option ℤ) → m.in_hand (who s) ≡ Some s → asked s.op ≡ asks.Synchronize place timeout → IsDone m s (due m s) t → t.verb ≡ verbs.Pull → s.snapshot ≡ None
 pulls_empty m inv s t place timeout held is done pulls =
-    let (u, driver, at) = drives_sync m inv.shapes s place timeout is (driver_of s) (inv.holds.hands s.call.actor s held).here in
+    let (u, driver, at) = drives_sync m inv.shapes s place timeout is (driver_of s) (inv.holds.hands (who s) s held).here in
     let next = subst (λ d. IsDone m s (driver_next m.cluster (rooms_of m s) d) t) driver done in
     empty s.snapshot (sym at.pulled ∙ pulls_first m s t pulls u (deadline_of s) at.kind next)
   where

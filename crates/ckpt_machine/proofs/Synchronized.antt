@@ -5,12 +5,15 @@ use Rattle.std.specs.Option.{option_map}
 use Rattle.std.specs.Prelude.{IsSome, IsSomeAnd}
 use Rattle.std.proofs.lemmas.List.{append-nil}
 use Rattle.std.proofs.lemmas.Option.{same_Some}
+use Rattle.ckpt_machine.proofs.Dropped.{held_as}
+use Rattle.ckpt_types.specs.declared.answers.Answer.{Answer}
 use Rattle.ckpt_types.specs.declared.answers.Answer.TheVariants as answers
 use Rattle.ckpt_types.specs.declared.answers.Outcome.{Outcome}
 use Rattle.ckpt_types.specs.declared.answers.Outcome.TheVariants.{Done}
-use Rattle.ckpt_types.specs.declared.identities.ActorName.{ActorName}
 use Rattle.ckpt_types.specs.declared.identities.CallId.{CallId}
 use Rattle.ckpt_types.specs.declared.operation.Op.{Op}
+use Rattle.ckpt_types.specs.declared.operation.Op.TheVariants as ops
+use Rattle.ckpt_types.specs.declared.words.OpWord.{OpWord}
 use Rattle.ckpt_types.specs.declared.words.OpWord.TheVariants as opwords
 use Rattle.ckpt_types.specs.Asks.{Ask, asked}
 use Rattle.ckpt_types.specs.Asks as asks
@@ -30,14 +33,17 @@ use Rattle.ckpt_machine.specs.Driving.{Kept}
 use Rattle.ckpt_machine.specs.Guards.{PullOk, PullHeld, InstallOk, SyncDone, OnLed, LookDone, LookRow, IsOnOwn, Row, Allowed, serves, all_served, steps_with}
 use Rattle.ckpt_machine.specs.Invariant.{Invariant}
 use Rattle.ckpt_machine.specs.Laws.{SynchronisationsTell}
-use Rattle.ckpt_machine.specs.Machine.{Machine, ReplicaState, Snapshot, CallState, empty_cluster}
+use Rattle.ckpt_machine.specs.Machine.{Machine, Effect, ReplicaState, Snapshot, CallState, empty_cluster, who}
 use Rattle.ckpt_machine.specs.Propagation.{copied}
 use Rattle.ckpt_machine.specs.Replays.{IsPrefix}
 use Rattle.ckpt_machine.specs.Runs.{last, IsRun}
 use Rattle.ckpt_machine.specs.Shape.{IsCompleteOn}
 use Rattle.ckpt_machine.specs.Steps.{Told, IsDue, due, change_replica, with_installed, changed, counted_at, kept_behind, stepped, step_of, call_begun, after}
-use Rattle.ckpt_machine.specs.Synchronized.{Synchronizes, HaveFirst, IsSynchronized}
+use Rattle.ckpt_machine.specs.Synchronized.{Synchronizes, IsPullOf, HaveFirst, IsSynchronized}
 use Rattle.ckpt_machine.proofs.BegunBefore.{begun_longer, all_began}
+use Rattle.ckpt_machine.proofs.BegunOnce.{step_begun}
+use Rattle.ckpt_machine.specs.BeginRows.{BeginRow}
+use Rattle.ckpt_machine.specs.Beginning.{Standing}
 use Rattle.ckpt_machine.proofs.Bringing.{HasPulledIn, HasFirst, IsBringing, stays_bringing, step_brings}
 use Rattle.ckpt_machine.proofs.Copying.{after_pull, after_put}
 use Rattle.ckpt_machine.proofs.EachReplica.{run_copies}
@@ -47,17 +53,19 @@ use Rattle.ckpt_machine.proofs.Growing.{GoesOn, after_goes, stepped_goes}
 use Rattle.ckpt_machine.proofs.Histories.{follows, on_replica-there, run_history}
 use Rattle.ckpt_machine.proofs.OptionLemmas.{IsSomeAnd-at}
 use Rattle.ckpt_machine.proofs.Refusing.{row_at_ckpt, at_node, at_none, at_node_alone}
-use Rattle.ckpt_machine.proofs.ReplicaSteps.{put_actor-cases}
 use Rattle.ckpt_machine.proofs.Runs.{last-push, run_before, run_front, run_more, IsRunFrom-front, IsRunFrom-back}
 use Rattle.ckpt_machine.proofs.Starting.{first_kept, begun_as}
 use Rattle.ckpt_machine.proofs.Sync.{left_is}
-use Rattle.ckpt_machine.proofs.SyncSteps.{IsSynchronize, served_as, served_each, asks_sync}
+use Rattle.ckpt_types.specs.OpWord.{stepped_as, word_of_op}
+use Rattle.ckpt_types.specs.declared.identities.Who.{Who}
+use Rattle.ckpt_machine.proofs.Whose.{put_who-cases}
+use Rattle.ckpt_machine.proofs.SyncSteps.{IsSynchronize, served_as, served_each}
 
 -- ---- in every state of a run
 
 -- each synchronisation that this state has in hand brings what it has pulled in the log
 abbrev AllBring : List Label → Machine → Type 0
-AllBring log m = (a : ActorName) (s : CallState) → m.in_hand a ≡ Some s → IsSynchronize (asked s.op) → IsBringing log m.cluster.entries m.replicas s
+AllBring log m = (a : Who) (s : CallState) → m.in_hand a ≡ Some s → IsSynchronize (asked s.op) → IsBringing log m.cluster.entries m.replicas s
 
 -- a call that begins has nothing in hand, and has served no node
 begun_bringing : (log : List Label) (entries : List Entry) (replicas : ℕ → ℕ → Option ReplicaState) (end : Option Outcome) (call : CallId) (op : Op) (kept : Kept) (s : CallState) → call_begun end call op kept ≡ Some s → IsBringing log entries replicas s
@@ -78,20 +86,20 @@ module _ (log : List Label) (run : IsRun log) (all : AllBring log (last log)) wh
   goes_by l allowed k given = let (inv, history) = run_history log run in after_goes m inv history.bare (run_copies log run) k given l allowed
 
   -- a call that takes no step brings what it has pulled
-  other_brings : (l : Label) (allowed : Allowed m l) (a : ActorName) (s : CallState) → m.in_hand a ≡ Some s → IsSynchronize (asked s.op) → IsBringing (log ++ l ∷ []) (after m l).cluster.entries (after m l).replicas s
+  other_brings : (l : Label) (allowed : Allowed m l) (a : Who) (s : CallState) → m.in_hand a ≡ Some s → IsSynchronize (asked s.op) → IsBringing (log ++ l ∷ []) (after m l).cluster.entries (after m l).replicas s
   other_brings l allowed a s held asks_is = let (inv, history) = run_history log run in stays_bringing log l inv history (run_copies log run) s a held (all a s held asks_is) (after m l).cluster.entries (after m l).replicas (goes_by l allowed)
 
   -- each call in hand brings what it has pulled, behind any label that is allowed and due
   after_brings : (l : Label) → Allowed m l → IsDue m l → AllBring (log ++ l ∷ []) (after m l)
-  after_brings (labels.Began call op end) allowed due a s held asks_is = elim (put_actor-cases m.in_hand call.actor (call_begun end call op (first_kept m call op)) a s held) [
-    | inl own ↦ begun_bringing (log ++ labels.Began call op end ∷ []) m.cluster.entries m.replicas end call op (first_kept m call op) s own.1
-    | inr other ↦ other_brings (labels.Began call op end) allowed a s other.1 asks_is
+  after_brings (labels.Began call op end details) allowed due a s held asks_is = elim (put_who-cases m.in_hand (stepped_as call (word_of_op op)) (call_begun end call op (first_kept m call op)) a s held) [
+    | inl own ↦ begun_bringing (log ++ labels.Began call op end details ∷ []) m.cluster.entries m.replicas end call op (first_kept m call op) s own.1
+    | inr other ↦ other_brings (labels.Began call op end details) allowed a s other.1 asks_is
   ]
   after_brings (labels.Stepped call op verb j q reply end details) allowed due a z in_hand asks_is =
       let l : Label = labels.Stepped call op verb j q reply end details in
       let t : Told = record { verb = verb; ckpt = j; node = q; reply = reply; end = end; details = details } in
       let s = due.state in
-      let held : m.in_hand s.call.actor ≡ Some s = ap (λ (c : CallId). m.in_hand c.actor) due.call_is ∙ due.in_hand in
+      let held : m.in_hand (who s) ≡ Some s = held_as m call op s due.in_hand due.call_is due.word in
       let same : allowed.state ≡ s = same_Some allowed.state s (sym allowed.in_hand ∙ due.in_hand) in
       let row = subst (λ z. Row m z verb t) same allowed.row in
       let own = subst (λ (z : CallState). IsOnOwn verb j z.kept.ckpt) same allowed.own in
@@ -100,15 +108,15 @@ module _ (log : List Label) (run : IsRun log) (all : AllBring log (last log)) wh
       let behind : CallState = kept_behind m s n.cluster verb j q reply in
       let goes : (k : ℕ) → k ≤ m.cluster.last_identity → GoesOn m k n = λ k given. stepped_goes m inv history.bare (run_copies log run) k given s held t own row in
       let there = subst (λ o. (step_of m o verb j q reply end).in_hand a ≡ Some z) due.in_hand in_hand in
-      subst (λ o. IsBringing (log ++ l ∷ []) (step_of m o verb j q reply end).cluster.entries (step_of m o verb j q reply end).replicas z) (sym due.in_hand) (elim (put_actor-cases n.in_hand s.call.actor (left end behind) a z there) [
+      subst (λ o. IsBringing (log ++ l ∷ []) (step_of m o verb j q reply end).cluster.entries (step_of m o verb j q reply end).replicas z) (sym due.in_hand) (elim (put_who-cases n.in_hand (who s) (left end behind) a z there) [
         | inl here ↦ (
             let asks_own : IsSynchronize (asked s.op) = subst (λ (z : CallState). IsSynchronize (asked z.op)) (sym (left_is end behind z here.1)) asks_is in
-            subst (IsBringing (log ++ l ∷ []) n.cluster.entries n.replicas) (left_is end behind z here.1) (step_brings log inv history (run_copies log run) s held (all s.call.actor s held asks_own) asks_own call due.call_is op end details verb j q reply goes due.done own row))
+            subst (IsBringing (log ++ l ∷ []) n.cluster.entries n.replicas) (left_is end behind z here.1) (step_brings log inv history (run_copies log run) s held (all (who s) s held asks_own) asks_own call due.call_is op end details verb j q reply goes due.done own row))
         | inr other ↦ (
-            let was : m.in_hand a ≡ Some z = sym ((follows m inv history s held t row).in_hand a) ∙ other.1 in
+            let was : m.in_hand a ≡ Some z = (follows m inv history s held t row).in_hand a z other.1 in
             stays_bringing log l inv history (run_copies log run) z a was (all a z was asks_is) n.cluster.entries n.replicas goes)
       ])
-  after_brings (labels.Word who line said) allowed due a s held asks_is = other_brings (labels.Word who line said) allowed a s held asks_is
+  after_brings (labels.Word by line said) allowed due a s held asks_is = other_brings (labels.Word by line said) allowed a s held asks_is
   after_brings (labels.Nodes n) allowed due a s held asks_is = other_brings (labels.Nodes n) allowed a s held asks_is
   after_brings (labels.Moved t) allowed due a s held asks_is = other_brings (labels.Moved t) allowed a s held asks_is
   after_brings (labels.Shown k replicas) allowed due a s held asks_is = other_brings (labels.Shown k replicas) allowed a s held asks_is
@@ -130,13 +138,13 @@ all_bring log run = bring_from [] log run (λ a s held asks_is. absurd (cc held)
 
 -- ---- the label that answers OK
 
--- where a synchronisation is answered OK the test for that was met, and the count is the one that was pulled
-ends_if : (b : Bool) (count n : ℕ) → Some (Done (answers.Pulled count)) ≡ cond b (Some (Done (answers.Pulled n))) None → (b ≡ true) × (n ≡ count)
-ends_if true count n is = (refl, (let same : n ≡ count = cc is in same))
-ends_if false count n is = absurd (cc is)
+-- where a synchronisation is answered OK the test for that was met, and the answer is the count that was pulled
+ends_if : (b : Bool) (answer : Answer) (n : ℕ) → Some (Done answer) ≡ cond b (Some (Done (answers.Pulled n))) None → (b ≡ true) × (answer ≡ answers.Pulled n)
+ends_if true answer n is = (refl, (let same : answer ≡ answers.Pulled n = cc is in same))
+ends_if false answer n is = absurd (cc is)
 
--- a call has in hand a snapshot of the present generation of its checkpoint, with so many effects, and its steps have served each complete node
-record HasServedAll (entries : List Entry) (s : CallState) (count : ℕ) : Type 0 where
+-- a call has in hand a snapshot of the present generation of its checkpoint, whose effects the answer counts, and its steps have served each complete node
+record HasServedAll (entries : List Entry) (s : CallState) (answer : Answer) : Type 0 where
   ckpt : ℕ
   kept : s.kept.ckpt ≡ Some ckpt
   entry : Entry
@@ -144,18 +152,18 @@ record HasServedAll (entries : List Entry) (s : CallState) (count : ℕ) : Type 
   pulled : Snapshot
   in_hand : s.snapshot ≡ Some pulled
   present : pulled.generation ≡ entry.generation
-  count_is : length pulled.effects ≡ count
+  answer_is : answer ≡ answers.Pulled (length pulled.effects)
   all : (r : ℕ) → IsCompleteOn entry r → list_any (serves r) s.steps ≡ true
 
 module _ (m : Machine) (inv : Invariant m)
-    (s : CallState) (place : ℕ) (timeout : ℤ) (asks_is : asked s.op ≡ asks.Synchronize place timeout) (count : ℕ) (details : Details) where
+    (s : CallState) (place : ℕ) (timeout : Option ℤ) (asks_is : asked s.op ≡ asks.Synchronize place timeout) (answer : Answer) (details : Details) where
   -- the parts of the label that answers OK
   abbrev t_of : Verb → Option ℕ → Option ℕ → StepReply → Told
-  t_of verb j q reply = record { verb = verb; ckpt = j; node = q; reply = reply; end = Some (Done (answers.Pulled count)); details = details }
+  t_of verb j q reply = record { verb = verb; ckpt = j; node = q; reply = reply; end = Some (Done answer); details = details }
 
   -- a call has served all complete nodes behind a step of its own
   abbrev ServesAllBy : Verb → Option ℕ → Option ℕ → StepReply → Type 0
-  ServesAllBy verb j q reply = HasServedAll (changed m s verb j q reply).cluster.entries (kept_behind m s (changed m s verb j q reply).cluster verb j q reply) count
+  ServesAllBy verb j q reply = HasServedAll (changed m s verb j q reply).cluster.entries (kept_behind m s (changed m s verb j q reply).cluster verb j q reply) answer
 
   -- where the test for the end is met, each complete node is served by one of the steps
   each_served : (t : Told) (e : Entry) → all_served (steps_with m s t) 0 e.complete ≡ true → (r : ℕ) → IsCompleteOn e r → list_any (serves r) (steps_with m s t) ≡ true
@@ -166,8 +174,8 @@ module _ (m : Machine) (inv : Invariant m)
   by_pull j q words.Ok own row =
       let t = t_of verbs.Pull (Some j) (Some q) words.Ok in
       let (e, x, found, there, ok) = on_replica-there m j q (PullOk m s q t) row.0.3 in
-      let (all, n) = ends_if (all_served (steps_with m s t) 0 e.complete) count (length x.effects) ok.answer in
-      record { ckpt = j; kept = sym own; entry = e; found = found; pulled = copied x; in_hand = ap (option_map copied) there; present = (generation_there m inv j q e x found there).led ok.active; count_is = n; all = each_served t e all }
+      let (all, n) = ends_if (all_served (steps_with m s t) 0 e.complete) answer (length x.effects) ok.answer in
+      record { ckpt = j; kept = sym own; entry = e; found = found; pulled = copied x; in_hand = ap (option_map copied) there; present = (generation_there m inv j q e x found there).led ok.active; answer_is = n; all = each_served t e all }
   by_pull j q (words.Held by) own row =
       let (e, x, found, there, held) = on_replica-there m j q (PullHeld m s q by (t_of verbs.Pull (Some j) (Some q) (words.Held by))) row.0.3 in
       absurd (let is = held.held.answer in cc is)
@@ -178,23 +186,23 @@ module _ (m : Machine) (inv : Invariant m)
   by_install j q words.Ok own row =
       let t = t_of verbs.Install (Some j) (Some q) words.Ok in
       let (e, x, found, there, ok) = on_replica-there m j q (InstallOk m s q t true) row.0.3 in
-      let (all, n) = ends_if (all_served (steps_with m s t) 0 e.complete) count (length ok.pulled.effects) ok.answer in
+      let (all, n) = ends_if (all_served (steps_with m s t) 0 e.complete) answer (length ok.pulled.effects) ok.answer in
       let found_then : entry_of j (changed m s verbs.Install (Some j) (Some q) words.Ok).cluster.entries ≡ Some e = ap (λ o. entry_of j (change_replica m j q o (with_installed s.snapshot)).cluster.entries) there ∙ found in
-      record { ckpt = j; kept = sym own; entry = e; found = found_then; pulled = ok.pulled; in_hand = ok.in_hand; present = ok.present; count_is = n; all = each_served t e all }
+      record { ckpt = j; kept = sym own; entry = e; found = found_then; pulled = ok.pulled; in_hand = ok.in_hand; present = ok.present; answer_is = n; all = each_served t e all }
   by_install j q words.Older own row =
       let t = t_of verbs.Install (Some j) (Some q) words.Older in
       let (e, x, found, there, ok) = on_replica-there m j q (InstallOk m s q t false) row.0.3 in
-      let (all, n) = ends_if (all_served (steps_with m s t) 0 e.complete) count (length ok.pulled.effects) ok.answer in
-      record { ckpt = j; kept = sym own; entry = e; found = found; pulled = ok.pulled; in_hand = ok.in_hand; present = ok.present; count_is = n; all = each_served t e all }
+      let (all, n) = ends_if (all_served (steps_with m s t) 0 e.complete) answer (length ok.pulled.effects) ok.answer in
+      record { ckpt = j; kept = sym own; entry = e; found = found; pulled = ok.pulled; in_hand = ok.in_hand; present = ok.present; answer_is = n; all = each_served t e all }
   by_install j q reply own row = absurd row.0.3
 
   -- a call that ends by a look had served all complete nodes
-  by_look : (j q : Option ℕ) (reply : StepReply) → LookRow m s reply (Some (Done (answers.Pulled count))) → ServesAllBy verbs.Look j q reply
-  by_look j q words.Done row = led s.kept.ckpt refl (subst (λ ask. LookDone m s ask (answers.Pulled count)) asks_is row).0
+  by_look : (j q : Option ℕ) (reply : StepReply) → LookRow m s reply (Some (Done answer)) → ServesAllBy verbs.Look j q reply
+  by_look j q words.Done row = told answer refl (subst (λ ask. LookDone m s ask answer) asks_is row)
     where
-      led : (o : Option ℕ) → s.kept.ckpt ≡ o → OnLed m o (λ e. IsSomeAnd s.snapshot (SyncDone m s count e)) → ServesAllBy verbs.Look j q words.Done
-      led None kept none = absurd none
-      led (Some k) kept on =
+      led : (count : ℕ) → answer ≡ answers.Pulled count → (o : Option ℕ) → s.kept.ckpt ≡ o → OnLed m o (λ e. IsSomeAnd s.snapshot (SyncDone m s count e)) → ServesAllBy verbs.Look j q words.Done
+      led count is None kept none = absurd none
+      led count is (Some k) kept on =
           let (e, found, both) = IsSomeAnd-at (entry_of k m.cluster.entries) (λ e. IsSome e.active × IsSomeAnd s.snapshot (SyncDone m s count e)) on in
           let (pulled, in_hand, ok) = IsSomeAnd-at s.snapshot (SyncDone m s count e) both.1 in
           let d = counting (counted_at m verbs.Look j q words.Done) (done_of m.cluster verbs.Look j q words.Done) in
@@ -206,9 +214,14 @@ module _ (m : Machine) (inv : Invariant m)
             pulled = pulled;
             in_hand = in_hand;
             present = ok.0;
-            count_is = ok.1;
+            answer_is = is ∙ ap answers.Pulled (sym ok.1);
             all = λ r complete. (let same : 0 + r ≡ r = omega arith in served_as r d s.steps refl ∙ subst (λ r. list_any (serves r) s.steps ≡ true) same (served_each s.steps 0 e.complete ok.2 r complete));
           }
+
+      -- a look answers a synchronisation with a count alone
+      told : (a : Answer) → answer ≡ a → LookDone m s (asks.Synchronize place timeout) a → ServesAllBy verbs.Look j q words.Done
+      told (answers.Pulled count) is row = led count is s.kept.ckpt refl row.0
+      told a is row = absurd row
   by_look j q reply row = absurd row
 
   -- a synchronisation asks for nothing else
@@ -249,8 +262,8 @@ module _ (m : Machine) (inv : Invariant m)
   all_by verb j q reply own row = absurd row
 
 -- where a call has served all complete nodes, each complete replica has first what it has in hand
-have_first : (log : List Label) (n : Machine) (s : CallState) (count : ℕ) → IsBare n → IsBringing log n.cluster.entries n.replicas s → (all : HasServedAll n.cluster.entries s count) → HaveFirst n all.ckpt all.pulled.effects
-have_first log n s count bare brings all e r x found there =
+have_first : (log : List Label) (n : Machine) (s : CallState) (answer : Answer) → IsBare n → IsBringing log n.cluster.entries n.replicas s → (all : HasServedAll n.cluster.entries s answer) → HaveFirst n all.ckpt all.pulled.effects
+have_first log n s answer bare brings all e r x found there =
     let same : all.entry ≡ e = same_Some all.entry e (sym all.found ∙ found) in
     let (f, is, complete_at) = IsSomeAnd-at (entry_of all.ckpt n.cluster.entries) (λ e. IsCompleteOn e r) (bare.complete all.ckpt r x there) in
     let complete : IsCompleteOn all.entry r = subst (λ e. IsCompleteOn e r) (same_Some f all.entry (sym is ∙ all.found)) complete_at in
@@ -258,31 +271,50 @@ have_first log n s count bare brings all e r x found there =
     let x_is : y ≡ x = same_Some y x (sym at ∙ there) in
     subst (λ (x : ReplicaState). (x.generation ≡ e.generation) × IsPrefix all.pulled.effects x.effects) x_is (first.0 ∙ all.present ∙ ap (λ (e : Entry). e.generation) same, first.1)
 
--- a label that answers OK to a synchronisation tells what is so behind it
-tells : (log : List Label) → IsRun log → (l : Label) → Allowed (last log) l → IsDue (last log) l → (call : CallId) (count : ℕ) → Synchronizes l call count → IsSynchronized (log ++ l ∷ []) call count
-tells log run (labels.Stepped d opwords.Sync verb j q reply (Some (Done (answers.Pulled n))) details) allowed due call count is =
-    subst (λ call. IsSynchronized (log ++ l ∷ []) call count) (due.call_is ∙ is.0) (record {
+-- the word asks for a synchronisation, for which its client waits or not
+abbrev IsSyncWord : OpWord → Type 0
+IsSyncWord opwords.Sync = Unit {0}
+IsSyncWord opwords.SyncAsync = Unit {0}
+IsSyncWord word = ⊥
+
+-- a call with such a word asks for one
+asks_by : (op : Op) → IsSyncWord (word_of_op op) → (place : ℕ) × (timeout : Option ℤ) × (asked op ≡ asks.Synchronize place timeout)
+asks_by (ops.Sync place timeout) is = (place, Some timeout, refl)
+asks_by (ops.SyncAsync place invocation) is = (place, None, refl)
+asks_by op is = absurd is
+
+-- a call that has pulled in a run began in front of its pull
+pull_begun : (log : List Label) → IsRun log → (before behind : List Label) (pull : Label) (call : CallId) (k r : ℕ) → log ≡ before ++ pull ∷ behind → IsPullOf pull call k r → (op : Op) (ckpt : Option ℕ) → HasBegun log call op ckpt → HasBegun before call op ckpt
+pull_begun log run before behind (labels.Stepped d word verbs.Pull (Some j) (Some q) words.Ok end details) call k r is of op ckpt begun = step_begun log run before behind d word verbs.Pull (Some j) (Some q) words.Ok end details call is of.0 op ckpt begun
+pull_begun log run before behind l call k r is of op ckpt begun = absurd of
+
+-- a step that answers OK to a synchronisation tells what is so behind it
+tells_by : (log : List Label) → IsRun log → (d : CallId) (word : OpWord) → IsSyncWord word → (verb : Verb) (j q : Option ℕ) (reply : StepReply) (told : Answer) (details : Details) → let l : Label = labels.Stepped d word verb j q reply (Some (Done told)) details in
+    Allowed (last log) l → IsDue (last log) l → (call : CallId) (answer : Answer) → (d ≡ call) × (told ≡ answer) → IsSynchronized (log ++ l ∷ []) call answer
+tells_by log run d word syncs verb j q reply told details allowed due call answer is =
+    subst (λ call. IsSynchronized (log ++ l ∷ []) call answer) (due.call_is ∙ is.0) (record {
       op = s.op;
       ckpt = all.ckpt;
-      begun = begun_longer log l s.call s.op (Some all.ckpt) (subst (HasBegun log s.call s.op) all.kept (all_began log run s held));
       before = from.before;
       behind = from.behind;
       pull = from.pull;
       node = from.node;
       log_is = from.log_is;
+      begun = pull_begun (log ++ l ∷ []) (run_more log l run allowed due) from.before from.behind from.pull s.call all.ckpt from.node from.log_is from.pull_is s.op (Some all.ckpt) (begun_longer log l s.call s.op (Some all.ckpt) (subst (HasBegun log s.call s.op) all.kept (all_began log run s held)));
       pull_is = from.pull_is;
       active = from.active;
       source = from.source;
       there = from.there;
-      count_is = ap length from.effects ∙ all.count_is ∙ is.1;
-      have = subst (HaveFirst (last (log ++ l ∷ [])) all.ckpt) (sym from.effects) (subst (λ m. HaveFirst m all.ckpt all.pulled.effects) (sym then_is) (have_first (log ++ l ∷ []) then_machine behind n (subst IsBare then_is bare) (record { none = brings.none; pulled = brings.pulled; served = brings.served }) all));
+      answer_is = sym is.1 ∙ all.answer_is ∙ ap (λ (xs : List Effect). answers.Pulled (length xs)) (sym from.effects);
+      stands = subst (λ (m : Machine). IsSome (entry_of all.ckpt m.cluster.entries)) (sym then_is) (subst IsSome (sym all.found) refl);
+      have = subst (HaveFirst (last (log ++ l ∷ [])) all.ckpt) (sym from.effects) (subst (λ m. HaveFirst m all.ckpt all.pulled.effects) (sym then_is) (have_first (log ++ l ∷ []) then_machine behind told (subst IsBare then_is bare) (record { none = brings.none; pulled = brings.pulled; served = brings.served }) all));
     })
   where
     end : Option Outcome
-    end = Some (Done (answers.Pulled n))
+    end = Some (Done told)
 
     l : Label
-    l = labels.Stepped d opwords.Sync verb j q reply end details
+    l = labels.Stepped d word verb j q reply end details
 
     t : Told
     t = record { verb = verb; ckpt = j; node = q; reply = reply; end = end; details = details }
@@ -290,8 +322,8 @@ tells log run (labels.Stepped d opwords.Sync verb j q reply (Some (Done (answers
     s : CallState
     s = due.state
 
-    held : (last log).in_hand s.call.actor ≡ Some s
-    held = ap (λ (c : CallId). (last log).in_hand c.actor) due.call_is ∙ due.in_hand
+    held : (last log).in_hand (who s) ≡ Some s
+    held = held_as (last log) d word s due.in_hand due.call_is due.word
 
     same : allowed.state ≡ s
     same = same_Some allowed.state s (sym allowed.in_hand ∙ due.in_hand)
@@ -320,21 +352,33 @@ tells log run (labels.Stepped d opwords.Sync verb j q reply (Some (Done (answers
     brings : IsBringing (log ++ l ∷ []) changed_machine.cluster.entries changed_machine.replicas behind
     brings =
         let (inv, history) = run_history log run in
-        let asks_is : IsSynchronize (asked s.op) = (let (place, timeout, is) = asks_sync s.op due.word in subst IsSynchronize (sym is) tt) in
-        step_brings log inv history (run_copies log run) s held (all_bring log run s.call.actor s held asks_is) asks_is d due.call_is opwords.Sync end details verb j q reply
+        let asks_is : IsSynchronize (asked s.op) = (let (place, timeout, is) = asks_by s.op (subst IsSyncWord (sym due.word) syncs) in subst IsSynchronize (sym is) tt) in
+        step_brings log inv history (run_copies log run) s held (all_bring log run (who s) s held asks_is) asks_is d due.call_is word end details verb j q reply
         (λ k given. stepped_goes (last log) inv history.bare (run_copies log run) k given s held t own row) due.done own row
 
-    all : HasServedAll changed_machine.cluster.entries behind n
+    all : HasServedAll changed_machine.cluster.entries behind told
     all =
-        let (place, timeout, asks_is) = asks_sync s.op due.word in
-        all_by (last log) (run_history log run).0 s place timeout asks_is n details verb j q reply own row
+        let (place, timeout, asks_is) = asks_by s.op (subst IsSyncWord (sym due.word) syncs) in
+        all_by (last log) (run_history log run).0 s place timeout asks_is told details verb j q reply own row
 
     from : HasPulledIn (log ++ l ∷ []) s.call all.ckpt all.pulled
     from = brings.pulled all.ckpt all.pulled all.kept all.in_hand
-tells log run l allowed due call count is = absurd is
+
+-- one for which its client waits is answered OK at no beginning
+not_at_once : (st : Standing) (place : ℕ) (timeout : ℤ) (answer : Answer) → BeginRow st (asks.Synchronize place (Some timeout)) (Some (Done answer)) → ⊥
+not_at_once st place timeout answers.Nothing row = let at_once = row.1 in cc at_once
+not_at_once st place timeout (answers.Dispatched given) row = absurd row.1
+not_at_once st place timeout answer row = absurd row
+
+-- so does any label that answers OK to one
+tells : (log : List Label) → IsRun log → (l : Label) → Allowed (last log) l → IsDue (last log) l → (call : CallId) (answer : Answer) → Synchronizes l call answer → IsSynchronized (log ++ l ∷ []) call answer
+tells log run (labels.Began d (ops.Sync place timeout) (Some (Done told)) details) allowed due call answer is = absurd (not_at_once _ place timeout told allowed.row)
+tells log run (labels.Stepped d opwords.Sync verb j q reply (Some (Done told)) details) allowed due call answer is = tells_by log run d opwords.Sync tt verb j q reply told details allowed due call answer is
+tells log run (labels.Stepped d opwords.SyncAsync verb j q reply (Some (Done told)) details) allowed due call answer is = tells_by log run d opwords.SyncAsync tt verb j q reply told details allowed due call answer is
+tells log run l allowed due call answer is = absurd is
 
 -- THE LAW: what a synchronisation that was answered OK promises
 pub synchronisations_tell : SynchronisationsTell
-synchronisations_tell log run front back l call count is answers =
+synchronisations_tell log run front back l call answer is answers =
     let (before, allowed, due) = run_before empty_cluster front l (run_front log (front ++ l ∷ []) back (is ∙ sym (append_assoc front (l ∷ []) back)) run) in
-    tells front before l allowed due call count answers
+    tells front before l allowed due call answer answers

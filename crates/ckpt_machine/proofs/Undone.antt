@@ -2,30 +2,30 @@
 use Rattle.std.proofs.Common.{◌≡◌, ◌≢◌, ℕ, inl, inr, filter, Option, Some, None, Bool, true, false, cond, not, ◌==◌, refl, sym, ap, ◌∙◌}
 use Rattle.std.specs.Prelude.{is_some, IsSome}
 use Rattle.std.proofs.lemmas.Bool.{eq-eqb}
-use Rattle.ckpt_types.specs.declared.identities.ActorName.{ActorName}
 use Rattle.ckpt_types.specs.declared.identities.CallId.{CallId}
 use Rattle.cluster_record.specs.declared.calls.Making.{Making}
 use Rattle.cluster_record.specs.declared.entries.Entry.{Entry}
 use Rattle.cluster_record.specs.DueOpen.{OpenState}
-use Rattle.cluster_record.specs.Calls.{same_actor, put_actor}
 use Rattle.cluster_record.specs.RecordState.{RecordState, entry_of, identity_of, stays, swept, undone}
 use Rattle.cluster_record.proofs.IdentityLaws.{IdentitiesRise-filter, AllUpTo-filter}
 use Rattle.ckpt_machine.specs.Drivers as drivers
-use Rattle.ckpt_machine.specs.Machine.{Machine, CallState}
+use Rattle.ckpt_machine.specs.Machine.{Machine, CallState, who}
 use Rattle.ckpt_machine.specs.Steps.{driver_of, record_step}
 use Rattle.ckpt_machine.specs.Shape.{Shape}
 use Rattle.ckpt_machine.specs.Invariant.{IsMaker, InvariantIn, Invariant}
 use Rattle.ckpt_machine.specs.Later.{IsLaterEntry, IsLaterRecord}
 use Rattle.ckpt_machine.proofs.EntryLists.{find_key-key, find_key-without, AllStay-swept}
-use Rattle.ckpt_machine.proofs.Actors.{same_actor-true}
+use Rattle.ckpt_machine.proofs.CallsKept.{apart_from}
 use Rattle.ckpt_machine.proofs.Entries.{ComesOf, ComesOf-filter, ComesOf-then, found_filter}
 use Rattle.ckpt_machine.proofs.Moment.{IsLaterEntry-refl, making_stays}
-use Rattle.ckpt_machine.proofs.ReplicaSteps.{put_actor-cases, put_actor-other}
-use Rattle.ckpt_machine.proofs.OwnMaking.{owner_apart, marker_apart, holder_apart, maker_same, entry_apart, actor_apart}
+use Rattle.ckpt_machine.proofs.OwnMaking.{owner_apart, marker_apart, holder_apart, maker_same, entry_apart}
 use Rattle.ckpt_machine.proofs.PlainCalls.{ending, IsLaterEntry-then}
+use Rattle.ckpt_machine.specs.Whose.{put_who, same_who}
+use Rattle.ckpt_types.specs.declared.identities.Who.{Who}
+use Rattle.ckpt_machine.proofs.Whose.{same_who-true, put_who-cases, put_who-other}
 use Rattle.ckpt_machine.proofs.RecordSteps.{record_keeps}
 
-module _ (m : Machine) (shapes : ℕ → Shape) (inv : InvariantIn shapes m) (s : CallState) (o : OpenState) (making : Making) (held : m.in_hand s.call.actor ≡ Some s) (is : driver_of s ≡ drivers.Open o) (makes : o.making ≡ Some making) where
+module _ (m : Machine) (shapes : ℕ → Shape) (inv : InvariantIn shapes m) (s : CallState) (o : OpenState) (making : Making) (held : m.in_hand (who s) ≡ Some s) (is : driver_of s ≡ drivers.Open o) (makes : o.making ≡ Some making) where
   -- the entry is another one
   abbrev others : Entry → Bool
   others e = not (e.identity == making.ckpt)
@@ -35,8 +35,8 @@ module _ (m : Machine) (shapes : ℕ → Shape) (inv : InvariantIn shapes m) (s 
   R = swept (undone making.ckpt m.cluster)
 
   -- the calls in hand without it
-  abbrev left_hands : ActorName → Option CallState
-  left_hands = put_actor m.in_hand s.call.actor None
+  abbrev left_hands : Who → Option CallState
+  left_hands = put_who m.in_hand (who s) None
 
   -- the entries that are left
   undone_later : ComesOf IsLaterEntry m.cluster.entries R.entries
@@ -58,13 +58,13 @@ module _ (m : Machine) (shapes : ℕ → Shape) (inv : InvariantIn shapes m) (s 
       (making_stays m.cluster.moment e (ap is_some by)))
 
   -- the maker of what is left is another
-  maker_other : (j : ℕ) (d : CallId) → IsSome (entry_of j R.entries) → IsMaker m j d → same_actor d.actor s.call.actor ≡ false
-  maker_other j d there own = by_test (same_actor d.actor s.call.actor) refl
+  maker_other : (j : ℕ) (d : CallId) → IsSome (entry_of j R.entries) → (own : IsMaker m j d) → same_who (who own.state) (who s) ≡ false
+  maker_other j d there own = by_test (same_who (who own.state) (who s)) refl
     where
-      by_test : (b : Bool) → same_actor d.actor s.call.actor ≡ b → same_actor d.actor s.call.actor ≡ false
+      by_test : (b : Bool) → same_who (who own.state) (who s) ≡ b → same_who (who own.state) (who s) ≡ false
       by_test false is_not = is_not
       by_test true same =
-          let at_k : j ≡ making.ckpt = maker_same m s o held is making makes j d own (same_actor-true d.actor s.call.actor same) in
+          let at_k : j ≡ making.ckpt = maker_same m s o held is making makes j d own (same_who-true (who own.state) (who s) same) in
           absurd (let gone = gone_still j (ap (λ n. entry_of n (filter others m.cluster.entries)) at_k ∙ own_gone) in let w : false ≡ true = sym (ap is_some gone) ∙ there in cc w)
         where
           -- what is gone is gone in a sweep
@@ -78,8 +78,8 @@ module _ (m : Machine) (shapes : ℕ → Shape) (inv : InvariantIn shapes m) (s 
                   absurd (let w : None ≡ Some e = sym none ∙ was in cc w)
 
   -- another's, where it is left
-  left_other : {P : Type 0} → (a : ActorName) (z : CallState) → left_hands a ≡ Some z → (same_actor a s.call.actor ≡ false → m.in_hand a ≡ Some z → P) → P
-  left_other {P} a z left then_it = elim (put_actor-cases m.in_hand s.call.actor None a z left) [
+  left_other : {P : Type 0} → (a : Who) (z : CallState) → left_hands a ≡ Some z → (same_who a (who s) ≡ false → m.in_hand a ≡ Some z → P) → P
+  left_other {P} a z left then_it = elim (put_who-cases m.in_hand (who s) None a z left) [
     | inl here ↦ absurd (let w : None ≡ Some z = here.1 in cc w)
     | inr other ↦ then_it other.0 other.1
   ]
@@ -98,12 +98,12 @@ module _ (m : Machine) (shapes : ℕ → Shape) (inv : InvariantIn shapes m) (s 
     was_held = λ a z left. left_other a z left (λ other at. at);
     live = λ a z left live. live;
     lives = λ a z left. refl;
-    makes = λ a z j e left found by. left_other a z left (λ other at. makes_still z (actor_apart s a z (inv.hands a z at).actor other) j e found by);
-    owners = λ j sh d own. put_actor-other m.in_hand s.call.actor None d.actor (owner_apart m s o held is j sh d own);
-    markers = λ j marks there own. put_actor-other m.in_hand s.call.actor None marks.call.actor (marker_apart m s o held is j marks own);
+    makes = λ a z j e left found by. left_other a z left (λ other at. makes_still z (apart_from m.in_hand m.pending m.next inv.calls s held a z at other) j e found by);
+    owners = λ j sh d own. put_who-other m.in_hand (who s) None (who own.state) (owner_apart m s o held is j sh d own);
+    markers = λ j marks there own. put_who-other m.in_hand (who s) None (who own.state) (marker_apart m s o held is j marks own);
     homes = λ a h among. refl;
-    holders = λ j active d there own. put_actor-other m.in_hand s.call.actor None d.actor (holder_apart m s o held is j active d own);
-    makers = λ j d there own. put_actor-other m.in_hand s.call.actor None d.actor (maker_other j d there own);
+    holders = λ j active d there own. put_who-other m.in_hand (who s) None (who own.state) (holder_apart m s o held is j active d own);
+    makers = λ j d there own. put_who-other m.in_hand (who s) None (who own.state) (maker_other j d there own);
   }
 
   -- the invariant holds after it

@@ -13,7 +13,7 @@ use Rattle.cluster_record.specs.declared.entries.Entry.{Entry}
 use Rattle.cluster_record.specs.declared.calls.UpdatePhase.{UpdatePhase}
 use Rattle.cluster_record.specs.declared.calls.UpdatePhase.TheVariants.{Staging, Committing}
 use Rattle.cluster_record.specs.DueUpdate.{UpdateState, kept_moment, done_if_none, by_phase, update_on, update_next, commit_end}
-use Rattle.cluster_record.specs.Calls.{same_actor, same_call}
+use Rattle.cluster_record.specs.Calls.{same_call}
 use Rattle.cluster_record.specs.Places.{put2}
 use Rattle.cluster_record.specs.RecordState.{entry_of, complete_of, is_live}
 use Rattle.cluster_record.specs.StepDone.{has, lacks, last_having, first_lacking, done_of}
@@ -33,8 +33,8 @@ use Rattle.cluster_record.specs.Makings.{making_of}
 use Rattle.node_core.specs.Serving.{update_answer, commit_answer, told_id, stage_reply, done_or_refused, reply_at, details_at, slot_id}
 use Rattle.node_core.specs.Seen.{record_seen}
 use Rattle.ckpt_machine.specs.Driving.{making_in, refused_cause, driver_taken}
-use Rattle.ckpt_machine.specs.Machine.{Machine, Staged, ReplicaState, CallState}
-use Rattle.ckpt_machine.specs.Steps.{Told, IsDone, IsServed, driver_of, payload_due, stepped, kept_behind, staged_moment, ended_details, with_committed, with_slot, seen_at, seen_slot, change_replica, without_making}
+use Rattle.ckpt_machine.specs.Machine.{Machine, Staged, ReplicaState, CallState, who}
+use Rattle.ckpt_machine.specs.Steps.{Told, IsDone, IsServed, driver_of, payload_due, left_in_hand, kept_behind, staged_moment, ended_details, with_committed, with_slot, seen_at, seen_slot, change_replica, without_making}
 use Rattle.ckpt_machine.specs.Guards.{StageRefused, StageHeld, owns_slot, LookRefused, GoneLook, NoActiveLook, ChangeLook, HasNoActive}
 use Rattle.ckpt_machine.specs.Left.{update_left, steps_left}
 use Rattle.ckpt_machine.proofs.StepsLeft.{update_nearer}
@@ -54,7 +54,7 @@ slot_owner : (z : Shape) (call : CallId) (o : Option CallId) → owns_slot call 
 slot_owner z call None = refl
 slot_owner z call (Some d) = refl
 
-module _ (m : Machine) (shapes : ℕ → Shape) (inv : InvariantIn shapes m) (s : CallState) (u : UpdateState) (held : m.in_hand s.call.actor ≡ Some s) (is : driver_of s ≡ drivers.Update u) where
+module _ (m : Machine) (shapes : ℕ → Shape) (inv : InvariantIn shapes m) (s : CallState) (u : UpdateState) (held : m.in_hand (who s) ≡ Some s) (is : driver_of s ≡ drivers.Update u) where
   abbrev z : Shape
   z = shapes u.ckpt
 
@@ -70,7 +70,7 @@ module _ (m : Machine) (shapes : ℕ → Shape) (inv : InvariantIn shapes m) (s 
       let was = at m shapes inv s u held is in
       subst (Goes m s (drivers.Update u)) (sym done) (record {
         row = (refl, refl, subst (λ (a : Ask). LookRefused m s a NotExist Plain) (sym was.asks) (change_gone s.kept.all was.kept gone), refl);
-        holds = subst (λ k. let n = without_making k m in Invariant (stepped n (kept_behind m s n.cluster verbs.Look None None words.Refused) (Some (Refused NotExist Plain)))) (sym none)
+        holds = subst (λ k. let n = without_making k m in Invariant (left_in_hand n (kept_behind m s n.cluster verbs.Look None None words.Refused) (Some (Refused NotExist Plain)))) (sym none)
             (ended_keeps m shapes inv s u held is (λ e found. absurd (let w : None ≡ Some e = sym gone ∙ found in cc)));
         nearer = λ none. absurd (cc none);
       })
@@ -157,12 +157,12 @@ module _ (m : Machine) (shapes : ℕ → Shape) (inv : InvariantIn shapes m) (s 
 
         -- staged
         staged_moves : (w : Shape) (spread_w : IsSpread m u.ckpt w e) (stages : Stages w s moment e) (mom : staged_moment m u.ckpt ≡ moment) (shaped : IsShaped w None x) → OwnsIn w s u e → w.owners r ≡ None
-            → ((w.marks ≡ (shapes u.ckpt).marks) × ((call : CallId) (q : ℕ) → same_actor call.actor s.call.actor ≡ false → is_owner call (w.owners q) ≡ is_owner call ((shapes u.ckpt).owners q))) → x.slot ≡ None → Gives (Ok w.outcome) → Goes m s (drivers.Update u) t
+            → ((w.marks ≡ (shapes u.ckpt).marks) × ((call : CallId) (q : ℕ) → call ≢ s.call → is_owner call (w.owners q) ≡ is_owner call ((shapes u.ckpt).owners q))) → x.slot ≡ None → Gives (Ok w.outcome) → Goes m s (drivers.Update u) t
         staged_moves w spread_w stages mom shaped owns free keeps slot gives =
             let told = IsServed-told m s r to_stage t (drivers.Update u) (replies.Done answers.Nothing) served is (answered None slot ∙ ap (done_or_refused (replies.Done answers.Nothing)) gives) in
             subst (Goes m s (drivers.Update u)) (sym told) (record {
               row = ((_, _, asks_own, stage_row m shapes inv s u held is e found w moment spread_w stages mom r x there shaped), refl);
-              holds = subst (λ o. let n = change_replica m u.ckpt r o (with_slot s.call (update_of s.op) (staged_moment m u.ckpt)) in Invariant (stepped n (kept_behind m s n.cluster verbs.Stage (Some u.ckpt) (Some r) words.Ok) None)) (sym there)
+              holds = subst (λ o. let n = change_replica m u.ckpt r o (with_slot s.call (update_of s.op) (staged_moment m u.ckpt)) in Invariant (left_in_hand n (kept_behind m s n.cluster verbs.Stage (Some u.ckpt) (Some r) words.Ok) None)) (sym there)
                   (stage_leads m shapes inv s u held is e found w moment spread_w stages mom r x there shaped complete refl owns before free keeps);
               nearer = λ none. subst (λ o. let R = (change_replica m u.ckpt r o (with_slot s.call (update_of s.op) (staged_moment m u.ckpt))).cluster in
                   steps_left R (driver_taken (done_of R verbs.Stage (Some u.ckpt) (Some r) words.Ok) (drivers.Update u)) < steps_left m.cluster (drivers.Update u)) (sym there) staged_nearer;
@@ -329,8 +329,8 @@ module _ (m : Machine) (shapes : ℕ → Shape) (inv : InvariantIn shapes m) (s 
           = ap (λ o. commit_end Committing A (last_having 0 (complete_of o) (slice_set u.owned r 0))) found in
           subst (Goes m s (drivers.Update u)) (sym (told ∙ (λ i. record { verb = verbs.Commit; ckpt = Some u.ckpt; node = Some r; reply = words.Ok; end = end i; details = ended_details (end i) (details i) }))) (record {
             row = (_, _, asks_own, commit_row m shapes inv s u held is e found was commits r had behind x there shaped own_r);
-            holds = subst (λ o. let n = change_replica m u.ckpt r o (with_committed (entry_of u.ckpt m.cluster.entries)) in Invariant (stepped n (kept_behind m s n.cluster verbs.Commit (Some u.ckpt) (Some r) words.Ok) (done_if_none A left_then))) (sym there)
-                (subst (λ y. Invariant (stepped (record m { replicas = put2 m.replicas u.ckpt r (Some y) }) (kept_behind m s m.cluster verbs.Commit (Some u.ckpt) (Some r) words.Ok) (done_if_none A left_then))) (sym (commit_is m shapes inv s u held is e found was commits r had behind x there shaped own_r))
+            holds = subst (λ o. let n = change_replica m u.ckpt r o (with_committed (entry_of u.ckpt m.cluster.entries)) in Invariant (left_in_hand n (kept_behind m s n.cluster verbs.Commit (Some u.ckpt) (Some r) words.Ok) (done_if_none A left_then))) (sym there)
+                (subst (λ y. Invariant (left_in_hand (record m { replicas = put2 m.replicas u.ckpt r (Some y) }) (kept_behind m s m.cluster verbs.Commit (Some u.ckpt) (Some r) words.Ok) (done_if_none A left_then))) (sym (commit_is m shapes inv s u held is e found was commits r had behind x there shaped own_r))
                 (commit_leads m shapes inv s u held is e found was commits r had behind x there shaped own_r));
             nearer = λ none. subst (λ o. let R = (change_replica m u.ckpt r o (with_committed (entry_of u.ckpt m.cluster.entries))).cluster in
                 steps_left R (driver_taken (done_of R verbs.Commit (Some u.ckpt) (Some r) words.Ok) (drivers.Update u)) < steps_left m.cluster (drivers.Update u)) (sym there) committed_nearer;

@@ -1,5 +1,5 @@
 -- An update is answered OK by a commit, or on the active alone where it is applied in one step, or its weak write has been done: by no look and no other step, and not at its beginning.
-use Rattle.std.proofs.Common.{◌≡◌, ℕ, Option, Some, None, Bool, true, false, refl, sym, subst, ◌∙◌}
+use Rattle.std.proofs.Common.{◌≡◌, ℕ, Option, Some, None, true, false, refl, sym, subst, ◌∙◌}
 use Rattle.ckpt_types.specs.declared.ais_error.AisError.{AisError}
 use Rattle.ckpt_types.specs.declared.ais_error.AisError.TheVariants.{TryAgain}
 use Rattle.ckpt_types.specs.declared.answers.Answer.{Answer}
@@ -10,7 +10,8 @@ use Rattle.ckpt_types.specs.declared.answers.Outcome.TheVariants.{Done, Refused,
 use Rattle.ckpt_types.specs.declared.update.Update.{Update}
 use Rattle.ckpt_types.specs.declared.operation.Op.{Op}
 use Rattle.ckpt_types.specs.declared.operation.Op.TheVariants as ops
-use Rattle.client_handles.specs.declared.handle_view.HandleView.{HandleView}
+use Rattle.ckpt_types.specs.declared.answers.Given.{Given}
+use Rattle.call_dispatch.specs.PendingCalls.{PendingCalls}
 use Rattle.node_msgs.specs.declared.steps.StepReply.{StepReply}
 use Rattle.node_msgs.specs.declared.steps.StepReply.TheVariants as words
 use Rattle.node_msgs.specs.declared.steps.Verb.{Verb}
@@ -20,7 +21,8 @@ use Rattle.ckpt_types.specs.OpWord.{word_of_op}
 use Rattle.ckpt_machine.specs.Acknowledged.{IsUpdateWord}
 use Rattle.ckpt_types.specs.Asks.{Ask, asked}
 use Rattle.ckpt_types.specs.Asks as asks
-use Rattle.ckpt_machine.specs.BeginRows.{ends_at_once, BeginRow}
+use Rattle.ckpt_machine.specs.BeginRows.{ends_at_once, IsGivenBy, BeginRow}
+use Rattle.ckpt_machine.specs.Beginning.{Standing}
 use Rattle.ckpt_machine.specs.Driving.{refused_cause}
 use Rattle.ckpt_machine.specs.Guards.{AtNode, StageRefused, StageHeld, StageRow, CommitRow, ApplyOk, MarkOk, MarkRow, ElementRow, LookDone, LookRow, Row}
 use Rattle.ckpt_machine.specs.Machine.{Machine, CallState}
@@ -45,13 +47,18 @@ changes op is = absurd is
 -- ---- a beginning
 
 no_end_at_once : (ask : Ask) → IsChange ask → ends_at_once ask ≡ true → ⊥
-no_end_at_once (asks.EndIteration iteration) change is = change
-no_end_at_once ask change is = cc is
+no_end_at_once (asks.Change place update) change is = cc is
+no_end_at_once ask change is = absurd change
+
+no_dispatch : (p : PendingCalls) (ask : Ask) (given : Given) → IsChange ask → IsGivenBy p ask given → ⊥
+no_dispatch p (asks.Dispatch flags) given change is = change
+no_dispatch p ask given change is = absurd is
 
 -- no beginning answers an update OK
-pub begin_not_done : (live : Bool) (h : Option HandleView) (op : Op) (answer : Answer) → IsUpdateWord (word_of_op op) → BeginRow live h (asked op) (Some (Done answer)) → ⊥
-begin_not_done live h op answers.Nothing word row = no_end_at_once (asked op) (changes op word) row.1
-begin_not_done live h op answer word row = absurd row
+pub begin_not_done : (st : Standing) (op : Op) (answer : Answer) → IsUpdateWord (word_of_op op) → BeginRow st (asked op) (Some (Done answer)) → ⊥
+begin_not_done st op answers.Nothing word row = no_end_at_once (asked op) (changes op word) row.1
+begin_not_done st op (answers.Dispatched given) word row = no_dispatch st.pending (asked op) given (changes op word) row.1
+begin_not_done st op answer word row = absurd row
 
 -- ---- a step
 

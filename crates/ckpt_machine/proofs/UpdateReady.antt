@@ -14,7 +14,7 @@ use Rattle.node_msgs.specs.declared.next.Next.TheVariants.{Serve}
 use Rattle.node_msgs.specs.declared.requests.Request.{Request}
 use Rattle.node_msgs.specs.declared.requests.Request.TheVariants as requests
 use Rattle.ckpt_machine.specs.Drivers as drivers
-use Rattle.ckpt_machine.specs.Machine.{Machine, ReplicaState, CallState}
+use Rattle.ckpt_machine.specs.Machine.{Machine, ReplicaState, CallState, who}
 use Rattle.ckpt_types.specs.Asks.{update_of}
 use Rattle.stage_slot.specs.Slots.{IsOwnedBy}
 use Rattle.node_core.specs.Fitting.{IsReadyFor}
@@ -42,7 +42,7 @@ abbrev pub IsReadyNext : Machine → CallState → Next → Type 0
 IsReadyNext m s (Serve r request) = (r < 8) × IsServable m r request × HasMoment m r request × HasOwn m s r request
 IsReadyNext m s next = Unit {0}
 
-module _ (m : Machine) (shapes : ℕ → Shape) (inv : InvariantIn shapes m) (s : CallState) (u : UpdateState) (held : m.in_hand s.call.actor ≡ Some s) (is : driver_of s ≡ drivers.Update u) where
+module _ (m : Machine) (shapes : ℕ → Shape) (inv : InvariantIn shapes m) (s : CallState) (u : UpdateState) (held : m.in_hand (who s) ≡ Some s) (is : driver_of s ≡ drivers.Update u) where
   module _ (e : Entry) (found : entry_of u.ckpt m.cluster.entries ≡ Some e) where
     abbrev was : IsSpread m u.ckpt (shapes u.ckpt) e
     was = spread m shapes inv s u held is e found

@@ -16,7 +16,7 @@ use Rattle.cluster_record.specs.declared.calls.ActiveKind.TheVariants as kinds
 use Rattle.cluster_record.specs.declared.calls.MarksMade.{MarksMade}
 use Rattle.cluster_record.specs.declared.entries.Entry.{Entry}
 use Rattle.cluster_record.specs.DueActive.{ActiveState}
-use Rattle.cluster_record.specs.Calls.{same_actor, same_call, put_actor}
+use Rattle.cluster_record.specs.Calls.{same_call}
 use Rattle.cluster_record.specs.Places.{put, put2}
 use Rattle.cluster_record.specs.RecordState.{entry_of}
 use Rattle.cluster_record.specs.StepDone.{StepDone, done_of, counting, generation_in}
@@ -36,32 +36,32 @@ use Rattle.ckpt_machine.specs.Guards.{AreMarksOf}
 use Rattle.ckpt_machine.specs.InHand.{is_enter, is_marked_by, MarksFit, IsInPlace, IsActiveIn, IsInHand}
 use Rattle.ckpt_machine.specs.Invariant.{InvariantIn, Invariant}
 use Rattle.ckpt_machine.specs.Left.{steps_left}
-use Rattle.ckpt_machine.specs.Machine.{Machine, ReplicaState, CallState}
+use Rattle.ckpt_machine.specs.Machine.{Machine, ReplicaState, CallState, who}
 use Rattle.ckpt_machine.specs.Shape.{Shape, IsMarker}
-use Rattle.ckpt_machine.specs.Steps.{Told, IsDone, IsServed, ended_details, driver_of, payload_due, details_due, change_replica, with_marks, with_next_element, next_element_written, without_marks, marks_ended, kept_behind, stepped}
-use Rattle.ckpt_machine.proofs.Actors.{same_actor-refl, same_call-refl, same_call-true}
+use Rattle.ckpt_machine.specs.Steps.{Told, IsDone, IsServed, ended_details, driver_of, payload_due, details_due, change_replica, with_marks, with_next_element, next_element_written, without_marks, marks_ended, kept_behind, left_in_hand}
+use Rattle.ckpt_machine.proofs.Actors.{same_call-refl, same_call-true}
+use Rattle.ckpt_machine.proofs.CallsKept.{same_call-None, same_call-Some}
 use Rattle.ckpt_machine.proofs.ActiveNode.{ActiveOf, active_seen}
 use Rattle.ckpt_machine.proofs.ActiveSteps.{marked_so, active_keeps}
 use Rattle.ckpt_machine.proofs.DueStep.{Goes}
 use Rattle.ckpt_machine.proofs.OnTheActive.{at_active, apart, alone, spread, asks_of, asks_own, on_active, ends, refused_row, holder_live, held_row}
-use Rattle.ckpt_machine.proofs.ReplicaSteps.{put_actor-here}
+use Rattle.ckpt_machine.specs.Whose.{put_who}
+use Rattle.ckpt_machine.proofs.Whose.{put_who-here, same_state}
 use Rattle.ckpt_machine.proofs.StepLabels.{IsServed-told}
 
 positive : (n : ℕ) → n ≢ 0 → 0 < n
 positive zero not_none = absurd (not_none refl)
 positive (suc n) not_none = omega arith
 
--- the marks of another actor are not of the call
-not_marked : (d c : CallId) → same_actor d.actor c.actor ≡ false → (marks : Marked) → marks.call ≡ c → is_marked_by d (Some marks) ≡ false
+-- the marks of another call are not of the call
+not_marked : (d c : CallId) → d ≢ c → (marks : Marked) → marks.call ≡ c → is_marked_by d (Some marks) ≡ false
 not_marked d c other marks of_it = by_test (same_call marks.call d) refl
   where
     by_test : (b : Bool) → same_call marks.call d ≡ b → same_call marks.call d ≡ false
     by_test false is_not = is_not
-    by_test true same =
-        let is : d ≡ c = sym (same_call-true marks.call d same) ∙ of_it in
-        absurd (let w : true ≡ false = sym (same_actor-refl c.actor) ∙ ap (λ (x : CallId). same_actor x.actor c.actor) (sym is) ∙ other in cc w)
+    by_test true same = absurd (other (sym (same_call-true marks.call d same) ∙ of_it))
 
-module _ (m : Machine) (shapes : ℕ → Shape) (inv : InvariantIn shapes m) (s : CallState) (call : CallId) (k n : ℕ) (made : Option MarksMade) (held : m.in_hand s.call.actor ≡ Some s) (at : ActiveOf m (shapes k).marks k) (no_hold : at.entry.hold ≡ None)
+module _ (m : Machine) (shapes : ℕ → Shape) (inv : InvariantIn shapes m) (s : CallState) (call : CallId) (k n : ℕ) (made : Option MarksMade) (held : m.in_hand (who s) ≡ Some s) (at : ActiveOf m (shapes k).marks k) (no_hold : at.entry.hold ≡ None)
     (is : driver_of s ≡ drivers.Active (record { call = call; ckpt = k; kind = kinds.Weak n; marks = made })) where
   -- what drives it, with these marks
   abbrev driving : Option MarksMade → ActiveState
@@ -91,9 +91,9 @@ module _ (m : Machine) (shapes : ℕ → Shape) (inv : InvariantIn shapes m) (s 
 
   module _ (verb : Verb) (y : ReplicaState) (marks : Marked) (w : MarksMade) (y_generation : y.generation ≡ at.entry.generation) (y_free : y.slot ≡ None) (y_marks : y.marks ≡ Some marks) (own : marks.call ≡ s.call) (update : marks.update ≡ update_of s.op)
       (left : marks.done + w.left ≡ length (elements_in marks.update)) (few : w.left ≤ n) (generation : w.generation ≡ at.entry.generation) (takes : driver_taken (done verb) (driver_of s) ≡ drivers.Active (driving (Some w)))
-      (others : (d : CallId) → same_actor d.actor s.call.actor ≡ false → is_marked_by d (shapes k).marks ≡ false) where
+      (others : (d : CallId) → d ≢ s.call → is_marked_by d (shapes k).marks ≡ false) where
     abbrev then_machine : Machine
-    then_machine = record m { replicas = put2 m.replicas k at.node (Some y); in_hand = put_actor m.in_hand s.call.actor (Some (then_state verb)) }
+    then_machine = record m { replicas = put2 m.replicas k at.node (Some y); in_hand = put_who m.in_hand (who s) (Some (then_state verb)) }
 
     abbrev then_shapes : ℕ → Shape
     then_shapes = put shapes k (marked_so (shapes k) (Some marks))
@@ -102,7 +102,7 @@ module _ (m : Machine) (shapes : ℕ → Shape) (inv : InvariantIn shapes m) (s 
     marker_then : IsMarker then_machine k marks
     marker_then = record {
       state = then_state verb;
-      in_hand = ap (λ (c : CallId). put_actor m.in_hand s.call.actor (Some (then_state verb)) c.actor) own ∙ put_actor-here m.in_hand s.call.actor (Some (then_state verb));
+      in_hand = put_who-here m.in_hand (who s) (Some (then_state verb));
       call_is = sym own;
       driver = driving (Some w);
       driver_is = takes;
@@ -137,14 +137,14 @@ module _ (m : Machine) (shapes : ℕ → Shape) (inv : InvariantIn shapes m) (s 
 
     goes_on_keeps : Invariant then_machine
     goes_on_keeps =
-        let hand = inv.hands s.call.actor s held in
+        let hand = inv.hands (who s) s held in
         record {
           shapes = then_shapes;
           holds = active_keeps m shapes inv s (driving made) held is at.node at.entry at.found at.made (alone m shapes inv s call k (kinds.Weak n) made held at refl is) at.active no_hold y (Some marks) (record { free = y_free; marks_are = y_marks }) y_generation (Some (then_state verb))
-              (λ d other. not_marked d s.call other marks own ∙ sym (others d other))
+              (λ d other. not_marked d s.call other marks own ∙ sym (others d other)) (same_call-Some s (then_state verb) refl refl)
               (λ v same. subst (IsMarker then_machine k) (same_Some marks v same) marker_then)
-              (λ z same. subst (IsInHand then_machine then_shapes s.call.actor) (same_Some (then_state verb) z same) (record {
-                actor = refl;
+              (λ z same. subst (IsInHand then_machine then_shapes (who s)) (same_Some (then_state verb) z same) (record {
+                whose = refl;
                 client = hand.client;
                 number = hand.number;
                 built = hand.built;
@@ -170,7 +170,7 @@ module _ (m : Machine) (shapes : ℕ → Shape) (inv : InvariantIn shapes m) (s 
       by_marks (Some marks) stand of_it =
           let own : marks.call ≡ s.call = same_call-true marks.call s.call of_it in
           let marker : IsMarker m k marks = (spread m shapes inv s call k (kinds.Weak n) made held at refl is).marked marks stand in
-          let state : marker.state ≡ s = same_Some marker.state s (sym marker.in_hand ∙ ap (λ (c : CallId). m.in_hand c.actor) own ∙ held) in
+          let state : marker.state ≡ s = same_state m.in_hand m.pending m.next inv.calls marker.state s marker.in_hand held (marker.call_is ∙ own) in
           let both : drivers.Active marker.driver ≡ drivers.Active (driving made) = sym marker.driver_is ∙ ap driver_of state ∙ is in
           let driver : marker.driver ≡ driving made = cc both in
           let same : marker.made ≡ w = same_Some marker.made w (sym marker.made_is ∙ ap (λ (a : ActiveState). a.marks) driver ∙ made_is) in
@@ -215,7 +215,7 @@ module _ (m : Machine) (shapes : ℕ → Shape) (inv : InvariantIn shapes m) (s 
     mark_takes : driver_taken (done verbs.Mark) (driver_of s) ≡ drivers.Active (driving (Some new_made))
     mark_takes = ap (driver_taken (done verbs.Mark)) is ∙ ap (λ o. drivers.Active (driving (Some (record { generation = generation_in o; left = n })))) at.found
 
-    holds_marked : (shapes k).marks ≡ None → Invariant (record m { replicas = put2 m.replicas k at.node (Some marked); in_hand = put_actor m.in_hand s.call.actor (Some (then_state verbs.Mark)) })
+    holds_marked : (shapes k).marks ≡ None → Invariant (record m { replicas = put2 m.replicas k at.node (Some marked); in_hand = put_who m.in_hand (who s) (Some (then_state verbs.Mark)) })
     holds_marked unmarked = goes_on_keeps verbs.Mark marked new_marks new_made at.generation free refl refl refl (let e = elements_are in omega (arith, e)) (omega arith) refl mark_takes (λ d other. ap (is_marked_by d) unmarked)
 
     mark_by : (t : Told) → IsServed m s at.node to_mark t → (o : Option Marked) → (shapes k).marks ≡ o → (r : Result (List Section) Refusal) → Gives r → Goes m s (driver_of s) t
@@ -226,7 +226,7 @@ module _ (m : Machine) (shapes : ℕ → Shape) (inv : InvariantIn shapes m) (s 
         asks_own m shapes inv s call k (kinds.Weak n) made held at refl is,
         on_active m shapes inv s call k (kinds.Weak n) made held at refl is no_hold _ (record { unmarked = marks_are ∙ stand; fits = subst IsOk (sym gives) refl; answer = refl; told = refl }),
       );
-      holds = subst (λ o. let n = change_replica m k at.node o (with_marks s.call (update_of s.op) m.cluster.moment) in Invariant (stepped n (kept_behind m s n.cluster verbs.Mark (Some k) (Some at.node) words.Ok) None)) (sym at.there) (holds_marked stand);
+      holds = subst (λ o. let n = change_replica m k at.node o (with_marks s.call (update_of s.op) m.cluster.moment) in Invariant (left_in_hand n (kept_behind m s n.cluster verbs.Mark (Some k) (Some at.node) words.Ok) None)) (sym at.there) (holds_marked stand);
       nearer = λ goes_on. subst (λ o. let R = (change_replica m k at.node o (with_marks s.call (update_of s.op) m.cluster.moment)).cluster in
           steps_left R (driver_taken (done_of R verbs.Mark (Some k) (Some at.node) words.Ok) (driver_of s)) < steps_left m.cluster (driver_of s)) (sym at.there)
           (subst (λ d. steps_left m.cluster (driver_taken (done_of m.cluster verbs.Mark (Some k) (Some at.node) words.Ok) d) < steps_left m.cluster d) (sym (is ∙ ap (λ o. drivers.Active (driving o)) none)) (omega arith));
@@ -263,7 +263,7 @@ module _ (m : Machine) (shapes : ℕ → Shape) (inv : InvariantIn shapes m) (s 
     are_marks left left_is = subst (λ o. IsSomeAnd o (AreMarksOf s.call (update_of s.op) left)) (sym stand_there) (record { call_is = its_own.own; update_is = its_own.update; left_is = left_is })
 
     -- no other call has marks
-    others_unmarked : (d : CallId) → same_actor d.actor s.call.actor ≡ false → is_marked_by d (shapes k).marks ≡ false
+    others_unmarked : (d : CallId) → d ≢ s.call → is_marked_by d (shapes k).marks ≡ false
     others_unmarked d other = ap (is_marked_by d) its_own.stand ∙ not_marked d s.call other its_own.marks its_own.own
 
     few_left : w.left ≤ n
@@ -300,8 +300,8 @@ module _ (m : Machine) (shapes : ℕ → Shape) (inv : InvariantIn shapes m) (s 
       element_is : with_next_element (entry_of k m.cluster.entries) at.replica ≡ written
       element_is = ap (λ o. with_next_element o at.replica) at.found ∙ ap (next_element_written at.entry.attributes at.replica) stand_there
 
-      holds_written : Invariant (record m { replicas = put2 m.replicas k at.node (Some (with_next_element (entry_of k m.cluster.entries) at.replica)); in_hand = put_actor m.in_hand s.call.actor (Some (then_state verbs.Element)) })
-      holds_written = subst (λ y. Invariant (record m { replicas = put2 m.replicas k at.node (Some y); in_hand = put_actor m.in_hand s.call.actor (Some (then_state verbs.Element)) })) (sym element_is)
+      holds_written : Invariant (record m { replicas = put2 m.replicas k at.node (Some (with_next_element (entry_of k m.cluster.entries) at.replica)); in_hand = put_who m.in_hand (who s) (Some (then_state verbs.Element)) })
+      holds_written = subst (λ y. Invariant (record m { replicas = put2 m.replicas k at.node (Some y); in_hand = put_who m.in_hand (who s) (Some (then_state verbs.Element)) })) (sym element_is)
           (goes_on_keeps verbs.Element written next_marks next_made at.generation free next_done its_own.own its_own.update (let l = its_own.left in let above = positive w.left left_some in omega (arith, l, above)) (let f = few_left in omega (arith, f))
           ((subst (λ o. IfSome o (λ (v : MarksMade). v.generation ≡ at.entry.generation)) made_is (its.generation at.entry at.found))) element_takes others_unmarked)
 
@@ -309,7 +309,7 @@ module _ (m : Machine) (shapes : ℕ → Shape) (inv : InvariantIn shapes m) (s 
       element_goes t served = subst (Goes m s (driver_of s)) (sym (IsServed-told m s at.node to_do t _ (replies.Done answers.Nothing) served is
           (served.may ∙ ap (reply_at to_do (payload_due m s) (record_seen m.cluster k at.node)) (active_seen m (shapes k).marks k at)))) (record {
             row = (_, update_of s.op, asks_own m shapes inv s call k (kinds.Weak n) made held at refl is, (on_active m shapes inv s call k (kinds.Weak n) made held at refl is no_hold (λ e x. IsSomeAnd x.marks (AreMarksOf s.call (update_of s.op) true)) (are_marks true left_is), refl, refl));
-            holds = subst (λ o. let n = change_replica m k at.node o (with_next_element (entry_of k m.cluster.entries)) in Invariant (stepped n (kept_behind m s n.cluster verbs.Element (Some k) (Some at.node) words.Ok) None)) (sym at.there) holds_written;
+            holds = subst (λ o. let n = change_replica m k at.node o (with_next_element (entry_of k m.cluster.entries)) in Invariant (left_in_hand n (kept_behind m s n.cluster verbs.Element (Some k) (Some at.node) words.Ok) None)) (sym at.there) holds_written;
             nearer = λ goes_on. subst (λ o. let R = (change_replica m k at.node o (with_next_element (entry_of k m.cluster.entries))).cluster in
                 steps_left R (driver_taken (done_of R verbs.Element (Some k) (Some at.node) words.Ok) (driver_of s)) < steps_left m.cluster (driver_of s)) (sym at.there)
                 (subst (λ d. steps_left m.cluster (driver_taken (done_of m.cluster verbs.Element (Some k) (Some at.node) words.Ok) d) < steps_left m.cluster d) (sym (is ∙ ap (λ o. drivers.Active (driving o)) made_is)) (let above = positive w.left left_some in omega (arith, above)));
@@ -327,18 +327,18 @@ module _ (m : Machine) (shapes : ℕ → Shape) (inv : InvariantIn shapes m) (s 
       abbrev ended : ReplicaState
       ended = marks_ended at.replica (Some its_own.marks)
 
-      holds_ended : Invariant (record m { replicas = put2 m.replicas k at.node (Some (without_marks at.replica)); in_hand = put_actor m.in_hand s.call.actor None })
-      holds_ended = subst (λ o. Invariant (record m { replicas = put2 m.replicas k at.node (Some (marks_ended at.replica o)); in_hand = put_actor m.in_hand s.call.actor None })) (sym stand_there) (record {
+      holds_ended : Invariant (record m { replicas = put2 m.replicas k at.node (Some (without_marks at.replica)); in_hand = put_who m.in_hand (who s) None })
+      holds_ended = subst (λ o. Invariant (record m { replicas = put2 m.replicas k at.node (Some (marks_ended at.replica o)); in_hand = put_who m.in_hand (who s) None })) (sym stand_there) (record {
         shapes = _;
         holds = active_keeps m shapes inv s (driving made) held is at.node at.entry at.found at.made (alone m shapes inv s call k (kinds.Weak n) made held at refl is) at.active no_hold ended None (record { free = free; marks_are = refl }) at.generation None
-            (λ d other. sym (others_unmarked d other)) (λ marks none. absurd (cc none)) (λ z there. absurd (cc there));
+            (λ d other. sym (others_unmarked d other)) (same_call-None s) (λ marks none. absurd (cc none)) (λ z there. absurd (cc there));
       })
 
       unmark_goes : (t : Told) → IsServed m s at.node to_end t → Goes m s (driver_of s) t
       unmark_goes t served = subst (Goes m s (driver_of s)) (sym (IsServed-told m s at.node to_end t _ (replies.Done answers.Nothing) served is
           (served.may ∙ ap (reply_at to_end (payload_due m s) (record_seen m.cluster k at.node)) (active_seen m (shapes k).marks k at)))) (record {
             row = (_, update_of s.op, asks_own m shapes inv s call k (kinds.Weak n) made held at refl is, (on_active m shapes inv s call k (kinds.Weak n) made held at refl is no_hold (λ e x. IsSomeAnd x.marks (AreMarksOf s.call (update_of s.op) false)) (are_marks false none_left), refl, ap (details_at to_end (payload_due m s) (record_seen m.cluster k at.node)) (active_seen m (shapes k).marks k at)));
-            holds = subst (λ o. let n = change_replica m k at.node o without_marks in Invariant (record n { in_hand = put_actor n.in_hand s.call.actor None })) (sym at.there) holds_ended;
+            holds = subst (λ o. let n = change_replica m k at.node o without_marks in Invariant (record n { in_hand = put_who n.in_hand (who s) None })) (sym at.there) holds_ended;
             nearer = λ none. absurd (cc none);
           })
 

@@ -1,6 +1,8 @@
 -- An update that was answered OK, and where it is from then on.
 use Rattle.std.specs.Prelude.{◌≡◌, ◌⊎◌, ℕ, List, [], ◌∷◌, ◌++◌, Option, Some, None, true}
+use Rattle.ckpt_types.specs.declared.answers.Outcome.{Outcome}
 use Rattle.ckpt_types.specs.declared.answers.Outcome.TheVariants.{Done}
+use Rattle.node_msgs.specs.declared.details.Details.{Details}
 use Rattle.ckpt_types.specs.declared.identities.CallId.{CallId}
 use Rattle.ckpt_types.specs.declared.operation.Op.{Op}
 use Rattle.ckpt_types.specs.declared.update.Update.{Update}
@@ -15,7 +17,7 @@ use Rattle.ckpt_machine.specs.Machine.{Machine, Effect, Applied, ReplicaState}
 use Rattle.ckpt_machine.specs.Options.{is_all}
 use Rattle.ckpt_machine.specs.Runs.{last}
 use Rattle.ckpt_types.specs.Asks.{update_of}
-use Rattle.ckpt_machine.specs.Steps.{asked_handle}
+use Rattle.ckpt_machine.specs.Steps.{asked_handle, goes_on}
 use Rattle.ckpt_machine.specs.Tables.{ckpt_of_handle}
 
 -- ---- the answer, as a user sees it
@@ -31,7 +33,7 @@ IsUpdateWord word = ⊥
 
 -- the label answers OK to this call, which asks for an update by its word: at its beginning, or by a step, whichever that is
 abbrev pub Acknowledges : Label → CallId → Type 0
-Acknowledges (labels.Began call op (Some (Done answer))) d = (call ≡ d) × IsUpdateWord (word_of_op op)
+Acknowledges (labels.Began call op (Some (Done answer)) details) d = (call ≡ d) × IsUpdateWord (word_of_op op)
 Acknowledges (labels.Stepped call word verb k r reply (Some (Done answer)) details) d = (call ≡ d) × IsUpdateWord word
 Acknowledges label d = ⊥
 
@@ -46,7 +48,10 @@ ckpt_named label = None
 pub record HasBegun (log : List Label) (call : CallId) (op : Op) (ckpt : Option ℕ) : Type 0 where
   pub before : List Label
   pub behind : List Label
-  pub log_is : log ≡ before ++ labels.Began call op None ∷ behind
+  pub end : Option Outcome
+  pub details : Details
+  pub log_is : log ≡ before ++ labels.Began call op end details ∷ behind
+  pub goes : goes_on (word_of_op op) end ≡ true
   pub ckpt_is : ckpt ≡ ckpt_of_handle (asked_handle (last before) call.actor op)
 
 -- ---- what became of it

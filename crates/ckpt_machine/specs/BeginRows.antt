@@ -1,9 +1,11 @@
 -- What the machine allows a call to answer at its beginning: each answer with its cause, where none before it applies; and the words that may stand in place of a call or a step.
-use Rattle.std.specs.Prelude.{◌≡◌, ℕ, ◌<◌, length, Option, Some, None, is_none, IsSome, Bool, true, false, not, ◌&&◌, ◌||◌, pos, int_lt}
+use Rattle.std.specs.Prelude.{◌≡◌, ℕ, ◌<◌, ◌≤◌, length, Option, Some, None, is_none, IsSome, Bool, true, false, not, ◌&&◌, ◌||◌, pos, int_lt}
 use Rattle.ckpt_types.specs.declared.ais_error.AisError.{AisError}
 use Rattle.ckpt_types.specs.declared.ais_error.AisError.TheVariants as errors
 use Rattle.ckpt_types.specs.declared.answers.Answer.TheVariants as answers
-use Rattle.ckpt_types.specs.declared.answers.Cause.TheVariants.{Plain}
+use Rattle.ckpt_types.specs.declared.answers.Cause.TheVariants.{Plain, Count}
+use Rattle.ckpt_types.specs.declared.answers.Given.{Given}
+use Rattle.ckpt_types.specs.declared.calls.CallbackSet.{CallbackSet}
 use Rattle.ckpt_types.specs.declared.answers.Outcome.{Outcome}
 use Rattle.ckpt_types.specs.declared.answers.Outcome.TheVariants.{Done, Refused, NoMemory}
 use Rattle.ckpt_types.specs.declared.identities.ActorName.{ActorName}
@@ -14,7 +16,9 @@ use Rattle.ckpt_types.specs.declared.identities.Who.TheVariants as whos
 use Rattle.ckpt_types.specs.declared.open_flags.OpenFlags.{OpenFlags}
 use Rattle.ckpt_types.specs.declared.operation.Op.{Op}
 use Rattle.ckpt_types.specs.Attributes.{has_bad_open_flags}
-use Rattle.ckpt_types.specs.Limits.{nodes_max}
+use Rattle.ckpt_types.specs.Limits.{nodes_max, pending_max}
+use Rattle.call_dispatch.specs.PendingCalls.{PendingCalls, pending_count}
+use Rattle.node_msgs.specs.declared.details.Details.{Details}
 use Rattle.run_labels.specs.declared.words.LineWord.{LineWord}
 use Rattle.run_labels.specs.declared.words.LineWord.TheVariants as linewords
 use Rattle.ckpt_types.specs.declared.words.OpWord.TheVariants as opwords
@@ -23,11 +27,11 @@ use Rattle.run_labels.specs.declared.words.Said.TheVariants.{Busy, Idle, Live, D
 use Rattle.client_handles.specs.declared.handle_view.HandleView.{HandleView}
 use Rattle.cluster_record.specs.Calls.{number_of, IsClient}
 use Rattle.cluster_record.specs.RecordState.{is_live_client, is_up}
-use Rattle.ckpt_machine.specs.Beginning.{version_is_bad, name_is_bad, attributes_are_bad, are_of_all, are_not_collocated, vector_is_bad, update_is_bad, choice_is_bad, may_write, may_read, may_always}
-use Rattle.ckpt_types.specs.Asks.{Ask, asked, takes_room, IsBuilt}
+use Rattle.ckpt_machine.specs.Beginning.{version_is_bad, name_is_bad, attributes_are_bad, are_of_all, are_not_collocated, timeout_is_bad, dispatch_is_bad, given_of, callbacks_told, takes_memory_at_once, Standing, vector_is_bad, update_is_bad, choice_is_bad, may_write, may_read, may_always}
+use Rattle.ckpt_types.specs.Asks.{Ask, asked, is_async_ask, IsBuilt}
 use Rattle.ckpt_types.specs.Asks as asks
 use Rattle.ckpt_machine.specs.Machine.{Machine}
-use Rattle.ckpt_machine.specs.Steps.{MayBegin, asked_handle}
+use Rattle.ckpt_machine.specs.Steps.{MayBegin, standing_of}
 
 -- ---- the causes
 
@@ -47,6 +51,7 @@ is_of_place (asks.Enter r version callbacks) = false
 is_of_place (asks.Open place name flags timeout a) = false
 is_of_place (asks.Unlink name) = false
 is_of_place asks.Leave = false
+is_of_place (asks.Dispatch flags) = false
 is_of_place asks.Unbuilt = false
 is_of_place ask = true
 
@@ -54,19 +59,26 @@ is_of_place ask = true
 abbrev pub has_bad_handle : Bool → Option HandleView → Ask → Bool
 has_bad_handle live h ask = (is_of_client ask && not live) || (is_of_place ask && is_none h)
 
+-- an asynchronous call whose callback its client has not registered
+abbrev pub lacks_callback : CallbackSet → Ask → Bool
+lacks_callback callbacks (asks.Open place name flags None a) = not callbacks.opens
+lacks_callback callbacks (asks.Synchronize place None) = not callbacks.syncs
+lacks_callback callbacks ask = false
+
 -- an open with no flag, or an unknown one
 abbrev pub has_bad_flags : Ask → Bool
 has_bad_flags (asks.Open place name flags timeout a) = has_bad_open_flags flags
 has_bad_flags ask = false
 
--- what is a bad argument of each: a name, timeout or attributes; a number of elements; a choice; a duration; a timeout
+-- what is a bad argument of each: a name, timeout or attributes; a number of elements; a choice; a duration; a timeout; flags
 abbrev pub has_bad_arguments : Ask → Bool
-has_bad_arguments (asks.Open place name flags timeout a) = name_is_bad name || int_lt timeout (pos 0) || attributes_are_bad flags a
+has_bad_arguments (asks.Open place name flags timeout a) = name_is_bad name || timeout_is_bad timeout || attributes_are_bad flags a
 has_bad_arguments (asks.Change place update) = update_is_bad update
 has_bad_arguments (asks.Read place elements) = vector_is_bad (length elements)
 has_bad_arguments (asks.Iterate iteration place chosen time) = choice_is_bad chosen
 has_bad_arguments (asks.Retain place duration) = int_lt duration (pos 0)
-has_bad_arguments (asks.Synchronize place timeout) = int_lt timeout (pos 0)
+has_bad_arguments (asks.Synchronize place timeout) = timeout_is_bad timeout
+has_bad_arguments (asks.Dispatch flags) = dispatch_is_bad flags
 has_bad_arguments ask = false
 
 -- what its handle is to be opened for
@@ -98,48 +110,74 @@ abbrev pub has_bad_operation : Option HandleView → Ask → Bool
 has_bad_operation None ask = false
 has_bad_operation (Some h) ask = forbidden_by ask h.creation_flags
 
--- the end of an iteration is answered at once; every other call goes on
+-- the end of an iteration is answered at once, and so is an asynchronous call, which goes on by itself
 abbrev pub ends_at_once : Ask → Bool
 ends_at_once (asks.EndIteration iteration) = true
+ends_at_once (asks.Open place name flags None a) = true
+ends_at_once (asks.Synchronize place None) = true
 ends_at_once ask = false
 
--- ---- the answers, of a client that is live or not, and with the handle of the place
+-- it is a dispatch, which is answered at once with what it gives
+abbrev pub IsGivenBy : PendingCalls → Ask → Given → Type 0
+IsGivenBy p (asks.Dispatch flags) given = given ≡ given_of flags p
+IsGivenBy p ask given = ⊥
 
--- a refusal, where its cause is there and none before it
-abbrev pub BeginRefused : Bool → Option HandleView → Ask → AisError → Type 0
-BeginRefused live h ask errors.Version = has_bad_version ask ≡ true
-BeginRefused live h ask errors.BadHandle = (has_bad_version ask ≡ false) × (has_bad_handle live h ask ≡ true)
-BeginRefused live h ask errors.BadFlags = (has_bad_version ask ≡ false) × (has_bad_handle live h ask ≡ false) × (has_bad_flags ask ≡ true)
-BeginRefused live h ask errors.InvalidParam = (has_bad_version ask ≡ false) × (has_bad_handle live h ask ≡ false) × (has_bad_flags ask ≡ false) × (has_bad_arguments ask ≡ true)
-BeginRefused live h ask errors.Access = (has_bad_version ask ≡ false) × (has_bad_handle live h ask ≡ false) × (has_bad_flags ask ≡ false) × (has_bad_arguments ask ≡ false) × (lacks_access h ask ≡ true)
-BeginRefused live h ask errors.BadOperation = (has_bad_version ask ≡ false) × (has_bad_handle live h ask ≡ false) × (has_bad_flags ask ≡ false) × (has_bad_arguments ask ≡ false) × (lacks_access h ask ≡ false) × (has_bad_operation h ask ≡ true)
-BeginRefused live h ask error = ⊥
+-- every other call goes on
+abbrev pub goes_on_behind : Ask → Bool
+goes_on_behind (asks.Dispatch flags) = false
+goes_on_behind ask = not (ends_at_once ask)
 
--- no refusal applies
-pub record MeetsNoRefusal (live : Bool) (h : Option HandleView) (ask : Ask) : Type 0 where
+-- ---- the answers
+
+-- a refusal that says all, where its cause is there and none before it
+abbrev pub BeginRefused : Standing → Ask → AisError → Type 0
+BeginRefused st ask errors.Version = has_bad_version ask ≡ true
+BeginRefused st ask errors.BadHandle = (has_bad_version ask ≡ false) × (has_bad_handle st.live st.handle ask ≡ true)
+BeginRefused st ask errors.Init = (has_bad_version ask ≡ false) × (has_bad_handle st.live st.handle ask ≡ false) × (lacks_callback st.callbacks ask ≡ true)
+BeginRefused st ask errors.BadFlags = (has_bad_version ask ≡ false) × (has_bad_handle st.live st.handle ask ≡ false) × (lacks_callback st.callbacks ask ≡ false) × (has_bad_flags ask ≡ true)
+BeginRefused st ask errors.InvalidParam = (has_bad_version ask ≡ false) × (has_bad_handle st.live st.handle ask ≡ false) × (lacks_callback st.callbacks ask ≡ false) × (has_bad_flags ask ≡ false) × (has_bad_arguments ask ≡ true)
+BeginRefused st ask errors.Access = (has_bad_version ask ≡ false) × (has_bad_handle st.live st.handle ask ≡ false) × (lacks_callback st.callbacks ask ≡ false) × (has_bad_flags ask ≡ false) × (has_bad_arguments ask ≡ false) × (lacks_access st.handle ask ≡ true)
+BeginRefused st ask errors.BadOperation = (has_bad_version ask ≡ false) × (has_bad_handle st.live st.handle ask ≡ false) × (lacks_callback st.callbacks ask ≡ false) × (has_bad_flags ask ≡ false) × (has_bad_arguments ask ≡ false) × (lacks_access st.handle ask ≡ false) × (has_bad_operation st.handle ask ≡ true)
+BeginRefused st ask error = ⊥
+
+-- no refusal applies that says all
+pub record MeetsNoRefusal (st : Standing) (ask : Ask) : Type 0 where
   pub version : has_bad_version ask ≡ false
-  pub handle : has_bad_handle live h ask ≡ false
+  pub handle : has_bad_handle st.live st.handle ask ≡ false
+  pub callback : lacks_callback st.callbacks ask ≡ false
   pub flags : has_bad_flags ask ≡ false
   pub arguments : has_bad_arguments ask ≡ false
-  pub access : lacks_access h ask ≡ false
-  pub operation : has_bad_operation h ask ≡ false
+  pub access : lacks_access st.handle ask ≡ false
+  pub operation : has_bad_operation st.handle ask ≡ false
 
--- a refusal; OK at once; no memory for the room of an iteration or a snapshot; or the call goes on
-abbrev pub BeginRow : Bool → Option HandleView → Ask → Option Outcome → Type 0
-BeginRow live h ask (Some (Refused error Plain)) = BeginRefused live h ask error
-BeginRow live h ask (Some (Done answers.Nothing)) = MeetsNoRefusal live h ask × (ends_at_once ask ≡ true)
-BeginRow live h ask (Some NoMemory) = MeetsNoRefusal live h ask × (takes_room ask ≡ true)
-BeginRow live h ask None = MeetsNoRefusal live h ask × (ends_at_once ask ≡ false)
-BeginRow live h ask end = ⊥
+-- as many asynchronous calls of the client as may be are not dispatched
+abbrev pub IsFullOfCalls : PendingCalls → Type 0
+IsFullOfCalls p = pending_max ≤ pending_count p
+
+-- an asynchronous call finds room for it among those that are not dispatched
+abbrev pub HasPlaceFor : Bool → PendingCalls → Type 0
+HasPlaceFor true p = pending_count p < pending_max
+HasPlaceFor false p = Unit {0}
+
+-- a refusal; OK at once; what a dispatch gives; no memory for the room of an iteration or a snapshot, or to go on by itself; or the call goes on
+abbrev pub BeginRow : Standing → Ask → Option Outcome → Type 0
+BeginRow st ask (Some (Refused error Plain)) = BeginRefused st ask error
+BeginRow st ask (Some (Refused errors.NoResources (Count n))) = MeetsNoRefusal st ask × (is_async_ask ask ≡ true) × IsFullOfCalls st.pending × (n ≡ pending_max)
+BeginRow st ask (Some (Done answers.Nothing)) = MeetsNoRefusal st ask × (ends_at_once ask ≡ true) × HasPlaceFor (is_async_ask ask) st.pending
+BeginRow st ask (Some (Done (answers.Dispatched given))) = MeetsNoRefusal st ask × IsGivenBy st.pending ask given
+BeginRow st ask (Some NoMemory) = MeetsNoRefusal st ask × (takes_memory_at_once ask ≡ true) × HasPlaceFor (is_async_ask ask) st.pending
+BeginRow st ask None = MeetsNoRefusal st ask × (goes_on_behind ask ≡ true)
+BeginRow st ask end = ⊥
 
 -- a client begins an operation that is built, with the number that is its next, while it has no call in hand
-pub record IsAllowedBegin (m : Machine) (call : CallId) (op : Op) (end : Option Outcome) : Type 0 where
+pub record IsAllowedBegin (m : Machine) (call : CallId) (op : Op) (end : Option Outcome) (details : Details) : Type 0 where
   pub client : IsClient call.actor
   pub built : IsBuilt op
   pub number : call.number ≡ m.next call.actor
-  pub none_in_hand : m.in_hand call.actor ≡ None
+  pub none_in_hand : m.in_hand (Actor call.actor) ≡ None
   pub may : MayBegin m.cluster (number_of call.actor) (asked op)
-  pub row : BeginRow (is_live_client (number_of call.actor) m.cluster) (asked_handle m call.actor op) (asked op) end
+  pub row : BeginRow (standing_of m call.actor op) (asked op) end
+  pub told : details ≡ callbacks_told end (asked op) (m.pending call.actor)
 
 -- ---- the words
 
@@ -166,14 +204,14 @@ pub record SomeNodeIsDown (m : Machine) : Type 0 where
 
 -- BUSY where a call is in hand; where none is, LIVE to an Initialize of a client that is live, DOWN to one of a client that is not, and IDLE to a step
 abbrev pub WordRow : Machine → ActorName → LineWord → Said → Type 0
-WordRow m a line Busy = IsCallLine line × IsSome (m.in_hand a)
-WordRow m a line Live = IsInitializeLine line × (m.in_hand a ≡ None) × (is_live_client (number_of a) m.cluster ≡ true)
-WordRow m a line Down = IsInitializeLine line × (m.in_hand a ≡ None) × (is_live_client (number_of a) m.cluster ≡ false) × SomeNodeIsDown m
-WordRow m a line Idle = IsStepLine line × (m.in_hand a ≡ None)
+WordRow m a line Busy = IsCallLine line × IsSome (m.in_hand (Actor a))
+WordRow m a line Live = IsInitializeLine line × (m.in_hand (Actor a) ≡ None) × (is_live_client (number_of a) m.cluster ≡ true)
+WordRow m a line Down = IsInitializeLine line × (m.in_hand (Actor a) ≡ None) × (is_live_client (number_of a) m.cluster ≡ false) × SomeNodeIsDown m
+WordRow m a line Idle = IsStepLine line × (m.in_hand (Actor a) ≡ None)
 
 -- IDLE to a step of an asynchronous operation that is not there, or is finished
 abbrev pub OperationRow : Machine → CallId → LineWord → Said → Type 0
-OperationRow m call line Idle = IsStepLine line × (m.operations call ≡ None)
+OperationRow m call line Idle = IsStepLine line × (m.in_hand (whos.Call call) ≡ None)
 OperationRow m call line said = ⊥
 
 -- a word is allowed by its row: that of an actor, or of an asynchronous operation

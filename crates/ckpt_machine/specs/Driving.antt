@@ -1,4 +1,5 @@
 -- What a call does next, by its own steps and the record: the steps of each call, decision by decision.
+use Rattle.std.specs.Option.{option_map}
 use Rattle.std.specs.Prelude.{ℕ, ◌+◌, List, [], ◌∷◌, length, Option, Some, None, Bool, true, false, if◌then◌else◌, ℤ}
 use Rattle.moment_rules.specs.Times.{sum_until_end}
 use Rattle.ckpt_types.specs.declared.ais_error.AisError.TheVariants.{NotExist, TryAgain}
@@ -165,8 +166,8 @@ pub record Kept : Type 0 where
 
 -- the deadline of what was asked for at a moment, where it has a timeout
 abbrev pub deadline_from : ℤ → Ask → Option ℤ
-deadline_from moment (asks.Open place name flags timeout a) = Some (sum_until_end moment timeout)
-deadline_from moment (asks.Synchronize place timeout) = Some (sum_until_end moment timeout)
+deadline_from moment (asks.Open place name flags timeout a) = option_map (sum_until_end moment) timeout
+deadline_from moment (asks.Synchronize place timeout) = option_map (sum_until_end moment) timeout
 deadline_from moment ask = None
 
 -- the driver of a call on the checkpoint that it keeps, where it keeps one
@@ -196,10 +197,10 @@ abbrev pub change_start : CallId → Bool → ActiveKind → Option ℕ → Opti
 change_start call true kind ckpt = update_start call ckpt
 change_start call false kind ckpt = active_start call kind ckpt
 
--- what drives a call that goes on behind its beginning; a call on no checkpoint does not, nor does one that is answered at its beginning, or is not built
+-- what drives a call that goes on behind its beginning, or by itself; nothing drives a call on no checkpoint, or one that ends at its beginning, or is not built
 abbrev pub driver_start : CallId → Ask → Kept → Option Driver
 driver_start call (asks.Enter r version callbacks) kept = Some (drivers.Once (Enter r))
-driver_start call (asks.Open place name flags timeout a) kept = Some (drivers.Open (open_begun call (record { name = name; attrs = a; client = client_of call; node = kept.node }) (Some (sum_until_end kept.moment timeout))))
+driver_start call (asks.Open place name flags timeout a) kept = Some (drivers.Open (open_begun call (record { name = name; attrs = a; client = client_of call; node = kept.node }) (option_map (sum_until_end kept.moment) timeout)))
 driver_start call (asks.Change place update) kept = change_start call kept.all (kind_of_change kept.weak update) kept.ckpt
 driver_start call (asks.Read place elements) kept = active_start call kinds.Read kept.ckpt
 driver_start call (asks.Status place) kept = active_start call kinds.Status kept.ckpt
@@ -210,8 +211,9 @@ driver_start call (asks.Close place) kept = on_kept kept.ckpt (λ k. drivers.Onc
 driver_start call (asks.Retain place duration) kept = on_kept kept.ckpt (λ k. drivers.Once (Retain k duration))
 driver_start call (asks.Unlink name) kept = Some (drivers.Once (Unlink name))
 driver_start call asks.Leave kept = Some (drivers.Once Leave)
-driver_start call (asks.Synchronize place timeout) kept = sync_start call (Synchronize (Some (sum_until_end kept.moment timeout))) kept.ckpt
+driver_start call (asks.Synchronize place timeout) kept = sync_start call (Synchronize (option_map (sum_until_end kept.moment) timeout)) kept.ckpt
 driver_start call (asks.SetActive place) kept = sync_start call (ActiveSet kept.node) kept.ckpt
+driver_start call (asks.Dispatch flags) kept = None
 driver_start call asks.Unbuilt kept = None
 
 -- where a call's steps, the newest first, have led what drove it at its beginning

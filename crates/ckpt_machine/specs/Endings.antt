@@ -29,6 +29,6 @@ IsEndOf word outcome = ⊥
 
 -- where the label ends a call, at its beginning or by a step, it ends it as a call of its word may end
 abbrev pub EndsKnown : Label → Type 0
-EndsKnown (labels.Began call op end) = IfSome end (IsEndOf (word_of_op op))
+EndsKnown (labels.Began call op end details) = IfSome end (IsEndOf (word_of_op op))
 EndsKnown (labels.Stepped call word verb k r reply end details) = IfSome end (IsEndOf word)
 EndsKnown label = Unit {0}

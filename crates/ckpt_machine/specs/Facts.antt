@@ -1,6 +1,7 @@
 -- What the code relies on in every state of a run.
 use Rattle.std.specs.Prelude.{◌≡◌, ℕ, ◌<◌, length, Option, Some, None, IsSome, IsSomeAnd, IfSome, is_some, true, false, ◌==◌, ℤ, pos, ◌≤ℤ◌, slice_index}
 use Rattle.ckpt_types.specs.declared.identities.ActorName.{ActorName}
+use Rattle.ckpt_types.specs.declared.identities.Who.{Who}
 use Rattle.ckpt_types.specs.declared.calls.OpenAsk.{OpenAsk}
 use Rattle.ckpt_types.specs.declared.identities.CallId.{CallId}
 use Rattle.ckpt_types.specs.declared.sections.Choice.{Choice}
@@ -29,12 +30,13 @@ use Rattle.replica.specs.Replicas.{IsWrite}
 use Rattle.ckpt_machine.specs.Driving.{making_in}
 use Rattle.cluster_record.specs.RecordReady.{CanBecomeLive, CanOpen}
 use Rattle.ckpt_types.specs.Asks.{asked, update_of, IsBuilt}
-use Rattle.client_handles.specs.ClientState.{NoneLent}
+use Rattle.client_handles.specs.ClientState.{NoneLent, has_handle_room}
 use Rattle.ckpt_types.specs.Asks as asks
 use Rattle.ckpt_machine.specs.Tables.{choice_of, takes_copy}
-use Rattle.ckpt_machine.specs.Machine.{Machine, ReplicaState, CallState}
+use Rattle.ckpt_machine.specs.Machine.{Machine, ReplicaState, CallState, who}
+use Rattle.ckpt_machine.specs.Invariant.{AreCalls}
 use Rattle.ckpt_machine.specs.Propagation.{target_at}
-use Rattle.ckpt_machine.specs.Steps.{due, driver_of, IsDriven, rooms_of, room_at, seen_at, staged_moment, asked_handle}
+use Rattle.ckpt_machine.specs.Steps.{due, driver_of, IsDriven, room_at, seen_at, staged_moment, asked_handle}
 
 -- a replica can be reserved: the node is up, the checkpoint is in the making, the node is not complete, and the attributes passed their check
 pub record IsReservable (R : RecordState) (r : ℕ) (e : Entry) : Type 0 where
@@ -131,32 +133,34 @@ pub record IsGoingOn (m : Machine) (s : CallState) : Type 0 where
 
 -- what the code relies on, of each call in hand
 pub record Facts (m : Machine) : Type 0 where
-  -- a call in hand is its actor's, and is built, and what it asks for drives it
-  pub callers : (a : ActorName) (s : CallState) → m.in_hand a ≡ Some s → s.call.actor ≡ a
-  pub built : (a : ActorName) (s : CallState) → m.in_hand a ≡ Some s → IsBuilt s.op
-  pub driven : (a : ActorName) (s : CallState) → m.in_hand a ≡ Some s → IsDriven s
+  -- a call in hand is so under its own name and no other, is a client's, and is built, and what it asks for drives it
+  pub callers : (w : Who) (s : CallState) → m.in_hand w ≡ Some s → who s ≡ w
+  pub clients : (w : Who) (s : CallState) → m.in_hand w ≡ Some s → IsClient s.call.actor
+  pub calls : AreCalls m.in_hand m.pending m.next
+  pub built : (w : Who) (s : CallState) → m.in_hand w ≡ Some s → IsBuilt s.op
+  pub driven : (w : Who) (s : CallState) → m.in_hand w ≡ Some s → IsDriven s
   -- no iteration is lent between two steps
   pub rest : (a : ActorName) → NoneLent (m.tables a)
   pub rises : IdentitiesRise m.cluster.entries
   pub up_to : AllUpTo m.cluster.last_identity m.cluster.entries
-  pub ready : (a : ActorName) (s : CallState) (r : ℕ) (request : Request) → m.in_hand a ≡ Some s → due m s ≡ Serve r request → (r < nodes_max) × IsServable m r request
+  pub ready : (w : Who) (s : CallState) (r : ℕ) (request : Request) → m.in_hand w ≡ Some s → due m s ≡ Serve r request → (r < nodes_max) × IsServable m r request
   -- a due stage has the moment of the slots that stand
-  pub moments : (a : ActorName) (s : CallState) (r : ℕ) (call : CallId) (k : ℕ) (t : ℤ) → m.in_hand a ≡ Some s → due m s ≡ Serve r (requests.Stage call k t) → IsSomeAnd (m.replicas k r) HasNoSlot → staged_moment m k ≡ t
+  pub moments : (w : Who) (s : CallState) (r : ℕ) (call : CallId) (k : ℕ) (t : ℤ) → m.in_hand w ≡ Some s → due m s ≡ Serve r (requests.Stage call k t) → IsSomeAnd (m.replicas k r) HasNoSlot → staged_moment m k ≡ t
   -- a due commit is of the call's own update
-  pub commits : (a : ActorName) (s : CallState) (r : ℕ) (call : CallId) (k : ℕ) → m.in_hand a ≡ Some s → due m s ≡ Serve r (requests.Commit call k) → IsSomeAnd (m.replicas k r) (λ x. IsSomeAnd x.slot (λ slot. slot.update ≡ update_of s.op))
+  pub commits : (w : Who) (s : CallState) (r : ℕ) (call : CallId) (k : ℕ) → m.in_hand w ≡ Some s → due m s ≡ Serve r (requests.Commit call k) → IsSomeAnd (m.replicas k r) (λ x. IsSomeAnd x.slot (λ slot. slot.update ≡ update_of s.op))
   -- a weak write that is due to begin is a write
-  pub marks : (a : ActorName) (s : CallState) (r : ℕ) (call : CallId) (k : ℕ) → m.in_hand a ≡ Some s → due m s ≡ Serve r (requests.Mark call k) → IsWrite (update_of s.op)
-  pub events : (a : ActorName) (s : CallState) (step : RecordStep) → m.in_hand a ≡ Some s → due m s ≡ Event step → IsEventReady m s (driver_of s) step
-  -- an open has room for the handle of what it is making, and its client is live
-  pub opens : (a : ActorName) (s : CallState) (o : OpenState) → m.in_hand a ≡ Some s → driver_of s ≡ drivers.Open o → (IsSome o.making → (rooms_of m s).handles ≡ true) × (is_live_client (client_of s.call) m.cluster ≡ true)
+  pub marks : (w : Who) (s : CallState) (r : ℕ) (call : CallId) (k : ℕ) → m.in_hand w ≡ Some s → due m s ≡ Serve r (requests.Mark call k) → IsWrite (update_of s.op)
+  pub events : (w : Who) (s : CallState) (step : RecordStep) → m.in_hand w ≡ Some s → due m s ≡ Event step → IsEventReady m s (driver_of s) step
+  -- an open that is making something finds room for its handle, and its client is live
+  pub opens : (w : Who) (s : CallState) (o : OpenState) → m.in_hand w ≡ Some s → driver_of s ≡ drivers.Open o → (IsSome o.making → has_handle_room (m.tables s.call.actor) ≡ true) × (is_live_client (client_of s.call) m.cluster ≡ true)
   -- what a call is making by its own steps is what is in the making by it
-  pub makes : (a : ActorName) (s : CallState) → m.in_hand a ≡ Some s → making_of s.call m.cluster ≡ making_in (driver_of s)
+  pub makes : (w : Who) (s : CallState) → m.in_hand w ≡ Some s → making_of s.call m.cluster ≡ making_in (driver_of s)
   -- a complete node has its replica
   pub complete : (k r : ℕ) (e : Entry) → entry_of k m.cluster.entries ≡ Some e → (slice_index e.complete r == 0) ≡ false → IsSome (m.replicas k r)
   -- a put meets no slot and no marks
   pub puts : (k r : ℕ) (x : ReplicaState) → target_at m k r ≡ Some x → (x.slot ≡ None) × (x.marks ≡ None)
   -- a due pull has room for what it copies, and a due installation has in hand what was pulled
-  pub pulls : (a : ActorName) (s : CallState) (r : ℕ) (call : CallId) (k : ℕ) → m.in_hand a ≡ Some s → due m s ≡ Serve r (requests.Pull call k) → HasCopyRoom m s k
-  pub installs : (a : ActorName) (s : CallState) (r : ℕ) (call : CallId) (k : ℕ) → m.in_hand a ≡ Some s → due m s ≡ Serve r (requests.Install call k) → HasCopyRoom m s k × IsSome s.snapshot
-  pub starts : (a : ActorName) (s : CallState) (r : ℕ) (call : CallId) (k : ℕ) (choice : Choice) → m.in_hand a ≡ Some s → due m s ≡ Serve r (requests.Iterate call k choice) → IsStarting m s k choice
-  pub goes_on : (a : ActorName) (s : CallState) (r : ℕ) (call : CallId) (k : ℕ) → m.in_hand a ≡ Some s → due m s ≡ Serve r (requests.Next call k) → IsGoingOn m s
+  pub pulls : (w : Who) (s : CallState) (r : ℕ) (call : CallId) (k : ℕ) → m.in_hand w ≡ Some s → due m s ≡ Serve r (requests.Pull call k) → HasCopyRoom m s k
+  pub installs : (w : Who) (s : CallState) (r : ℕ) (call : CallId) (k : ℕ) → m.in_hand w ≡ Some s → due m s ≡ Serve r (requests.Install call k) → HasCopyRoom m s k × IsSome s.snapshot
+  pub starts : (w : Who) (s : CallState) (r : ℕ) (call : CallId) (k : ℕ) (choice : Choice) → m.in_hand w ≡ Some s → due m s ≡ Serve r (requests.Iterate call k choice) → IsStarting m s k choice
+  pub goes_on : (w : Who) (s : CallState) (r : ℕ) (call : CallId) (k : ℕ) → m.in_hand w ≡ Some s → due m s ≡ Serve r (requests.Next call k) → IsGoingOn m s

@@ -28,7 +28,7 @@ use Rattle.node_msgs.specs.declared.steps.StepReply.{StepReply}
 use Rattle.node_msgs.specs.declared.steps.StepReply.TheVariants as words
 use Rattle.run_labels.specs.declared.labels.Label.{Label}
 use Rattle.run_labels.specs.declared.labels.Label.TheVariants as labels
-use Rattle.ckpt_types.specs.OpWord.{word_of_op}
+use Rattle.ckpt_types.specs.OpWord.{word_of_op, stepped_as}
 use Rattle.cluster_record.specs.declared.entries.Entry.{Entry}
 use Rattle.cluster_record.specs.Calls.{same_call, client_of}
 use Rattle.cluster_record.specs.Placement.{is_collocated, targets}
@@ -518,7 +518,7 @@ abbrev pub EnterLook : Machine → AisError → Cause → Type 0
 EnterLook m errors.NoResources (Count n) = (clients_max ≤ length m.cluster.clients) × (n ≡ clients_max)
 EnterLook m error cause = ⊥
 
--- the handle's entry is gone, or a read's checkpoint has no active
+-- the handle's entry is gone
 abbrev pub GoneLook : Machine → Option ℕ → AisError → Cause → Type 0
 GoneLook m (Some k) errors.NotExist Plain = entry_of k m.cluster.entries ≡ None
 GoneLook m k error cause = ⊥
@@ -636,7 +636,7 @@ AtNodeAlone k r P = ⊥
 pub record AsksToOpen (s : CallState) (name : List ℕ) (a : Option CreationAttributes) : Type 0 where
   pub place : ℕ
   pub flags : ℕ
-  pub timeout : ℤ
+  pub timeout : Option ℤ
   pub asks : asked s.op ≡ asks.Open place name flags timeout a
 
 -- THE ROWS: a verb, what the call asks for, and when its step is allowed, with which reply, end and details
@@ -657,8 +657,8 @@ Row m s verbs.Read t = AtNode t.ckpt t.node (λ k r. (place : ℕ) × (elements 
 Row m s verbs.Status t = AtNode t.ckpt t.node (λ k r. (place : ℕ) × (asked s.op ≡ asks.Status place) × StatusRow m k r t.reply t.end t.details)
 Row m s verbs.Iter t = AtNode t.ckpt t.node (λ k r. (iteration place chosen : ℕ) × (time : ℤ) × (asked s.op ≡ asks.Iterate iteration place chosen time) × IterRow m s k r t.reply t.end) × (t.details ≡ beside.Nothing)
 Row m s verbs.Next t = AtNode t.ckpt t.node (λ k r. (iteration : ℕ) × (asked s.op ≡ asks.Next iteration) × NextRow m s k r t)
-Row m s verbs.Pull t = AtNode t.ckpt t.node (λ k r. (place : ℕ) × (timeout : ℤ) × (asked s.op ≡ asks.Synchronize place timeout) × PullRow m s k r t t.reply) × (t.details ≡ beside.Nothing)
-Row m s verbs.Install t = AtNode t.ckpt t.node (λ k r. (place : ℕ) × (timeout : ℤ) × (asked s.op ≡ asks.Synchronize place timeout) × InstallRow m s k r t t.reply) × (t.details ≡ beside.Nothing)
+Row m s verbs.Pull t = AtNode t.ckpt t.node (λ k r. (place : ℕ) × (timeout : Option ℤ) × (asked s.op ≡ asks.Synchronize place timeout) × PullRow m s k r t t.reply) × (t.details ≡ beside.Nothing)
+Row m s verbs.Install t = AtNode t.ckpt t.node (λ k r. (place : ℕ) × (timeout : Option ℤ) × (asked s.op ≡ asks.Synchronize place timeout) × InstallRow m s k r t t.reply) × (t.details ≡ beside.Nothing)
 Row m s verbs.Hold t = AtNode t.ckpt t.node (λ k r. (place : ℕ) × (asked s.op ≡ asks.SetActive place) × HoldRow m s k r t t.reply) × (t.details ≡ beside.Nothing)
 Row m s verbs.Activate t = AtNode t.ckpt t.node (λ k r. (place : ℕ) × (asked s.op ≡ asks.SetActive place) × ActivateRow m s k r t.reply t.end) × (t.details ≡ beside.Nothing)
 Row m s verbs.Leave t = AtNone t.ckpt t.node ((asked s.op ≡ asks.Leave) × LeaveRow m (client_of s.call) t.reply t.end) × (t.details ≡ beside.Nothing)
@@ -686,10 +686,10 @@ IsOnOwn verbs.Hold ckpt own = ckpt ≡ own
 IsOnOwn verbs.Activate ckpt own = ckpt ≡ own
 IsOnOwn verb ckpt own = Unit {0}
 
--- a step is of the call that its actor has in hand, and its row holds
+-- a step is of the call that is in hand under this name, and its row holds
 pub record IsAllowedStep (m : Machine) (call : CallId) (op : OpWord) (t : Told) : Type 0 where
   pub state : CallState
-  pub in_hand : m.in_hand call.actor ≡ Some state
+  pub in_hand : m.in_hand (stepped_as call op) ≡ Some state
   pub call_is : state.call ≡ call
   pub word : word_of_op state.op ≡ op
   pub own : IsOnOwn t.verb t.ckpt state.kept.ckpt
@@ -697,7 +697,7 @@ pub record IsAllowedStep (m : Machine) (call : CallId) (op : OpWord) (t : Told) 
 
 -- from m the machine allows this label; a label whose row is not built is not allowed
 abbrev pub Allowed : Machine → Label → Type 0
-Allowed m (labels.Began call op end) = IsAllowedBegin m call op end
+Allowed m (labels.Began call op end details) = IsAllowedBegin m call op end details
 Allowed m (labels.Stepped call op verb k r reply end details) = IsAllowedStep m call op (record { verb = verb; ckpt = k; node = r; reply = reply; end = end; details = details })
 Allowed m (labels.Word who word said) = IsAllowedWord m who word said
 Allowed m (labels.Nodes n) = (0 < n) × (n ≤ nodes_max) × ((r : ℕ) → is_up r m.cluster ≡ false)

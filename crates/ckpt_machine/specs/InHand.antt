@@ -6,7 +6,7 @@ use Rattle.ckpt_types.specs.declared.attributes.CreationAttributes.{CreationAttr
 use Rattle.ckpt_types.specs.declared.calls.CallbackSet.{CallbackSet}
 use Rattle.ckpt_types.specs.declared.calls.Version.{Version}
 use Rattle.ckpt_types.specs.declared.update.Update.{Update}
-use Rattle.ckpt_types.specs.declared.identities.ActorName.{ActorName}
+use Rattle.ckpt_types.specs.declared.identities.Who.{Who}
 use Rattle.ckpt_types.specs.Attributes.{is_malformed}
 use Rattle.ckpt_types.specs.Limits.{client_numbers, nodes_max, vector_max}
 use Rattle.ckpt_machine.specs.Drivers.{Driver}
@@ -35,9 +35,9 @@ use Rattle.ckpt_types.specs.Asks as asking
 use Rattle.ckpt_machine.specs.Beginning.{name_is_bad}
 use Rattle.ckpt_machine.specs.Guards.{AsksToOpen, deadline_of, serves}
 use Rattle.ckpt_machine.specs.Tables.{choice_of}
-use Rattle.ckpt_machine.specs.Machine.{Machine, Snapshot, CallState}
+use Rattle.ckpt_machine.specs.Machine.{Machine, Snapshot, CallState, who}
 use Rattle.ckpt_machine.specs.Options.{is_all, is_weak}
-use Rattle.ckpt_machine.specs.Steps.{driver_of, IsDriven, rooms_of, asked_handle}
+use Rattle.ckpt_machine.specs.Steps.{driver_of, IsDriven, asked_handle}
 use Rattle.section_iter.specs.Room.{room_declared}
 use Rattle.cluster_record.specs.declared.calls.UpdatePhase.{UpdatePhase}
 use Rattle.cluster_record.specs.StepDone.{has, last_having}
@@ -100,9 +100,8 @@ pub record IsOpenIn (m : Machine) (s : CallState) (o : OpenState) : Type 0 where
   pub declared : AreGoodAttributes o.ask.attrs
   pub deadline : o.deadline ≡ deadline_from s.kept.moment (asked s.op)
   pub making : IfSome o.making (IsMakingIn m s)
-  -- what it is making was asked for, and its client has a free place for the handle
+  -- what it is making was asked for
   pub given : IsSome o.making → IsSome o.ask.attrs
-  pub room : IsSome o.making → (rooms_of m s).handles ≡ true
 
 -- an update owns just the slots for which it keeps a node
 abbrev pub OwnsIn : Shape → CallState → UpdateState → Entry → Type 0
@@ -166,7 +165,7 @@ HasServedActive served pulled e = pulled.generation ≡ e.generation → IsSomeA
 pub record IsSynchronizeIn (m : Machine) (s : CallState) (u : SyncState) : Type 0 where
   pub call : u.call ≡ s.call
   pub place : ℕ
-  pub timeout : ℤ
+  pub timeout : Option ℤ
   pub asks : asked s.op ≡ asking.Synchronize place timeout
   pub kind : u.kind ≡ Synchronize (deadline_of s)
   pub kept : s.kept.ckpt ≡ Some u.ckpt
@@ -256,11 +255,11 @@ is_enter (drivers.Update u) = false
 is_enter (drivers.Active a) = false
 is_enter (drivers.Sync u) = false
 
--- a call in hand is its actor's, a client; its number was given, it is built, what it asks for drives it, each but an Initialize is live, and it is where its steps have led it
-pub record IsInHand (m : Machine) (shapes : ℕ → Shape) (a : ActorName) (s : CallState) : Type 0 where
-  pub actor : s.call.actor ≡ a
+-- a call in hand is so under its own name; it is a client's, its number was given, it is built, what it asks for drives it, each but an Initialize is live, and it is where its steps have led it
+pub record IsInHand (m : Machine) (shapes : ℕ → Shape) (w : Who) (s : CallState) : Type 0 where
+  pub whose : who s ≡ w
   pub client : IsClient s.call.actor
-  pub number : s.call.number < m.next a
+  pub number : s.call.number < m.next s.call.actor
   pub built : IsBuilt s.op
   pub driven : IsDriven s
   pub live : is_enter (driver_of s) ≡ false → is_live m.cluster s.call ≡ true

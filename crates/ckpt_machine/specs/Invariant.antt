@@ -1,22 +1,30 @@
 -- What holds in every state of a run, of any number of nodes up to eight and of calls in hand; from it follow the guards, and all that the code relies on.
-use Rattle.std.specs.Prelude.{◌≡◌, ℕ, ◌<◌, ◌≤◌, [], Option, Some, None, IsSome, IsSomeAnd, IfSome, Contains, true, false}
+use Rattle.std.specs.Prelude.{◌≡◌, ℕ, ◌+◌, ◌<◌, ◌≤◌, [], ◌++◌, List, length, map, Option, Some, None, IsSome, IsSomeAnd, IfSome, Contains, true, false}
 use Rattle.ckpt_types.specs.declared.identities.ActorName.{ActorName}
 use Rattle.ckpt_types.specs.declared.identities.CallId.{CallId}
+use Rattle.ckpt_types.specs.declared.identities.Who.{Who}
+use Rattle.ckpt_types.specs.Limits.{handles_max}
+use Rattle.call_dispatch.specs.PendingCalls.{PendingCalls, find_async}
+use Rattle.ckpt_types.specs.Asks.{invocation_of}
+use Rattle.ckpt_types.specs.OpWord.{is_async, word_of_op}
+use Rattle.call_dispatch.specs.declared.async_call.AsyncCall.{AsyncCall}
+use Rattle.call_dispatch.specs.declared.async_call.EndedCall.{EndedCall}
+use Rattle.cluster_record.specs.Makings.{makings_of}
 use Rattle.client_handles.specs.declared.handle_view.HandleView.{HandleView}
-use Rattle.client_handles.specs.ClientState.{NoneLent}
+use Rattle.client_handles.specs.ClientState.{ClientState, NoneLent}
 use Rattle.cluster_record.specs.declared.calls.Making.{Making}
 use Rattle.cluster_record.specs.DueOpen.{OpenState}
 use Rattle.cluster_record.specs.declared.clients.LiveClient.{LiveClient}
 use Rattle.cluster_record.specs.declared.entries.Entry.{Entry}
 use Rattle.cluster_record.specs.RecordState.{RecordState, entry_of, first_nodes, no_nodes, is_up, is_live_client, home_of, client_key}
-use Rattle.ckpt_machine.specs.Machine.{Machine, ReplicaState, CallState}
-use Rattle.ckpt_machine.specs.Steps.{driver_of}
+use Rattle.ckpt_machine.specs.Machine.{Machine, ReplicaState, CallState, who}
+use Rattle.ckpt_machine.specs.Steps.{driver_of, kind_of}
 use Rattle.cluster_record.specs.Calls.{IsClient, number_of}
 use Rattle.cluster_record.specs.Placement.{is_collocated}
 use Rattle.cluster_record.specs.Identities.{IdentitiesRise, AllUpTo}
 use Rattle.ckpt_types.specs.declared.identities.ActorName.TheVariants.{Client}
 use Rattle.cluster_record.specs.Places.{find_key}
-use Rattle.ckpt_machine.specs.Shape.{Shape, IsCompleteOn, held, IsSpread}
+use Rattle.ckpt_machine.specs.Shape.{Shape, IsCompleteOn, IsSpread}
 use Rattle.ckpt_machine.specs.Drivers as drivers
 use Rattle.ckpt_machine.specs.Entries.{AllStay, WasMade, IsMakingEntry}
 use Rattle.ckpt_machine.specs.InHand.{IsInHand}
@@ -24,7 +32,7 @@ use Rattle.ckpt_machine.specs.InHand.{IsInHand}
 -- the call is in hand, an open that is making the checkpoint
 pub record IsMaker (m : Machine) (k : ℕ) (call : CallId) : Type 0 where
   pub state : CallState
-  pub in_hand : held m call ≡ Some state
+  pub in_hand : m.in_hand (who state) ≡ Some state
   pub call_is : state.call ≡ call
   pub driver : OpenState
   pub driver_is : driver_of state ≡ drivers.Open driver
@@ -59,6 +67,31 @@ pub record IsOfGeneration (e : Entry) (r generation : ℕ) : Type 0 where
 abbrev pub IsCompleteAt : RecordState → ℕ → ℕ → ℕ → Type 0
 IsCompleteAt R k r generation = IsSomeAnd (entry_of k R.entries) (λ e. IsCompleteOn e r × IsOfGeneration e r generation)
 
+-- those that are under way, and those that have ended
+abbrev pub calls_of : PendingCalls → List AsyncCall
+calls_of p = p.unfinished ++ map (λ (ended : EndedCall). ended.asked) p.finished
+
+-- an asynchronous call that is not dispatched is of its actor, which has begun it
+pub record IsBegunBy (next : ActorName → ℕ) (a : ActorName) (c : AsyncCall) : Type 0 where
+  pub actor : c.call.actor ≡ a
+  pub number : c.call.number < next a
+
+-- it is kept of this call, as its operation asks
+pub record IsKeptOf (s : CallState) (c : AsyncCall) : Type 0 where
+  pub call : c.call ≡ s.call
+  pub kind : c.kind ≡ kind_of s.op
+  pub invocation : c.invocation ≡ invocation_of s.op
+
+-- no call is in hand under two names; what is not dispatched of an actor are calls of its own, with numbers that it has given; and each asynchronous call that is in hand is one of them, under way
+pub record AreCalls (in_hand : Who → Option CallState) (pending : ActorName → PendingCalls) (next : ActorName → ℕ) : Type 0 where
+  pub one_name : (w v : Who) (s t : CallState) → in_hand w ≡ Some s → in_hand v ≡ Some t → s.call ≡ t.call → w ≡ v
+  pub begun : (a : ActorName) (c : AsyncCall) → Contains (calls_of (pending a)) c → IsBegunBy next a c
+  pub kept : (w : Who) (s : CallState) → in_hand w ≡ Some s → is_async (word_of_op s.op) ≡ true → IsSomeAnd (find_async s.call (pending s.call.actor).unfinished) (IsKeptOf s)
+
+-- a client has no more handles than it may have, with one for each checkpoint that it is making
+abbrev pub HasPlaces : (ActorName → ClientState) → List Entry → Type 0
+HasPlaces tables entries = (c : ℕ) → length (tables (Client c)).handles + makings_of c entries ≤ handles_max
+
 -- what holds in every state of a run, where the checkpoints have these shapes
 pub record InvariantIn (shapes : ℕ → Shape) (m : Machine) : Type 0 where
   -- the nodes that are up came up at once, with the first incarnation
@@ -76,7 +109,9 @@ pub record InvariantIn (shapes : ℕ → Shape) (m : Machine) : Type 0 where
   -- no iteration is lent between two steps
   pub rest : (a : ActorName) → NoneLent (m.tables a)
   pub clients : (c : ℕ) → IfSome (find_key client_key c m.cluster.clients) (IsGoodClient m.next m.cluster c)
-  pub hands : (a : ActorName) (s : CallState) → m.in_hand a ≡ Some s → IsInHand m shapes a s
+  pub places : HasPlaces m.tables m.cluster.entries
+  pub hands : (w : Who) (s : CallState) → m.in_hand w ≡ Some s → IsInHand m shapes w s
+  pub calls : AreCalls m.in_hand m.pending m.next
 
 -- what holds in every state of a run
 pub record Invariant (m : Machine) : Type 0 where

@@ -2,6 +2,7 @@
 use Rattle.std.specs.Prelude.{◌≡◌, ℕ, [], length, Option, Some, IsSome, IfSome, Contains, true, false}
 use Rattle.ckpt_types.specs.declared.identities.ActorName.{ActorName}
 use Rattle.ckpt_types.specs.declared.identities.CallId.{CallId}
+use Rattle.ckpt_types.specs.declared.identities.Who.{Who}
 use Rattle.client_handles.specs.declared.handle_view.HandleView.{HandleView}
 use Rattle.cluster_record.specs.declared.entries.Entry.{Entry}
 use Rattle.cluster_record.specs.Calls.{number_of, client_of}
@@ -11,7 +12,7 @@ use Rattle.cluster_record.specs.Places.{find_key}
 use Rattle.cluster_record.specs.RecordState.{RecordState, entry_of, client_key, no_nodes, is_live}
 use Rattle.ckpt_machine.specs.Entries.{AllStay}
 use Rattle.ckpt_machine.specs.Invariant.{IsMaker, IsGoodClient}
-use Rattle.ckpt_machine.specs.Machine.{Machine, CallState}
+use Rattle.ckpt_machine.specs.Machine.{Machine, CallState, who}
 use Rattle.ckpt_machine.specs.Shape.{Shape, IsCompleteOn, IsOwner, IsMarker, IsHolder}
 use Rattle.weak_marks.specs.Marks.{Marked}
 
@@ -30,7 +31,7 @@ pub record IsLaterEntry (e f : Entry) : Type 0 where
   pub clients : length f.references ≡ length e.references
 
 -- R comes after the record of m, where these calls are left in hand
-pub record IsLaterRecord (m : Machine) (R : RecordState) (hands : ActorName → Option CallState) : Type 0 where
+pub record IsLaterRecord (m : Machine) (R : RecordState) (hands : Who → Option CallState) : Type 0 where
   pub up : R.up ≡ m.cluster.up
   pub last : R.last_identity ≡ m.cluster.last_identity
   pub rises : IdentitiesRise R.entries
@@ -40,15 +41,15 @@ pub record IsLaterRecord (m : Machine) (R : RecordState) (hands : ActorName → 
   pub none_live : m.cluster.up ≡ no_nodes → R.clients ≡ []
   pub clients : (c : ℕ) → IfSome (find_key client_key c R.clients) (IsGoodClient m.next R c)
   -- the calls that are left
-  pub was_held : (a : ActorName) (z : CallState) → hands a ≡ Some z → m.in_hand a ≡ Some z
+  pub was_held : (w : Who) (z : CallState) → hands w ≡ Some z → m.in_hand w ≡ Some z
   -- live as they were, and with what they are making
-  pub live : (a : ActorName) (z : CallState) → hands a ≡ Some z → is_live m.cluster z.call ≡ true → is_live R z.call ≡ true
-  pub lives : (a : ActorName) (z : CallState) → hands a ≡ Some z → find_key client_key (client_of z.call) R.clients ≡ find_key client_key (client_of z.call) m.cluster.clients
-  pub makes : (a : ActorName) (z : CallState) (k : ℕ) (e : Entry) → hands a ≡ Some z → entry_of k m.cluster.entries ≡ Some e → e.making ≡ Some z.call → IsSome (entry_of k R.entries)
+  pub live : (w : Who) (z : CallState) → hands w ≡ Some z → is_live m.cluster z.call ≡ true → is_live R z.call ≡ true
+  pub lives : (w : Who) (z : CallState) → hands w ≡ Some z → find_key client_key (client_of z.call) R.clients ≡ find_key client_key (client_of z.call) m.cluster.clients
+  pub makes : (w : Who) (z : CallState) (k : ℕ) (e : Entry) → hands w ≡ Some z → entry_of k m.cluster.entries ≡ Some e → e.making ≡ Some z.call → IsSome (entry_of k R.entries)
   -- who has a handle is on the node where its client was
   pub homes : (a : ActorName) (h : HandleView) → Contains (m.tables a).handles h → find_key client_key (number_of a) R.clients ≡ find_key client_key (number_of a) m.cluster.clients
   -- those who own slots, have marks, hold or are making what is left, are left
-  pub owners : (k : ℕ) (sh : Shape) (call : CallId) → IsOwner m k sh call → hands call.actor ≡ m.in_hand call.actor
-  pub markers : (k : ℕ) (marks : Marked) → IsSome (entry_of k R.entries) → IsMarker m k marks → hands marks.call.actor ≡ m.in_hand marks.call.actor
-  pub holders : (k : ℕ) (active : Option ℕ) (call : CallId) → IsSome (entry_of k R.entries) → IsHolder m k active call → hands call.actor ≡ m.in_hand call.actor
-  pub makers : (k : ℕ) (call : CallId) → IsSome (entry_of k R.entries) → IsMaker m k call → hands call.actor ≡ m.in_hand call.actor
+  pub owners : (k : ℕ) (sh : Shape) (call : CallId) (at : IsOwner m k sh call) → hands (who at.state) ≡ m.in_hand (who at.state)
+  pub markers : (k : ℕ) (marks : Marked) → IsSome (entry_of k R.entries) → (at : IsMarker m k marks) → hands (who at.state) ≡ m.in_hand (who at.state)
+  pub holders : (k : ℕ) (active : Option ℕ) (call : CallId) → IsSome (entry_of k R.entries) → (at : IsHolder m k active call) → hands (who at.state) ≡ m.in_hand (who at.state)
+  pub makers : (k : ℕ) (call : CallId) → IsSome (entry_of k R.entries) → (at : IsMaker m k call) → hands (who at.state) ≡ m.in_hand (who at.state)

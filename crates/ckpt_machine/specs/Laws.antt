@@ -7,6 +7,7 @@ use Rattle.node_msgs.specs.declared.details.Details.{Details}
 use Rattle.run_labels.specs.declared.labels.Label.{Label}
 use Rattle.run_labels.specs.declared.labels.Label.TheVariants as labels
 use Rattle.ckpt_types.specs.declared.words.OpWord.{OpWord}
+use Rattle.ckpt_types.specs.OpWord.{stepped_as}
 use Rattle.cluster_record.specs.StepDone.{done_of, counting}
 use Rattle.ckpt_machine.specs.Acknowledged.{AcknowledgedStay}
 use Rattle.ckpt_machine.specs.AllOrNone.{IsAllOrNoneThroughout}
@@ -20,6 +21,10 @@ use Rattle.ckpt_machine.specs.Machine.{Machine, CallState, empty_cluster}
 use Rattle.ckpt_machine.specs.Replays.{EffectsTellThroughout}
 use Rattle.ckpt_machine.specs.Refusals.{IsRefusal, LeavesBy, EachRefusalLeaves, unmade_swept}
 use Rattle.ckpt_machine.specs.Synchronized.{SynchronizedTell}
+use Rattle.ckpt_machine.specs.Owners.{OwnersInHandThroughout}
+use Rattle.ckpt_machine.specs.ActivesSet.{ActivesAreSet}
+use Rattle.ckpt_machine.specs.Causes.{EachEndIsAllowed}
+use Rattle.ckpt_machine.specs.WasAsked.{OnlyAskedThroughout}
 use Rattle.ckpt_machine.specs.Runs.{last, IsRun, Counts}
 use Rattle.ckpt_machine.specs.Steps.{IsDue, after, driver_of, counted_at}
 
@@ -45,7 +50,7 @@ CountsUp = (m : Machine) (l : Label) (n : ℕ) → Invariant m → IsDue m l →
 
 -- a due step that does not end its call brings it nearer to its end
 abbrev pub BringsNearer : Type 0
-BringsNearer = (m : Machine) (call : CallId) (op : OpWord) (verb : Verb) (k r : Option ℕ) (reply : StepReply) (details : Details) (s : CallState) → Invariant m → IsDue m (labels.Stepped call op verb k r reply None details) → m.in_hand call.actor ≡ Some s
+BringsNearer = (m : Machine) (call : CallId) (op : OpWord) (verb : Verb) (k r : Option ℕ) (reply : StepReply) (details : Details) (s : CallState) → Invariant m → IsDue m (labels.Stepped call op verb k r reply None details) → m.in_hand (stepped_as call op) ≡ Some s
     → let R = (after m (labels.Stepped call op verb k r reply None details)).cluster in steps_left R (driver_taken (counting (counted_at m verb k r reply) (done_of R verb k r reply)) (driver_of s)) < steps_left m.cluster (driver_of s)
 
 -- what is allowed and ends a call with a refusal leaves all as it was, but that its call has ended, and what it was making is undone
@@ -75,3 +80,19 @@ RunEffectsTell = (log : List Label) → IsRun log → EffectsTellThroughout log
 -- what was answered OK to a synchronisation is so: each complete replica has the checkpoint's generation, and first what the active had when it was pulled
 abbrev pub SynchronisationsTell : Type 0
 SynchronisationsTell = (log : List Label) → IsRun log → SynchronizedTell log
+
+-- at every time of a run, each effect of each replica, what is staged and what is marked there is of a call that began with this very update, of this checkpoint
+abbrev pub OnlyWhatWasAsked : Type 0
+OnlyWhatWasAsked = (log : List Label) → IsRun log → OnlyAskedThroughout log
+
+-- at every time of a run, who owns a slot, whose marks stand, and who makes or holds a checkpoint is in hand
+abbrev pub OwnersAreInHand : Type 0
+OwnersAreInHand = (log : List Label) → IsRun log → OwnersInHandThroughout log
+
+-- where the setting of an active was answered OK, the node of its client is the active, with the effects that the old active had when it was held
+abbrev pub SettingsOfActives : Type 0
+SettingsOfActives = (log : List Label) → IsRun log → ActivesAreSet log
+
+-- each label of a run that ends a call is allowed where it comes
+abbrev pub EachEndHasItsCause : Type 0
+EachEndHasItsCause = (log : List Label) → IsRun log → EachEndIsAllowed log

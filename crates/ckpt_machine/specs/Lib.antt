@@ -3,6 +3,7 @@ pub mod Beginning
 pub mod Tables
 pub mod Driving
 pub mod Machine
+pub mod Whose
 pub mod Options
 pub mod Complete
 pub mod Listing
@@ -25,4 +26,8 @@ pub mod Later
 pub mod AllOrNone
 pub mod Acknowledged
 pub mod Synchronized
+pub mod WasAsked
+pub mod Owners
+pub mod ActivesSet
+pub mod Causes
 pub mod Laws

@@ -1,12 +1,13 @@
 -- The state of the checkpoint machine.
-use Rattle.std.specs.Prelude.{ℕ, List, [], Option, None, false, ℤ}
-use Rattle.ckpt_types.specs.declared.calls.AsyncKind.{AsyncKind}
-use Rattle.ckpt_types.specs.declared.answers.Outcome.{Outcome}
+use Rattle.std.specs.Prelude.{ℕ, List, Option, None, false, ℤ}
 use Rattle.ckpt_types.specs.declared.identities.ActorName.{ActorName}
 use Rattle.ckpt_types.specs.declared.identities.CallId.{CallId}
+use Rattle.ckpt_types.specs.declared.identities.Who.{Who}
 use Rattle.ckpt_types.specs.declared.operation.Op.{Op}
+use Rattle.ckpt_types.specs.OpWord.{word_of_op, stepped_as}
 use Rattle.ckpt_types.specs.declared.update.Update.{Update}
 use Rattle.ckpt_types.specs.Sections.{Section}
+use Rattle.call_dispatch.specs.PendingCalls.{PendingCalls, no_pending}
 use Rattle.client_handles.specs.ClientState.{ClientState, new_client}
 use Rattle.weak_marks.specs.Marks.{Marked}
 use Rattle.cluster_record.specs.RecordState.{RecordState, empty_record}
@@ -40,13 +41,6 @@ pub record Snapshot : Type 0 where
   pub effects : List Effect
   pub generation : ℕ
 
--- an asynchronous call that has not been dispatched, with its outcome once it is finished
-pub record PendingCall : Type 0 where
-  pub call : CallId
-  pub kind : AsyncKind
-  pub invocation : ℕ
-  pub outcome : Option Outcome
-
 -- a call that is begun and not ended: what it kept at its beginning, what drove it then, its steps, the newest first, the identifier of the section that its commits have made, and the snapshot in its hand
 pub record CallState : Type 0 where
   pub call : CallId
@@ -57,6 +51,10 @@ pub record CallState : Type 0 where
   pub created : Option (List ℕ)
   pub snapshot : Option Snapshot
 
+-- by whose name the call is stepped: an asynchronous one by its own, any other by its actor's
+abbrev pub who : CallState → Who
+who s = stepped_as s.call (word_of_op s.op)
+
 -- THE STATE of the cluster
 pub record Machine : Type 0 where
   pub cluster : RecordState
@@ -65,14 +63,13 @@ pub record Machine : Type 0 where
   pub reserved : ℕ → ℕ → Option ℕ
   -- the background snapshot of each checkpoint
   pub snapshots : ℕ → Option Snapshot
-  -- what each client keeps, the very value that its tables show, and its asynchronous calls; a node has none of these
+  -- what each client keeps, the very value that its tables show, and its asynchronous calls that are not dispatched; a node has none of these
   pub tables : ActorName → ClientState
-  pub pending : ActorName → List PendingCall
+  pub pending : ActorName → PendingCalls
   -- the number that each client's and node's next call gets
   pub next : ActorName → ℕ
-  -- the call in hand of each client and node, and the unfinished asynchronous operations
-  pub in_hand : ActorName → Option CallState
-  pub operations : CallId → Option CallState
+  -- the calls in hand: one of each client and node, and the asynchronous ones that have not ended
+  pub in_hand : Who → Option CallState
 
 -- no callback is registered, no handle was opened, no iteration begun, and no place set
 abbrev pub no_tables : ClientState
@@ -86,8 +83,7 @@ empty_cluster = record {
   reserved = λ k r. None;
   snapshots = λ k. None;
   tables = λ a. no_tables;
-  pending = λ a. [];
+  pending = λ a. no_pending;
   next = λ a. 1;
-  in_hand = λ a. None;
-  operations = λ call. None;
+  in_hand = λ w. None;
 }

@@ -1,6 +1,7 @@
 -- Runs of the machine.
 use Rattle.std.specs.Prelude.{◌≡◌, ℕ, ◌+◌, ◌≤◌, List, [], ◌∷◌, length, Some, slice_index}
 use Rattle.ckpt_types.specs.declared.identities.ActorName.{ActorName}
+use Rattle.ckpt_types.specs.declared.identities.Who.{Who}
 use Rattle.run_labels.specs.declared.labels.Label.{Label}
 use Rattle.cluster_record.specs.declared.entries.Entry.{Entry}
 use Rattle.cluster_record.specs.RecordState.{entry_of}
@@ -35,7 +36,7 @@ pub record Counts (m : Machine) (n : ℕ) : Type 0 where
   pub last_iterations : (a : ActorName) → (m.tables a).last_iteration ≤ n
   pub effects : (k r : ℕ) (x : ReplicaState) → m.replicas k r ≡ Some x → length x.effects ≤ n
   pub snapshots : (k : ℕ) (s : Snapshot) → m.snapshots k ≡ Some s → length s.effects ≤ n
-  pub copies : (a : ActorName) (s : CallState) (x : Snapshot) → m.in_hand a ≡ Some s → s.snapshot ≡ Some x → length x.effects ≤ n
+  pub copies : (w : Who) (s : CallState) (x : Snapshot) → m.in_hand w ≡ Some s → s.snapshot ≡ Some x → length x.effects ≤ n
   pub identity : m.cluster.last_identity ≤ n
   pub generations : (k : ℕ) (e : Entry) → entry_of k m.cluster.entries ≡ Some e → e.generation ≤ n + 1
   pub references : (k : ℕ) (e : Entry) (c : ℕ) → entry_of k m.cluster.entries ≡ Some e → slice_index e.references c ≤ n

@@ -20,7 +20,7 @@ use Rattle.cluster_record.specs.Placement.{is_collocated}
 use Rattle.cluster_record.specs.RecordState.{first_complete}
 use Rattle.ckpt_machine.specs.Drivers as drivers
 use Rattle.ckpt_types.specs.Asks.{update_of}
-use Rattle.ckpt_machine.specs.Machine.{Machine, Effect, Applied, Staged, ReplicaState, CallState}
+use Rattle.ckpt_machine.specs.Machine.{Machine, Effect, Applied, Staged, ReplicaState, CallState, who}
 use Rattle.ckpt_machine.specs.Options.{is_all}
 use Rattle.ckpt_machine.specs.Propagation.{on_node, copied}
 use Rattle.ckpt_machine.specs.Steps.{driver_of}
@@ -105,14 +105,10 @@ abbrev pub PhaseFits : Shape → CallState → UpdateState → UpdatePhase → T
 PhaseFits sh s u Staging = IsStaging sh s u
 PhaseFits sh s u Committing = IsCommitting sh s
 
--- what the actor of a call has in hand
-abbrev pub held : Machine → CallId → Option CallState
-held m call = m.in_hand call.actor
-
 -- the call is in hand, an update of this checkpoint
 pub record IsOwner (m : Machine) (k : ℕ) (sh : Shape) (call : CallId) : Type 0 where
   pub state : CallState
-  pub in_hand : held m call ≡ Some state
+  pub in_hand : m.in_hand (who state) ≡ Some state
   pub call_is : state.call ≡ call
   pub driver : UpdateState
   pub driver_is : driver_of state ≡ drivers.Update driver
@@ -122,7 +118,7 @@ pub record IsOwner (m : Machine) (k : ℕ) (sh : Shape) (call : CallId) : Type 0
 -- the call of these marks is in hand, a weak write of this checkpoint, which has made them, and has as many of its elements left
 pub record IsMarker (m : Machine) (k : ℕ) (marks : Marked) : Type 0 where
   pub state : CallState
-  pub in_hand : held m marks.call ≡ Some state
+  pub in_hand : m.in_hand (who state) ≡ Some state
   pub call_is : state.call ≡ marks.call
   pub driver : ActiveState
   pub driver_is : driver_of state ≡ drivers.Active driver
@@ -142,7 +138,7 @@ IsActiveBy false complete active = active ≡ first_complete 0 complete
 -- the call is in hand, a setting of an active of this checkpoint, and has in its hand what the replica of this node has
 pub record IsHolder (m : Machine) (k : ℕ) (active : Option ℕ) (call : CallId) : Type 0 where
   pub state : CallState
-  pub in_hand : held m call ≡ Some state
+  pub in_hand : m.in_hand (who state) ≡ Some state
   pub call_is : state.call ≡ call
   pub driver : SyncState
   pub driver_is : driver_of state ≡ drivers.Sync driver

@@ -2,7 +2,7 @@
 use Rattle.section_iter.specs.Room.{room_declared}
 use Rattle.section_iter.specs.declared.room.Room.{Room}
 use Rattle.std.specs.Option.{option_or, option_map}
-use Rattle.std.specs.Prelude.{◌≡◌, ◌≢◌, ◌⊎◌, ℕ, ◌+◌, ◌<◌, ◌≤◌, List, [], ◌∷◌, ◌++◌, length, Option, Some, None, Bool, IsTrue, true, false, ◌==◌, if◌then◌else◌, ℤ, slice_index}
+use Rattle.std.specs.Prelude.{◌≡◌, ◌≢◌, ◌⊎◌, ℕ, ◌+◌, ◌<◌, ◌≤◌, List, [], ◌∷◌, ◌++◌, length, Option, Some, None, Bool, IsTrue, true, false, ◌==◌, ◌&&◌, if◌then◌else◌, ℤ, slice_index}
 use Rattle.ckpt_types.specs.declared.answers.Answer.TheVariants as answers
 use Rattle.ckpt_types.specs.declared.answers.Outcome.{Outcome}
 use Rattle.ckpt_types.specs.declared.ais_error.AisError.TheVariants.{TryAgain}
@@ -44,14 +44,14 @@ use Rattle.node_msgs.specs.declared.steps.StepReply.{StepReply}
 use Rattle.node_msgs.specs.declared.steps.StepReply.TheVariants as words
 use Rattle.run_labels.specs.declared.labels.Label.{Label}
 use Rattle.run_labels.specs.declared.labels.Label.TheVariants as labels
-use Rattle.ckpt_types.specs.OpWord.{word_of_op}
+use Rattle.ckpt_types.specs.OpWord.{word_of_op, is_async, stepped_as}
 use Rattle.client_handles.specs.declared.handle_view.HandleView.{HandleView}
 use Rattle.ckpt_machine.specs.Drivers.{Driver}
 use Rattle.ckpt_machine.specs.Drivers.{Rooms}
 use Rattle.cluster_record.specs.declared.entries.Entry.{Entry}
 use Rattle.replica.specs.Replicas.{Replica}
 use Rattle.stage_slot.specs.Slots.{Slot}
-use Rattle.cluster_record.specs.Calls.{number_of, client_of, IsClient, put_actor, left}
+use Rattle.cluster_record.specs.Calls.{number_of, client_of, IsClient, same_actor, put_actor, left}
 use Rattle.cluster_record.specs.Places.{put2}
 use Rattle.cluster_record.specs.LookUps.{declared_in, creation_flags_of}
 use Rattle.cluster_record.specs.RecordState.{RecordState, entry_of, complete_of, is_live_client, home_of, is_up, no_nodes, brought_up, IsMomentFrom, moved, swept, entered, created_as, finished, opened, undone, closed, unlinked, retained, departed, hold_set, active_set}
@@ -64,16 +64,22 @@ use Rattle.node_msgs.specs.Steps.{word_of, verb_of, event_verb}
 use Rattle.ckpt_machine.specs.Driving.{Kept, driver_start, driver_state, driver_next, driver_taken, driver_end, event_ckpt, event_node, event_end, event_refusal, takes_memory}
 use Rattle.ckpt_machine.specs.Listing.{listing_at}
 use Rattle.ckpt_machine.specs.Options.{is_all, is_weak, if_declared}
-use Rattle.ckpt_machine.specs.Machine.{Machine, Effect, Applied, Staged, ReplicaState, Snapshot, CallState}
+use Rattle.ckpt_machine.specs.Machine.{Machine, Effect, Applied, Staged, ReplicaState, Snapshot, CallState, who}
 use Rattle.ckpt_machine.specs.Propagation.{source_at, target_at, pull_answer, put_answer, with_pulled, with_put, copied, replica_from}
 use Rattle.client_handles.specs.ClientState.{ClientState, emptied}
-use Rattle.cluster_record.specs.Makings.{making_of}
+use Rattle.call_dispatch.specs.PendingCalls.{PendingCalls, no_pending, with_begun, ended_in, forgotten_over, dispatched, given_number, goes_over, find_async}
+use Rattle.call_dispatch.specs.declared.async_call.AsyncCall.{AsyncCall}
+use Rattle.ckpt_types.specs.declared.calls.AsyncKind.{AsyncKind}
+use Rattle.ckpt_types.specs.declared.calls.AsyncKind.TheVariants as kinds
+use Rattle.ckpt_types.specs.declared.operation.Op.TheVariants as ops
+use Rattle.cluster_record.specs.Makings.{making_of, makings_of}
 use Rattle.cluster_record.specs.StepDone.{StepDone, done_of, counting, generation_in}
 use Rattle.snap_copy.specs.Snapshots as copies
-use Rattle.ckpt_types.specs.Asks.{Ask, asked, update_of, elements_of, takes_room, IsBuilt}
+use Rattle.ckpt_types.specs.Asks.{Ask, asked, update_of, elements_of, invocation_of, IsBuilt}
 use Rattle.ckpt_types.specs.Asks as asks
-use Rattle.ckpt_machine.specs.Tables.{rooms_in, handle_asked, ckpt_of_handle, kept_asked, ids_of, handle_given, started, gone_on, closing, ended_at_once}
-use Rattle.ckpt_machine.specs.Beginning.{begin_end}
+use Rattle.ckpt_machine.specs.Tables.{rooms_in, handle_asked, ckpt_of_handle, kept_asked, ids_of, handle_given, handle_closed, registering, started, gone_on, closing, ended_at_once}
+use Rattle.ckpt_machine.specs.Beginning.{begin_end, callbacks_told, takes_memory_at_once, Standing}
+use Rattle.ckpt_machine.specs.Whose.{is_of, put_who}
 
 -- ---- what the code sees of one replica
 
@@ -106,9 +112,9 @@ driver_of s = driver_state s.begun s.steps
 abbrev pub IsDriven : CallState → Type 0
 IsDriven s = driver_start s.call (asked s.op) s.kept ≡ Some s.begun
 
--- what the tables of a call's client have a free place for
+-- what the tables of a call's client have a free place for; each checkpoint that it is making has one for its handle
 abbrev pub rooms_of : Machine → CallState → Rooms
-rooms_of m s = rooms_in (m.tables s.call.actor)
+rooms_of m s = rooms_in (makings_of (client_of s.call) m.cluster.entries) (m.tables s.call.actor)
 
 -- what the call does next
 abbrev pub due : Machine → CallState → Next
@@ -216,10 +222,10 @@ IsDone m s (Serve r request) t = IsServed m s r request t
 IsDone m s (Event step) t = IsEvent m s step t
 IsDone m s (End o) t = t ≡ record { verb = verbs.Look; ckpt = None; node = None; reply = look_word o; end = Some o; details = beside.Nothing }
 
--- the step is of the call that its actor has in hand, and is what this does next
+-- the step is of the call that is in hand under this name, and is what this does next
 pub record IsDueStep (m : Machine) (call : CallId) (op : OpWord) (t : Told) : Type 0 where
   pub state : CallState
-  pub in_hand : m.in_hand call.actor ≡ Some state
+  pub in_hand : m.in_hand (stepped_as call op) ≡ Some state
   pub call_is : state.call ≡ call
   pub word : word_of_op state.op ≡ op
   pub done : IsDone m state (due m state) t
@@ -229,6 +235,10 @@ pub record IsDueStep (m : Machine) (call : CallId) (op : OpWord) (t : Told) : Ty
 -- the handle that an operation is about
 abbrev pub asked_handle : Machine → ActorName → Op → Option HandleView
 asked_handle m a op = handle_asked (asked op) (m.tables a)
+
+-- what a beginning of an actor looks at
+abbrev pub standing_of : Machine → ActorName → Op → Standing
+standing_of m a op = record { live = is_live_client (number_of a) m.cluster; handle = asked_handle m a op; callbacks = (m.tables a).callbacks; pending = m.pending a }
 
 -- the room for all identifiers that a checkpoint declares; none for a checkpoint that is gone
 abbrev pub room_in : Option CreationAttributes → Room
@@ -259,36 +269,42 @@ abbrev pub MayBegin : RecordState → ℕ → Ask → Type 0
 MayBegin R c (asks.Enter r version callbacks) = (is_live_client c R ≡ false) × (is_up r R ≡ true)
 MayBegin R c ask = Unit {0}
 
--- a call answers at once by its first refusal, or goes on; one that takes room may be refused the memory
+-- no refusal is due
+abbrev pub is_unrefused : Option Outcome → Bool
+is_unrefused (Some (Refused error cause)) = false
+is_unrefused due = true
+
+-- a call answers at once by its first refusal, or OK, or goes on; one that takes memory then may be refused it where no refusal is due
 abbrev pub IsBeginEnd : Ask → Option Outcome → Option Outcome → Type 0
-IsBeginEnd ask due end = (end ≡ due) ⊎ (IsTrue (takes_room ask) × (due ≡ None) × (end ≡ Some NoMemory))
+IsBeginEnd ask due end = (end ≡ due) ⊎ (IsTrue (takes_memory_at_once ask) × IsTrue (is_unrefused due) × (end ≡ Some NoMemory))
 
 -- the call begins, and answers at once or goes on
-pub record IsBegun (m : Machine) (call : CallId) (op : Op) (end : Option Outcome) : Type 0 where
+pub record IsBegun (m : Machine) (call : CallId) (op : Op) (end : Option Outcome) (details : Details) : Type 0 where
   pub client : IsClient call.actor
   pub built : IsBuilt op
   pub number : call.number ≡ m.next call.actor
-  pub none_in_hand : m.in_hand call.actor ≡ None
+  pub none_in_hand : m.in_hand (Actor call.actor) ≡ None
   pub may : MayBegin m.cluster (number_of call.actor) (asked op)
-  pub answer : IsBeginEnd (asked op) (begin_end (is_live_client (number_of call.actor) m.cluster) (asked_handle m call.actor op) (asked op)) end
+  pub answer : IsBeginEnd (asked op) (begin_end (standing_of m call.actor op) (asked op)) end
+  pub told : details ≡ callbacks_told end (asked op) (m.pending call.actor)
 
 -- ---- a word in place of a call
 
 -- the word answers a line of this actor
 abbrev pub IsSaid : Machine → ActorName → LineWord → Said → Type 0
-IsSaid m a (linewords.Op w) Busy = m.in_hand a ≢ None
-IsSaid m a (linewords.Op opwords.Client) Live = (m.in_hand a ≡ None) × (is_live_client (number_of a) m.cluster ≡ true)
-IsSaid m a (linewords.Op opwords.Client) Down = (m.in_hand a ≡ None) × (is_live_client (number_of a) m.cluster ≡ false) × ((r : ℕ) × (r < nodes_max) × (is_up r m.cluster ≡ false))
+IsSaid m a (linewords.Op w) Busy = m.in_hand (Actor a) ≢ None
+IsSaid m a (linewords.Op opwords.Client) Live = (m.in_hand (Actor a) ≡ None) × (is_live_client (number_of a) m.cluster ≡ true)
+IsSaid m a (linewords.Op opwords.Client) Down = (m.in_hand (Actor a) ≡ None) × (is_live_client (number_of a) m.cluster ≡ false) × ((r : ℕ) × (r < nodes_max) × (is_up r m.cluster ≡ false))
 IsSaid m a (linewords.Op w) said = ⊥
-IsSaid m a linewords.Step Idle = m.in_hand a ≡ None
+IsSaid m a linewords.Step Idle = m.in_hand (Actor a) ≡ None
 IsSaid m a linewords.Step said = ⊥
-IsSaid m a linewords.Finish Idle = m.in_hand a ≡ None
+IsSaid m a linewords.Finish Idle = m.in_hand (Actor a) ≡ None
 IsSaid m a linewords.Finish said = ⊥
 
 -- the word answers a step of an asynchronous operation: none of this call is unfinished
 abbrev pub IsSaidOfOperation : Machine → CallId → LineWord → Said → Type 0
 IsSaidOfOperation m call (linewords.Op w) said = ⊥
-IsSaidOfOperation m call line Idle = m.operations call ≡ None
+IsSaidOfOperation m call line Idle = m.in_hand (whos.Call call) ≡ None
 IsSaidOfOperation m call line said = ⊥
 
 -- the word answers a line of an actor, or a step of an asynchronous operation
@@ -298,7 +314,7 @@ IsWord m (whos.Call call) word said = IsSaidOfOperation m call word said
 
 -- the label is due in this state; what is not built is not due
 abbrev pub IsDue : Machine → Label → Type 0
-IsDue m (labels.Began call op end) = IsBegun m call op end
+IsDue m (labels.Began call op end details) = IsBegun m call op end details
 IsDue m (labels.Stepped call op verb k r reply end details) = IsDueStep m call op (record { verb = verb; ckpt = k; node = r; reply = reply; end = end; details = details })
 IsDue m (labels.Word who word said) = IsWord m who word said
 IsDue m (labels.Nodes n) = (0 < n) × (n ≤ nodes_max) × (m.cluster.up ≡ no_nodes)
@@ -468,9 +484,37 @@ with_tables a change m = record m { tables = put_actor m.tables a (change (m.tab
 abbrev pub with_given : CallState → ℕ → Machine → Machine
 with_given s k m = with_tables s.call.actor (handle_given (asked s.op) k (creation_flags_of (entry_of k m.cluster.entries))) m
 
--- the handle is ended that the call ends, if it ends one
+-- the asynchronous calls of an actor that are not dispatched
+abbrev pub with_pending : ActorName → (PendingCalls → PendingCalls) → Machine → Machine
+with_pending a change m = record m { pending = put_actor m.pending a (change (m.pending a)) }
+
+-- no asynchronous call of the actor is left, neither in hand nor to be dispatched
+abbrev pub without_calls : ActorName → Machine → Machine
+without_calls a m = with_pending a (λ p. no_pending) (record m { in_hand = λ w. if is_of a w then None else m.in_hand w })
+
+-- the call is a synchronisation over the handle of this number
+abbrev pub is_over : ℕ → Option AsyncCall → Bool
+is_over handle None = false
+is_over handle (Some call) = goes_over handle call
+
+-- it is an asynchronous call that goes with the handle of this number, where one ends
+abbrev pub goes_with : Option ℕ → ActorName → PendingCalls → Who → Bool
+goes_with None a p w = false
+goes_with (Some handle) a p (Actor b) = false
+goes_with (Some handle) a p (whos.Call call) = same_actor call.actor a && is_over handle (find_async call p.unfinished)
+
+-- what is left of those that are not dispatched
+abbrev pub left_over : Option ℕ → PendingCalls → PendingCalls
+left_over None p = p
+left_over (Some handle) p = forgotten_over handle p
+
+-- where a handle ends, the actor's asynchronous synchronisations over it go with it
+abbrev pub without_syncs : Option ℕ → ActorName → Machine → Machine
+without_syncs handle a m = with_pending a (left_over handle) (record m { in_hand = λ w. if goes_with handle a (m.pending a) w then None else m.in_hand w })
+
+-- the handle is ended that the call ends, if it ends one, with the synchronisations over it
 abbrev pub with_closed : CallState → Machine → Machine
-with_closed s m = with_tables s.call.actor (closing (asked s.op)) m
+with_closed s m = with_tables s.call.actor (closing (asked s.op)) (without_syncs (handle_closed (asked s.op) (m.tables s.call.actor)) s.call.actor m)
 
 -- the iteration that the call starts keeps what the replica of a node gives to its choice now
 abbrev pub with_started : CallState → ℕ → ℕ → Machine → Machine
@@ -509,8 +553,8 @@ without_making (Some k) m = record_step (undone k) m
 
 -- what a step changes, the call's own steps aside
 abbrev pub changed : Machine → CallState → Verb → Option ℕ → Option ℕ → StepReply → Machine
-changed m s verbs.Enter k r reply = on_ok reply m (at_some r m (λ r. record_step (entered (client_of s.call) r s.call.number) m))
-changed m s verbs.Leave k r reply = on_ok reply m (with_tables s.call.actor emptied (record_step (departed (client_of s.call)) m))
+changed m s verbs.Enter k r reply = on_ok reply m (at_some r m (λ r. with_tables s.call.actor (registering (asked s.op)) (record_step (entered (client_of s.call) r s.call.number) m)))
+changed m s verbs.Leave k r reply = on_ok reply m (without_calls s.call.actor (with_tables s.call.actor emptied (record_step (departed (client_of s.call)) m)))
 changed m s verbs.Create k r reply = on_ok reply m (record_step (created_for s.call (asked s.op)) m)
 changed m s verbs.Reserve k r reply = on_ok reply m (at_some k m (λ k. at_some r m (λ r. with_reservation k r m)))
 changed m s verbs.Finish k r reply = on_ok reply m (at_some k m (λ k. with_given s k (record_step (finished k (client_of s.call)) m)))
@@ -564,9 +608,23 @@ kept_behind m s R verb k r reply = record s {
   snapshot = pulled_by m s verb k r reply;
 }
 
+-- the handle that an open has opened
+abbrev pub handle_opened : Outcome → ClientState → Option ℕ
+handle_opened (Done (answers.Opened k)) t = Some t.last_number
+handle_opened end t = None
+
+-- an asynchronous call that has ended stands behind those that have ended before it, till its callback is given
+abbrev pub ended_calls : CallState → Option Outcome → ClientState → PendingCalls → PendingCalls
+ended_calls s None t p = p
+ended_calls s (Some end) t p = if is_async (word_of_op s.op) then ended_in s.call (handle_opened end t) end p else p
+
 -- the call is in hand as it is behind the step, unless the step has ended it
+abbrev pub left_in_hand : Machine → CallState → Option Outcome → Machine
+left_in_hand m s end = record m { in_hand = put_who m.in_hand (who s) (left end s) }
+
+-- and where it has ended an asynchronous call, its client is to be told
 abbrev pub stepped : Machine → CallState → Option Outcome → Machine
-stepped m s end = record m { in_hand = put_actor m.in_hand s.call.actor (left end s) }
+stepped m s end = with_pending s.call.actor (ended_calls s end (m.tables s.call.actor)) (left_in_hand m s end)
 
 -- a step of the call that is in hand
 abbrev pub step_of : Machine → Option CallState → Verb → Option ℕ → Option ℕ → StepReply → Option Outcome → Machine
@@ -577,26 +635,53 @@ step_of m (Some s) verb k r reply end = let behind = changed m s verb k r reply 
 abbrev pub started_call : CallId → Op → Kept → Driver → CallState
 started_call call op kept driver = record { call = call; op = op; kept = kept; begun = driver; steps = []; created = None; snapshot = None }
 
--- it is in hand where its beginning has not ended it, and something drives it
+-- a call goes on behind its beginning where this has not ended it; an asynchronous one where it is answered OK
+abbrev pub goes_on : OpWord → Option Outcome → Bool
+goes_on word None = true
+goes_on word (Some (Done answer)) = is_async word
+goes_on word (Some end) = false
+
+-- it is in hand where it goes on, and something drives it
 abbrev pub call_begun : Option Outcome → CallId → Op → Kept → Option CallState
-call_begun (Some end) call op kept = None
-call_begun None call op kept = option_map (started_call call op kept) (driver_start call (asked op) kept)
+call_begun end call op kept = if goes_on (word_of_op op) end then option_map (started_call call op kept) (driver_start call (asked op) kept) else None
+
+-- the number of a handle, where there is one
+abbrev pub number_of_handle : Option HandleView → ℕ
+number_of_handle None = 0
+number_of_handle (Some h) = h.handle
+
+-- of which kind an asynchronous call is
+abbrev pub kind_of : Op → AsyncKind
+kind_of (ops.OpenAsync place invocation name flags a) = kinds.Open place
+kind_of op = kinds.Sync
+
+-- an asynchronous call, as it is kept till it is dispatched
+abbrev pub async_call : CallId → Op → Option HandleView → AsyncCall
+async_call call op h = record { call = call; kind = kind_of op; invocation = invocation_of op; handle = number_of_handle h }
+
+-- what a beginning that is answered OK makes of the calls that are not dispatched: an asynchronous call is one of them, and a dispatch takes those away that it gives
+abbrev pub pending_begun : Option Outcome → CallId → Op → Option HandleView → PendingCalls → PendingCalls
+pending_begun (Some (Done answer)) call (ops.OpenAsync place invocation name flags a) h p = with_begun (async_call call (ops.OpenAsync place invocation name flags a) h) p
+pending_begun (Some (Done answer)) call (ops.SyncAsync place invocation) h p = with_begun (async_call call (ops.SyncAsync place invocation) h) p
+pending_begun (Some (Done answer)) call (ops.Dispatch flags) h p = dispatched (given_number flags p) p
+pending_begun end call op h p = p
 
 -- a call has begun, and is in hand if it goes on
 abbrev pub begun_call : Machine → CallId → Op → Option Outcome → Machine
 begun_call m call op end = record m {
   next = put_actor m.next call.actor (m.next call.actor + 1);
-  in_hand = put_actor m.in_hand call.actor (call_begun end call op (kept_at_beginning m.cluster (number_of call.actor) (asked_handle m call.actor op)));
+  pending = put_actor m.pending call.actor (pending_begun end call op (asked_handle m call.actor op) (m.pending call.actor));
+  in_hand = put_who m.in_hand (stepped_as call (word_of_op op)) (call_begun end call op (kept_at_beginning m.cluster (number_of call.actor) (asked_handle m call.actor op)));
 }
 
--- a call has begun, and has ended an iteration where it ends one
+-- a call has begun, and has ended an iteration where it ends one, and set the places of the opens whose callbacks it gives
 abbrev pub after_beginning : Machine → CallId → Op → Option Outcome → Machine
-after_beginning m call op end = with_tables call.actor (ended_at_once end (asked op)) (begun_call m call op end)
+after_beginning m call op end = with_tables call.actor (ended_at_once end (asked op) (m.pending call.actor)) (begun_call m call op end)
 
 -- THE STATE AFTER A LABEL
 abbrev pub after : Machine → Label → Machine
-after m (labels.Began call op end) = after_beginning m call op end
-after m (labels.Stepped call op verb k r reply end details) = step_of m (m.in_hand call.actor) verb k r reply end
+after m (labels.Began call op end details) = after_beginning m call op end
+after m (labels.Stepped call op verb k r reply end details) = step_of m (m.in_hand (stepped_as call op)) verb k r reply end
 after m (labels.Nodes n) = record m { cluster = brought_up n m.cluster }
 after m (labels.Moved t) = with_record m (moved t m.cluster)
 after m (labels.Pulled k reply) = with_pulled m k reply (source_at m k)

@@ -1,17 +1,22 @@
 -- What a call finds in its client's tables, and what it makes of them, by what it asks for.
-use Rattle.std.specs.Prelude.{ℕ, ◌+◌, List, [], Option, Some, None, Result, Ok, Err, Bool, true, nat_le, if◌then◌else◌, ℤ, false}
+use Rattle.std.specs.Option.{option_map}
+use Rattle.std.specs.Prelude.{ℕ, ◌+◌, List, [], ◌∷◌, length, nat_lt, Option, Some, None, Result, Ok, Err, Bool, true, nat_le, if◌then◌else◌, ℤ, false}
 use Rattle.ckpt_types.specs.declared.ais_error.AisError.{AisError}
 use Rattle.ckpt_types.specs.declared.answers.Outcome.{Outcome}
 use Rattle.ckpt_types.specs.declared.answers.Outcome.TheVariants.{Done}
 use Rattle.ckpt_types.specs.declared.open_flags.OpenFlags.{OpenFlags}
 use Rattle.ckpt_types.specs.declared.sections.Choice.{Choice}
 use Rattle.ckpt_types.specs.Attributes.{open_flags_of}
-use Rattle.ckpt_types.specs.Limits.{sections_any}
+use Rattle.ckpt_types.specs.declared.calls.AsyncKind.{AsyncKind}
+use Rattle.ckpt_types.specs.declared.calls.AsyncKind.TheVariants.{Open, Sync}
+use Rattle.ckpt_types.specs.Limits.{handles_max, sections_any}
 use Rattle.ckpt_types.specs.Reads.{NextGiven}
 use Rattle.section_iter.specs.KeptIds.{KeptIds}
 use Rattle.section_iter.specs.Next.{kept_after}
 use Rattle.section_iter.specs.declared.room.Room.{Room}
-use Rattle.client_handles.specs.ClientState.{ClientState, handle_at, iterated_at, kept_at, taken, bound, dropped, added, returned, ended, has_handle_room, has_iteration_room}
+use Rattle.call_dispatch.specs.PendingCalls.{PendingCalls, given_by}
+use Rattle.call_dispatch.specs.declared.async_call.EndedCall.{EndedCall}
+use Rattle.client_handles.specs.ClientState.{ClientState, handle_at, iterated_at, kept_at, taken, bound, opened_at, dropped, added, returned, ended, registered, handle_number, has_iteration_room}
 use Rattle.client_handles.specs.declared.handle_view.HandleView.{HandleView}
 use Rattle.ckpt_types.specs.Asks.{Ask}
 use Rattle.ckpt_types.specs.Asks as asks
@@ -19,9 +24,13 @@ use Rattle.ckpt_machine.specs.Drivers.{Rooms}
 
 -- ---- what it finds
 
+-- there is a free place for one handle more, where each of so many that are in the making has one
+abbrev pub has_place : ℕ → ClientState → Bool
+has_place making t = nat_lt (length t.handles + making) handles_max
+
 -- what the tables have a free place for
-abbrev pub rooms_in : ClientState → Rooms
-rooms_in t = record { handles = has_handle_room t; iterations = has_iteration_room t }
+abbrev pub rooms_in : ℕ → ClientState → Rooms
+rooms_in making t = record { handles = has_place making t; iterations = has_iteration_room t }
 
 -- the handle that it is about: that of its place, or that over which its iteration goes
 abbrev pub handle_asked : Ask → ClientState → Option HandleView
@@ -69,9 +78,10 @@ abbrev pub flags_or_none : Result OpenFlags AisError → OpenFlags
 flags_or_none (Ok flags) = flags
 flags_or_none (Err error) = no_flags
 
--- an open has a handle more, of the checkpoint with these creation flags, and its place stands for it
+-- an open has a handle more, of the checkpoint with these creation flags, and its place stands for it; that of an asynchronous one does not before its callback is given
 abbrev pub handle_given : Ask → ℕ → ℕ → ClientState → ClientState
-handle_given (asks.Open place name flags timeout a) k creation_flags t = bound place (t.last_number + 1) (taken k (flags_or_none (open_flags_of flags)) creation_flags t)
+handle_given (asks.Open place name flags (Some timeout) a) k creation_flags t = bound place (t.last_number + 1) (taken k (flags_or_none (open_flags_of flags)) creation_flags t)
+handle_given (asks.Open place name flags None a) k creation_flags t = taken k (flags_or_none (open_flags_of flags)) creation_flags t
 handle_given ask k creation_flags t = t
 
 -- which sections are chosen, by the number of a choice
@@ -103,7 +113,30 @@ abbrev pub closing : Ask → ClientState → ClientState
 closing (asks.Close place) t = dropped place t
 closing ask t = t
 
--- what it ends where it is answered OK at its beginning: an iteration
-abbrev pub ended_at_once : Option Outcome → Ask → ClientState → ClientState
-ended_at_once (Some (Done answer)) (asks.EndIteration iteration) t = ended iteration t
-ended_at_once end ask t = t
+-- the number of the handle that it ends
+abbrev pub handle_closed : Ask → ClientState → Option ℕ
+handle_closed (asks.Close place) t = option_map handle_number (handle_at place t)
+handle_closed ask t = None
+
+-- one that becomes live has registered its callbacks
+abbrev pub registering : Ask → ClientState → ClientState
+registering (asks.Enter r version callbacks) t = registered callbacks t
+registering ask t = t
+
+-- the callback of an open sets its place to the handle that it has opened
+abbrev pub place_set : EndedCall → ClientState → ClientState
+place_set call t = by_kind call.asked.kind where
+  by_kind : AsyncKind → ClientState
+  by_kind (Open place) = opened_at place call.asked.handle t
+  by_kind Sync = t
+
+-- so do callbacks, one after the other
+abbrev pub places_set : List EndedCall → ClientState → ClientState
+places_set [] t = t
+places_set (call ∷ calls) t = places_set calls (place_set call t)
+
+-- what it changes where it is answered OK at its beginning: an iteration ends, or callbacks are given
+abbrev pub ended_at_once : Option Outcome → Ask → PendingCalls → ClientState → ClientState
+ended_at_once (Some (Done answer)) (asks.EndIteration iteration) p t = ended iteration t
+ended_at_once (Some (Done answer)) (asks.Dispatch flags) p t = places_set (given_by flags p) t
+ended_at_once end ask p t = t

@@ -11,6 +11,10 @@ use Rattle.ckpt_machine.proofs.RunLaws.{run_has}
 use Rattle.ckpt_machine.proofs.Start.{invariant_empty}
 use Rattle.ckpt_machine.proofs.AllOrNone.{on_all_or_none}
 use Rattle.ckpt_machine.proofs.Synchronized.{synchronisations_tell}
+use Rattle.ckpt_machine.proofs.OnlyAsked.{only_asked}
+use Rattle.ckpt_machine.proofs.OwnersInHand.{owners_in_hand}
+use Rattle.ckpt_machine.proofs.ActivesSet.{actives_are_set}
+use Rattle.ckpt_machine.proofs.Causes.{ends_allowed}
 use Rattle.ckpt_machine.proofs.machine_law.Goals as goal
 
 pub returns-clause-starts : goal.returns-clause-starts
@@ -51,3 +55,15 @@ returns-clause-effects c = effects_tell
 
 pub returns-clause-synchronized : goal.returns-clause-synchronized
 returns-clause-synchronized c = synchronisations_tell
+
+pub returns-clause-asked : goal.returns-clause-asked
+returns-clause-asked c = only_asked
+
+pub returns-clause-owners : goal.returns-clause-owners
+returns-clause-owners c = owners_in_hand
+
+pub returns-clause-actives : goal.returns-clause-actives
+returns-clause-actives c = actives_are_set
+
+pub returns-clause-causes : goal.returns-clause-causes
+returns-clause-causes c = ends_allowed

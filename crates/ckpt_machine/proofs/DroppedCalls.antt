@@ -1,0 +1,84 @@
+-- Calls that own and make nothing are dropped, or others are kept as not dispatched: what holds of all that are left stays.
+use Rattle.std.proofs.Common.{◌≡◌, ℕ, Option, Some, None, Bool, true, false, cond, not, refl, sym, ap, ◌∙◌}
+use Rattle.std.specs.Prelude.{is_some, if◌then◌else◌}
+use Rattle.ckpt_types.specs.declared.identities.ActorName.{ActorName}
+use Rattle.ckpt_types.specs.declared.identities.CallId.{CallId}
+use Rattle.ckpt_types.specs.declared.identities.Who.{Who}
+use Rattle.call_dispatch.specs.PendingCalls.{PendingCalls}
+use Rattle.weak_marks.specs.Marks.{Marked}
+use Rattle.ckpt_machine.specs.Invariant.{IsMaker, AreCalls, InvariantIn}
+use Rattle.ckpt_machine.specs.Machine.{Machine, CallState, who}
+use Rattle.ckpt_machine.specs.Shape.{Shape, IsOwner, IsMarker, IsHolder}
+use Rattle.ckpt_machine.specs.Steps.{driver_of}
+use Rattle.ckpt_machine.proofs.FewerCalls.{calls_fewer}
+use Rattle.ckpt_machine.proofs.OtherCalls.{IsIn-apart, IsGoodIn-apart}
+use Rattle.ckpt_machine.proofs.PlainCalls.{is_plain, is_plain_sync}
+
+-- without those in hand under some names
+abbrev pub without_those : (Who → Bool) → Machine → Machine
+without_those gone m = record m { in_hand = λ w. if gone w then None else m.in_hand w }
+
+-- what is left was in hand
+pub left_in : (gone : Who → Bool) (m : Machine) (w : Who) (z : CallState) → (without_those gone m).in_hand w ≡ Some z → (gone w ≡ false) × (m.in_hand w ≡ Some z)
+left_in gone m w z left = elim (gone w) as (λ b. cond b None (m.in_hand w) ≡ Some z → (b ≡ false) × (m.in_hand w ≡ Some z)) [ true ↦ λ none. absurd (cc none) | false ↦ λ there. (refl, there) ] left
+
+module _ (m : Machine) (shapes : ℕ → Shape) (inv : InvariantIn shapes m) where
+  -- ---- some are in hand no more
+
+  module _ (gone : Who → Bool) (plain : (w : Who) (z : CallState) → m.in_hand w ≡ Some z → gone w ≡ true → is_plain (driver_of z) z.snapshot ≡ true) where
+    -- one that owns something, or makes something, is left
+    stays : (w : Who) (z : CallState) → m.in_hand w ≡ Some z → is_plain (driver_of z) z.snapshot ≡ false → (without_those gone m).in_hand w ≡ m.in_hand w
+    stays w z at owns = elim (gone w) as (λ b. gone w ≡ b → cond b None (m.in_hand w) ≡ m.in_hand w) [
+      | true ↦ λ is. absurd (let e : true ≡ false = sym (plain w z at is) ∙ owns in cc e)
+      | false ↦ λ is. refl
+    ] refl
+
+    owner_stays : (k : ℕ) (sh : Shape) (d : CallId) (own : IsOwner m k sh d) → (without_those gone m).in_hand (who own.state) ≡ m.in_hand (who own.state)
+    owner_stays k sh d own = stays (who own.state) own.state own.in_hand (ap (λ d. is_plain d own.state.snapshot) own.driver_is)
+
+    marker_stays : (k : ℕ) (marks : Marked) (own : IsMarker m k marks) → (without_those gone m).in_hand (who own.state) ≡ m.in_hand (who own.state)
+    marker_stays k marks own = stays (who own.state) own.state own.in_hand (ap (λ d. is_plain d own.state.snapshot) own.driver_is ∙ ap (λ w. not (is_some w)) own.made_is)
+
+    holder_stays : (k : ℕ) (active : Option ℕ) (d : CallId) (own : IsHolder m k active d) → (without_those gone m).in_hand (who own.state) ≡ m.in_hand (who own.state)
+    holder_stays k active d own = stays (who own.state) own.state own.in_hand (ap (λ d. is_plain d own.state.snapshot) own.driver_is ∙ ap (λ kind. is_plain_sync kind own.state.snapshot) own.kind ∙ ap not own.some)
+
+    maker_stays : (k : ℕ) (d : CallId) (own : IsMaker m k d) → (without_those gone m).in_hand (who own.state) ≡ m.in_hand (who own.state)
+    maker_stays k d own = stays (who own.state) own.state own.in_hand (ap (λ d. is_plain d own.state.snapshot) own.driver_is ∙ ap (λ w. not (is_some w)) own.making_is)
+
+    pub dropped_keeps : InvariantIn shapes (without_those gone m)
+    dropped_keeps = record {
+      up = inv.up;
+      none_live = inv.none_live;
+      rises = inv.rises;
+      up_to = inv.up_to;
+      swept = inv.swept;
+      entries = λ k e found. IsGoodIn-apart m shapes m.next m.pending (without_those gone m).in_hand owner_stays marker_stays holder_stays maker_stays k (shapes k) e e.making (inv.entries k e found);
+      replicas = inv.replicas;
+      reserves = inv.reserves;
+      handles = inv.handles;
+      rest = inv.rest;
+      clients = inv.clients;
+      places = inv.places;
+      hands = λ w z left. let was = inv.hands w z (left_in gone m w z left).1 in record { whose = was.whose; client = was.client; number = was.number; built = was.built; driven = was.driven; live = was.live; here = IsIn-apart m shapes m.next m.pending (without_those gone m).in_hand z (driver_of z) was.here };
+      calls = calls_fewer m.in_hand (without_those gone m).in_hand m.pending m.next (λ w z left. (left_in gone m w z left).1) inv.calls;
+    }
+
+  -- ---- others are not dispatched
+
+  pub pending_keeps : (pending : ActorName → PendingCalls) → AreCalls m.in_hand pending m.next → InvariantIn shapes (record m { pending = pending })
+  pending_keeps pending calls = record {
+    up = inv.up;
+    none_live = inv.none_live;
+    rises = inv.rises;
+    up_to = inv.up_to;
+    swept = inv.swept;
+    entries = λ k e found. IsGoodIn-apart m shapes m.next pending m.in_hand (λ k sh d own. refl) (λ k marks own. refl) (λ k active d own. refl) (λ k d own. refl) k (shapes k) e e.making (inv.entries k e found);
+    replicas = inv.replicas;
+    reserves = inv.reserves;
+    handles = inv.handles;
+    rest = inv.rest;
+    clients = inv.clients;
+    places = inv.places;
+    hands = λ w z held. let was = inv.hands w z held in record { whose = was.whose; client = was.client; number = was.number; built = was.built; driven = was.driven; live = was.live; here = IsIn-apart m shapes m.next pending m.in_hand z (driver_of z) was.here };
+    calls = calls;
+  }

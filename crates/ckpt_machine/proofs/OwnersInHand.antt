@@ -1,0 +1,59 @@
+-- Each slot, each mark, each making and each hold is of a call in hand.
+use Rattle.std.proofs.Common.{◌≡◌, ℕ, Option, Some, None, refl, sym, subst, ◌∙◌}
+use Rattle.std.specs.Prelude.{IsSome, IsSomeAnd}
+use Rattle.ckpt_types.specs.declared.identities.CallId.{CallId}
+use Rattle.cluster_record.specs.declared.entries.Entry.{Entry}
+use Rattle.cluster_record.specs.RecordState.{entry_of}
+use Rattle.ckpt_machine.specs.Invariant.{IsMaker, IsGoodIn, Invariant}
+use Rattle.ckpt_machine.specs.Laws.{OwnersAreInHand}
+use Rattle.ckpt_machine.specs.Machine.{Machine, who}
+use Rattle.ckpt_machine.specs.Owners.{IsCallInHand, OwnersInHand}
+use Rattle.ckpt_machine.specs.Runs.{last}
+use Rattle.ckpt_machine.specs.Shape.{Shape, IsOwner, IsMarker, IsHolder}
+use Rattle.ckpt_machine.proofs.Histories.{HasHistory, slot_owned, marks_owned, run_history}
+use Rattle.ckpt_machine.proofs.OptionLemmas.{IsSomeAnd-at, IsSomeAnd-from}
+use Rattle.ckpt_machine.proofs.Runs.{run_front}
+
+module _ (m : Machine) (inv : Invariant m) (history : HasHistory m) where
+  -- each of them has its call in hand
+  owner_held : (k : ℕ) (sh : Shape) (call : CallId) → IsOwner m k sh call → IsCallInHand m call
+  owner_held k sh call by = record { name = who by.state; state = by.state; in_hand = by.in_hand; call_is = by.call_is }
+
+  maker_held : (k : ℕ) (call : CallId) → IsMaker m k call → IsCallInHand m call
+  maker_held k call by = record { name = who by.state; state = by.state; in_hand = by.in_hand; call_is = by.call_is }
+
+  holder_held : (k : ℕ) (active : Option ℕ) (call : CallId) → IsHolder m k active call → IsCallInHand m call
+  holder_held k active call by = record { name = who by.state; state = by.state; in_hand = by.in_hand; call_is = by.call_is }
+
+  makes : (k : ℕ) (e : Entry) (call : CallId) → entry_of k m.cluster.entries ≡ Some e → e.making ≡ Some call → IsCallInHand m call
+  makes k e call found making = maker_held k call (subst (λ o. IsGoodIn m k (inv.shapes k) e o) making (inv.holds.entries k e found)).1
+
+  -- what is in the making is not held
+  holds : (k : ℕ) (e : Entry) (call : CallId) → entry_of k m.cluster.entries ≡ Some e → e.hold ≡ Some call → IsCallInHand m call
+  holds k e call found held = by_making e.making (inv.holds.entries k e found)
+    where
+      by_making : (o : Option CallId) → IsGoodIn m k (inv.shapes k) e o → IsCallInHand m call
+      by_making None good = holder_held k e.active call (good.held call held).holder
+      by_making (Some maker) good = absurd (let free = good.0.free in let w : None ≡ Some call = sym free ∙ held in cc w)
+
+  reserves : (k r n : ℕ) → m.reserved k r ≡ Some n → IsSomeAnd (entry_of k m.cluster.entries) (λ e. IsSomeAnd e.making (IsCallInHand m))
+  reserves k r n is =
+      let (e, found, making) = IsSomeAnd-at (entry_of k m.cluster.entries) (λ e. IsSome e.making) (inv.holds.reserves k r n is) in
+      IsSomeAnd-from (entry_of k m.cluster.entries) (λ e. IsSomeAnd e.making (IsCallInHand m)) e found (by_making e found e.making refl making)
+    where
+      by_making : (e : Entry) → entry_of k m.cluster.entries ≡ Some e → (o : Option CallId) → e.making ≡ o → IsSome o → IsSomeAnd o (IsCallInHand m)
+      by_making e found None making none = absurd (cc none)
+      by_making e found (Some call) making some = IsSomeAnd-from (Some call) (IsCallInHand m) call refl (makes k e call found making)
+
+  in_hand : OwnersInHand m
+  in_hand = record {
+    slots = λ k r x slot there staged. owner_held k (inv.shapes k) slot.owner (slot_owned m inv.shapes inv.holds history.bare k r x slot there staged).0;
+    marks = λ k r x marks there marked. (let by : IsMarker m k marks = marks_owned m inv.shapes inv.holds history.bare k r x marks there marked in record { name = who by.state; state = by.state; in_hand = by.in_hand; call_is = by.call_is });
+    makes = makes;
+    holds = holds;
+    reserves = reserves;
+  }
+
+-- THE LAW: after each front of a run
+pub owners_in_hand : OwnersAreInHand
+owners_in_hand log run front back is = let (inv, history) = run_history front (run_front log front back is run) in in_hand (last front) inv history

@@ -1,0 +1,144 @@
+-- A step leaves each client as it was whose setting of an active is in hand: it enters and leaves by no other call meanwhile.
+use Rattle.std.proofs.Common.{◌≡◌, ℕ, Option, Some, None, Bool, true, false, cond, ◌==◌, refl, sym, ap, ◌∙◌}
+use Rattle.std.specs.Prelude.{is_some}
+use Rattle.std.proofs.lemmas.Bool.{eqb-true}
+use Rattle.ckpt_types.specs.declared.answers.Outcome.{Outcome}
+use Rattle.ckpt_types.specs.declared.identities.ActorName.TheVariants.{Client}
+use Rattle.ckpt_types.specs.declared.identities.Who.TheVariants.{Actor}
+use Rattle.ckpt_types.specs.Asks.{Ask, asked, is_async_ask}
+use Rattle.ckpt_types.specs.Asks as asks
+use Rattle.node_msgs.specs.declared.details.Details.{Details}
+use Rattle.node_msgs.specs.declared.steps.StepReply.{StepReply}
+use Rattle.node_msgs.specs.declared.steps.StepReply.TheVariants as words
+use Rattle.node_msgs.specs.declared.steps.Verb.{Verb}
+use Rattle.node_msgs.specs.declared.steps.Verb.TheVariants as verbs
+use Rattle.cluster_record.specs.declared.clients.LiveClient.{LiveClient}
+use Rattle.cluster_record.specs.Calls.{client_of}
+use Rattle.cluster_record.specs.Makings.{making_of}
+use Rattle.cluster_record.specs.Places.{find_key}
+use Rattle.cluster_record.specs.RecordState.{client_key}
+use Rattle.ckpt_machine.specs.Guards.{AtNone, Row}
+use Rattle.ckpt_machine.specs.Invariant.{Invariant}
+use Rattle.ckpt_machine.specs.Machine.{Machine, ReplicaState, CallState, who}
+use Rattle.ckpt_machine.specs.Steps.{Told, created_for, retained_for, without_making, change_replica, changed, on_ok, on_look, at_some}
+use Rattle.ckpt_machine.proofs.AsyncCalls.{own_name}
+use Rattle.ckpt_machine.proofs.EndedTables.{client_by_number}
+use Rattle.ckpt_machine.proofs.EntryLists.{find_key-push, find_key-without}
+use Rattle.ckpt_machine.proofs.Whose.{one_state}
+
+-- what is not some is none
+none_of : {X : Type 0} (o : Option X) → is_some o ≡ false → o ≡ None
+none_of None is = refl
+none_of (Some x) is = absurd (cc is)
+
+-- what a row says that names neither a checkpoint nor a node
+said_alone : (j q : Option ℕ) (P : Type 0) → AtNone j q P → P
+said_alone None None P p = p
+said_alone (Some j) q P p = absurd p
+said_alone None (Some q) P p = absurd p
+
+module _ (m : Machine) (inv : Invariant m) (s : CallState) (held : m.in_hand (who s) ≡ Some s) (z : CallState) (at : m.in_hand (who z) ≡ Some z) (place : ℕ) (asks_is : asked z.op ≡ asks.SetActive place) where
+  -- its client
+  abbrev c : ℕ
+  c = client_of z.call
+
+  -- a call of the same client for which this waits is the same one
+  apart : (ask : Ask) → asked s.op ≡ ask → is_async_ask ask ≡ false → (asks.SetActive place ≡ ask → ⊥) → (c == client_of s.call) ≡ false
+  apart ask is plain other = by_test (c == client_of s.call) refl
+    where
+      by_test : (b : Bool) → (c == client_of s.call) ≡ b → (c == client_of s.call) ≡ false
+      by_test false no_other = no_other
+      by_test true same =
+          let actor = client_by_number z.call.actor (inv.holds.hands (who z) z at).client ∙ ap Client (eqb-true c (client_of s.call) same) ∙ sym (client_by_number s.call.actor (inv.holds.hands (who s) s held).client) in
+          let name : who z ≡ who s = own_name z (ap is_async_ask asks_is) ∙ ap Actor actor ∙ sym (own_name s (ap is_async_ask is ∙ plain)) in
+          let state : z ≡ s = one_state m.in_hand (who z) (who s) z s at held name in
+          absurd (other (sym asks_is ∙ ap (λ (z : CallState). asked z.op) state ∙ is))
+
+  -- its client is as it was
+  abbrev Stays : Machine → Type 0
+  Stays n = find_key client_key c n.cluster.clients ≡ find_key client_key c m.cluster.clients
+
+  ok_stays : (reply : StepReply) (n : Machine) → Stays n → Stays (on_ok reply m n)
+  ok_stays words.Ok n stays = stays
+  ok_stays reply n stays = refl
+
+  one_stays : (j : Option ℕ) (change : ℕ → Machine) → ((j : ℕ) → Stays (change j)) → Stays (at_some j m change)
+  one_stays None change stays = refl
+  one_stays (Some j) change stays = stays j
+
+  both_stay : (j q : Option ℕ) (change : ℕ → ℕ → Machine) → ((j q : ℕ) → Stays (change j q)) → Stays (at_some j m (λ j. at_some q m (change j)))
+  both_stay j q change stays = one_stays j _ (λ j. one_stays q (change j) (stays j))
+
+  look_stays : (reply : StepReply) (done refused : Machine) → Stays done → Stays refused → Stays (on_look reply m done refused)
+  look_stays words.Done done refused after_done after_refused = after_done
+  look_stays words.Refused done refused after_done after_refused = after_refused
+  look_stays reply done refused after_done after_refused = refl
+
+  replica_stays : (n : Machine) → Stays n → (k r : ℕ) (o : Option ReplicaState) (change : ReplicaState → ReplicaState) → Stays (change_replica n k r o change)
+  replica_stays n stays k r None change = stays
+  replica_stays n stays k r (Some x) change = stays
+
+  replicas_stay : (j q : Option ℕ) (reply : StepReply) (change : ℕ → ReplicaState → ReplicaState) → Stays (on_ok reply m (at_some j m (λ k. at_some q m (λ r. change_replica m k r (m.replicas k r) (change k)))))
+  replicas_stay j q reply change = ok_stays reply _ (both_stay j q _ (λ k r. replica_stays m refl k r (m.replicas k r) (change k)))
+
+  created_stays : (ask : Ask) → find_key client_key c (created_for s.call ask m.cluster).clients ≡ find_key client_key c m.cluster.clients
+  created_stays (asks.Open place name flags timeout None) = refl
+  created_stays (asks.Open place name flags timeout (Some a)) = refl
+  created_stays ask = refl
+
+  retained_stays : (ask : Ask) (j : ℕ) → find_key client_key c (retained_for ask j m.cluster).clients ≡ find_key client_key c m.cluster.clients
+  retained_stays (asks.Retain place duration) j = refl
+  retained_stays ask j = refl
+
+  making_stays : (j : Option ℕ) → Stays (without_making j m)
+  making_stays None = refl
+  making_stays (Some j) = refl
+
+  module _ (end : Option Outcome) (details : Details) where
+    -- the parts of the step
+    abbrev t_of : Verb → Option ℕ → Option ℕ → StepReply → Told
+    t_of verb j q reply = record { verb = verb; ckpt = j; node = q; reply = reply; end = end; details = details }
+
+    -- another client enters
+    entered_stays : (r : ℕ) → Row m s verbs.Enter (t_of verbs.Enter None (Some r) words.Ok) → Stays (changed m s verbs.Enter None (Some r) words.Ok)
+    entered_stays r row =
+        let (version, callbacks, is, enters) = row.0 in
+        let new : LiveClient = record { client = client_of s.call; node = r; incarnation = _; initialize = s.call.number } in
+        find_key-push client_key c m.cluster.clients new (none_of (find_key client_key (client_of s.call) m.cluster.clients) enters.0.not_live)
+        ∙ ap (λ b. cond b (Some new) (find_key client_key c m.cluster.clients)) (apart (asks.Enter r version callbacks) is refl (λ same. cc same))
+
+    -- or leaves
+    left_stays : (j q : Option ℕ) → Row m s verbs.Leave (t_of verbs.Leave j q words.Ok) → Stays (changed m s verbs.Leave j q words.Ok)
+    left_stays j q row =
+        find_key-without client_key (client_of s.call) c m.cluster.clients
+        ∙ ap (λ b. cond b None (find_key client_key c m.cluster.clients)) (apart asks.Leave (said_alone j q _ row.0).0 refl (λ same. cc same))
+
+    -- behind any step that is allowed
+    pub client_stays : (verb : Verb) (j q : Option ℕ) (reply : StepReply) → Row m s verb (t_of verb j q reply) → Stays (changed m s verb j q reply)
+    client_stays verbs.Enter None (Some r) words.Ok row = entered_stays r row
+    client_stays verbs.Enter None None words.Ok row = absurd row.0
+    client_stays verbs.Enter (Some j) q words.Ok row = absurd row.0
+    client_stays verbs.Enter j q reply row = refl
+    client_stays verbs.Leave j q words.Ok row = left_stays j q row
+    client_stays verbs.Leave j q reply row = refl
+    client_stays verbs.Create j q reply row = ok_stays reply _ (created_stays (asked s.op))
+    client_stays verbs.Reserve j q reply row = ok_stays reply _ (both_stay j q _ (λ k r. refl))
+    client_stays verbs.Finish j q reply row = ok_stays reply _ (one_stays j _ (λ k. refl))
+    client_stays verbs.Undo j q reply row = ok_stays reply _ (one_stays j _ (λ k. refl))
+    client_stays verbs.Open j q reply row = ok_stays reply _ (one_stays j _ (λ k. refl))
+    client_stays verbs.Close j q reply row = ok_stays reply _ (one_stays j _ (λ k. refl))
+    client_stays verbs.Unlink j q reply row = ok_stays reply _ (one_stays j _ (λ k. refl))
+    client_stays verbs.Retain j q reply row = ok_stays reply _ (one_stays j _ (λ k. retained_stays (asked s.op) k))
+    client_stays verbs.Stage j q reply row = replicas_stay j q reply _
+    client_stays verbs.Commit j q reply row = replicas_stay j q reply _
+    client_stays verbs.Apply j q reply row = replicas_stay j q reply _
+    client_stays verbs.Mark j q reply row = replicas_stay j q reply _
+    client_stays verbs.Element j q reply row = replicas_stay j q reply _
+    client_stays verbs.Unmark j q reply row = replicas_stay j q reply _
+    client_stays verbs.Install j q reply row = replicas_stay j q reply _
+    client_stays verbs.Iter j q reply row = ok_stays reply _ (both_stay j q _ (λ k r. refl))
+    client_stays verbs.Next j q reply row = ok_stays reply _ (both_stay j q _ (λ k r. refl))
+    client_stays verbs.Hold j q reply row = ok_stays reply _ (one_stays j _ (λ k. refl))
+    client_stays verbs.Activate j q reply row = ok_stays reply _ (both_stay j q _ (λ k r. replica_stays _ refl k r _ _))
+    client_stays verbs.Look j q reply row = look_stays reply _ _ refl (making_stays (making_of s.call m.cluster))
+    client_stays verb j q reply row = refl
