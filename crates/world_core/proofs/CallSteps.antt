@@ -1,4 +1,4 @@
--- A step of the call that a client has in hand: that it is due, and what the world shows behind it.
+-- A step of the call that is in hand under a name: that it is due, and what the world shows behind it.
 use Rattle.std.proofs.Common.{◌≡◌, ℕ, List, ◌∷◌, refl, sym, ap, subst, ◌∙◌}
 use Rattle.std.specs.Prelude.{Option, Some}
 use Rattle.ckpt_types.specs.declared.answers.Outcome.{Outcome}
@@ -13,6 +13,10 @@ use Rattle.node_msgs.specs.declared.details.Details.{Details}
 use Rattle.run_labels.specs.declared.labels.Label.{Label}
 use Rattle.run_labels.specs.declared.labels.Label.TheVariants.{Stepped}
 use Rattle.ckpt_types.specs.OpWord.{word_of_op}
+use Rattle.ckpt_types.specs.declared.words.OpWord.{OpWord}
+use Rattle.ckpt_types.specs.declared.identities.Who.TheVariants.{Actor}
+use Rattle.cluster_record.specs.Calls.{left}
+use Rattle.world_core.proofs.Maps.{HasUnder, under_own, under_other}
 use Rattle.cluster_record.specs.StepDone.{StepDone, done_of, counting}
 use Rattle.ckpt_machine.specs.Driving.{driver_next}
 use Rattle.ckpt_machine.specs.Facts.{Facts}
@@ -21,13 +25,15 @@ use Rattle.snap_copy.specs.Snapshots as copies
 use Rattle.ckpt_machine.specs.Steps.{IsDue, IsDone, after, changed, counted_at, created_by, pulled_by, step_of, stepped}
 use Rattle.world_core.specs.declared.hands.InHand.{InHand}
 use Rattle.world_core.specs.declared.world.World.{World}
-use Rattle.world_core.specs.Happenings.{rooms_at}
+use Rattle.world_core.specs.Happenings.{rooms_at, IsStep, KeepsOther}
 use Rattle.world_core.specs.Backgrounds.{HaveRooms}
 use Rattle.world_core.specs.Holding.{HoldsOnlyWhatStands}
 use Rattle.world_core.specs.RecordReady.{IsPlain}
-use Rattle.world_core.specs.Shows.{Shows, IsShown, HistoryFits, History, machine_of, hand_at}
+use Rattle.world_core.specs.Shows.{Does, Shows, IsShown, HistoryFits, History, machine_of}
 use Rattle.world_core.proofs.Freeing.{DoesBefore}
-use Rattle.world_core.proofs.Held.{state_in, in_hand_at, actor_is, due_is, IsCopyBehind}
+use Rattle.world_core.proofs.Held.{state_in, in_hand_at, name_is, actor_is, due_is, IsCopyBehind}
+use Rattle.world_core.specs.HandsState.{hand_at, client_by}
+use Rattle.ckpt_types.specs.declared.identities.Who.{Who}
 use Rattle.world_core.proofs.Told.{with_step, told_world, told_is, told_fits}
 
 -- what is known of a world, and of a history with which it shows a state that has the facts
@@ -43,9 +49,37 @@ known_by w m s facts = record { facts = subst Facts s.same facts; fits = s.fits;
 pub known : (w : World) (shown : IsShown w) → IsKnown w shown.shows.history
 known w shown = known_by w shown.state shown.shows shown.facts
 
--- what a client's call has pulled by this history
-abbrev pub pulled_by_client : ℕ → History → Option (List Effect)
-pulled_by_client c h = h.pulled (Client c)
+-- what the call of a name has pulled by this history
+abbrev pub pulled_by_client : Who → History → Option (List Effect)
+pulled_by_client v h = h.pulled v
+
+-- a step is told by its label, and leaves the call in hand as `next` where it goes on
+pub step_told : (v : Who) (old new : World) (hand next : InHand) (op : OpWord) (verb : Verb) (k r : Option ℕ) (reply : StepReply) (end : Option Outcome) (details : Details) → hand_at old.hands v ≡ Some hand → next.call ≡ hand.call → next.op ≡ hand.op →
+    hand_at new.hands v ≡ left end next → KeepsOther v old new → Does old new (Stepped hand.call op verb k r reply end details) → IsStep v old new (Stepped hand.call op verb k r reply end details)
+step_told v old new hand next op verb k r reply end details held same_call same_op here others does = record {
+  hand = hand;
+  held = held;
+  op = op;
+  verb = verb;
+  ckpt = k;
+  node = r;
+  reply = reply;
+  end = end;
+  details = details;
+  label_is = refl;
+  next = next;
+  same_call = same_call;
+  same_op = same_op;
+  here = here;
+  others = others;
+  does = does;
+}
+
+-- where nothing else that is in hand has changed
+pub step_under : (v : Who) (old new : World) (hand next : InHand) (op : OpWord) (verb : Verb) (k r : Option ℕ) (reply : StepReply) (end : Option Outcome) (details : Details) → hand_at old.hands v ≡ Some hand → next.call ≡ hand.call → next.op ≡ hand.op →
+    HasUnder old.hands v (left end next) new.hands → Does old new (Stepped hand.call op verb k r reply end details) → IsStep v old new (Stepped hand.call op verb k r reply end details)
+step_under v old new hand next op verb k r reply end details held same_call same_op under does =
+    step_told v old new hand next op verb k r reply end details held same_call same_op (under_own old.hands new.hands v (left end next) under) (λ d other. under_other old.hands new.hands v (left end next) under (Actor (Client d)) other) does
 
 -- a step of the record tells no count
 pub event_counts : (m : Machine) (step : RecordStep) (k r : Option ℕ) (reply : StepReply) → counted_at m (event_verb step) k r reply ≡ 0
@@ -79,7 +113,7 @@ event_pulls m s (events.Complete j q t) k r reply plain = refl
 
 -- `behind` shows with the history `later` what the step changes, the call's own steps aside
 -- and the call is told this count, has this copy in its hand, and has pulled these effects then
-module _ (w : World) (c : ℕ) (hand : InHand) (held : hand_at w.hands c ≡ Some hand) (behind : World) (later : History → History) (verb : Verb) (k r : Option ℕ) (reply : StepReply) (end : Option Outcome) (details : Details) (count : ℕ) (copy : Option copies.Snapshot) (pulled : History → Option (List Effect)) where
+module _ (w : World) (v : Who) (hand : InHand) (held : hand_at w.hands v ≡ Some hand) (behind : World) (later : History → History) (verb : Verb) (k r : Option ℕ) (reply : StepReply) (end : Option Outcome) (details : Details) (count : ℕ) (copy : Option copies.Snapshot) (pulled : History → Option (List Effect)) where
   abbrev label : Label
   label = Stepped hand.call (word_of_op hand.op) verb k r reply end details
 
@@ -88,37 +122,37 @@ module _ (w : World) (c : ℕ) (hand : InHand) (held : hand_at w.hands c ≡ Som
 
   -- the world in which the call is told of it
   abbrev pub behind_step : World
-  behind_step = told_world behind c hand copy step_done end
+  behind_step = told_world behind v hand copy step_done end
 
   -- with the history that the machine has then
   abbrev history_behind : History → History
-  history_behind h = let m = machine_of w h in let s = state_in h c hand in with_step (later h) c step_done (created_by m s verb k r) (pulled h)
+  history_behind h = let m = machine_of w h in let s = state_in h v hand in with_step (later h) v step_done (created_by m s verb k r) (pulled h)
 
   -- the step is the one that is next, and is so shown
   pub record IsShownBehind (next : Next) (h : History) : Type 0 where
-    pub done : IsDone (machine_of w h) (state_in h c hand) next (record { verb = verb; ckpt = k; node = r; reply = reply; end = end; details = details })
-    pub change : changed (machine_of w h) (state_in h c hand) verb k r reply ≡ machine_of behind (later h)
+    pub done : IsDone (machine_of w h) (state_in h v hand) next (record { verb = verb; ckpt = k; node = r; reply = reply; end = end; details = details })
+    pub change : changed (machine_of w h) (state_in h v hand) verb k r reply ≡ machine_of behind (later h)
     pub fits : HistoryFits behind (later h)
     pub count_is : counted_at (machine_of w h) verb k r reply ≡ count
-    pub copy_is : IsCopyBehind (later h) c hand (pulled_by (machine_of w h) (state_in h c hand) verb k r reply) (pulled h) copy
+    pub copy_is : IsCopyBehind (later h) v hand (pulled_by (machine_of w h) (state_in h v hand) verb k r reply) (pulled h) copy
 
-  module _ (next : Next) (next_is : driver_next w.cluster (rooms_at w c) hand.driver ≡ next) (still : hand_at behind.hands c ≡ Some hand) (same : (h : History) → state_in h c hand ≡ state_in (later h) c hand) where
+  module _ (next : Next) (next_is : driver_next w.cluster (rooms_at w (client_by v)) hand.driver ≡ next) (still : hand_at behind.hands v ≡ Some hand) (same : (h : History) → state_in h v hand ≡ state_in (later h) v hand) where
     due_step : (h : History) → IsKnown w h → IsShownBehind next h → IsDue (machine_of w h) label
     due_step h is step = record {
-      state = state_in h c hand;
-      in_hand = in_hand_at w h c hand held is.facts;
+      state = state_in h v hand;
+      in_hand = in_hand_at w h v hand held is.facts;
       call_is = refl;
       word = refl;
-      done = subst (λ (n : Next). IsDone (machine_of w h) (state_in h c hand) n (record { verb = verb; ckpt = k; node = r; reply = reply; end = end; details = details })) (sym (due_is w h c hand held is.facts is.fits next next_is)) step.done;
+      done = subst (λ (n : Next). IsDone (machine_of w h) (state_in h v hand) n (record { verb = verb; ckpt = k; node = r; reply = reply; end = end; details = details })) (sym (due_is w h v hand held is.facts is.fits next next_is)) step.done;
     }
 
     after_is : (h : History) → IsKnown w h → IsShownBehind next h → after (machine_of w h) label ≡ machine_of behind_step (history_behind h)
     after_is h is step =
         let m = machine_of w h in
-        let s = state_in h c hand in
-        ap (λ (p : Option CallState). step_of m p verb k r reply end) (in_hand_at w h c hand held is.facts)
+        let s = state_in h v hand in
+        ap (λ (p : Option CallState). step_of m p verb k r reply end) (in_hand_at w h v hand held is.facts)
         ∙ (λ i. stepped (step.change i) (record (same h i) { steps = counting (step.count_is i) (done_of (step.change i).cluster verb k r reply) ∷ (same h i).steps; created = created_by m s verb k r; snapshot = pulled_by m s verb k r reply }) end)
-        ∙ told_is behind (later h) c hand step_done (created_by m s verb k r) (pulled_by m s verb k r reply) (pulled h) copy end (actor_is w h c hand held is.facts) step.fits still step.copy_is
+        ∙ told_is behind (later h) v hand step_done (created_by m s verb k r) (pulled_by m s verb k r reply) (pulled h) copy end (name_is w h v hand held is.facts) (actor_is w h v hand held is.facts) step.fits still step.copy_is
 
     -- the step, before the nodes are freed
     pub step_before : ((h : History) → IsKnown w h → IsShownBehind next h) → DoesBefore w behind_step label
@@ -126,5 +160,5 @@ module _ (w : World) (c : ℕ) (hand : InHand) (held : hand_at w.hands c ≡ Som
       due_is = λ m s f. let is = known_by w m s f in subst (λ (m : Machine). IsDue m label) (sym s.same) (due_step s.history is (step s.history is));
       history = λ m s f. history_behind s.history;
       same = λ m s f. let is = known_by w m s f in ap (λ (m : Machine). after m label) s.same ∙ after_is s.history is (step s.history is);
-      fits = λ m s f. let is = known_by w m s f in told_fits behind (later s.history) c hand step_done _ _ _ copy end (actor_is w s.history c hand held is.facts) (step s.history is).fits still (step s.history is).copy_is;
+      fits = λ m s f. let is = known_by w m s f in told_fits behind (later s.history) v hand step_done _ _ _ copy end (name_is w s.history v hand held is.facts) (actor_is w s.history v hand held is.facts) (step s.history is).fits still (step s.history is).copy_is;
     }

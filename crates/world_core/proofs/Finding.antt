@@ -43,13 +43,15 @@ use Rattle.section_iter.specs.Room.{room_declared, IsRoomFor}
 use Rattle.world_core.specs.TableState.{kept_by}
 use Rattle.world_core.specs.Happenings.{rooms_at}
 use Rattle.ckpt_machine.specs.Facts.{Facts, HasCopyRoom, IsServable}
-use Rattle.world_core.specs.Shows.{HistoryFits, FitsReplica, FitsSlot, FitsCopy, IsRoomToCopy, History, machine_of, shown_replica, shown_slot, shown_copy, where_complete, complete_replica, tables_of, hand_at}
+use Rattle.world_core.specs.Shows.{HistoryFits, FitsReplica, FitsSlot, FitsCopy, IsRoomToCopy, History, machine_of, shown_replica, shown_slot, shown_copy, where_complete, complete_replica, tables_of}
 use Rattle.world_core.specs.HandRooms.{room_for}
 use Rattle.ckpt_machine.proofs.NextOf.{OfAsked, next_of}
 use Rattle.world_core.proofs.Carrying.{GoesToReplica, IsOfCall, IsSameCopy, payload_with}
 use Rattle.world_core.proofs.CopySteps.{HasCopyRoomFor}
 use Rattle.world_core.proofs.Held.{state_in, in_hand_is, actor_is, iteration_is, due_is, copy_stays}
 use Rattle.world_core.proofs.IterationSteps.{TablesReady, goes_on_with, asked_is, room_for_declared}
+use Rattle.world_core.specs.HandsState.{hand_at, client_by}
+use Rattle.ckpt_types.specs.declared.identities.Who.{Who}
 use Rattle.world_core.proofs.Recording.{zero_there}
 
 -- ---- what may be due
@@ -139,7 +141,7 @@ servable : (m : Machine) (r : ℕ) (request : Request) → GoesToReplica request
 servable m r (Reserve k) goes h = absurd goes
 servable m r request goes h = h
 
-module _ (w : World) (h : History) (c r : ℕ) (request : Request) (hand : InHand) (facts : Facts (machine_of w h)) (fits : HistoryFits w h) (held : hand_at w.hands c ≡ Some hand) (next : driver_next w.cluster (rooms_at w c) hand.driver ≡ Serve r request) where
+module _ (w : World) (h : History) (v : Who) (r : ℕ) (request : Request) (hand : InHand) (facts : Facts (machine_of w h)) (fits : HistoryFits w h) (held : hand_at w.hands v ≡ Some hand) (next : driver_next w.cluster (rooms_at w (client_by v)) hand.driver ≡ Serve r request) where
   abbrev m : Machine
   m = machine_of w h
 
@@ -147,16 +149,16 @@ module _ (w : World) (h : History) (c r : ℕ) (request : Request) (hand : InHan
   k = ckpt_of request
 
   -- what is due of the call
-  pub due_here : due m (state_in h c hand) ≡ Serve r request
-  due_here = due_is w h c hand held facts fits (Serve r request) next
+  pub due_here : due m (state_in h v hand) ≡ Serve r request
+  due_here = due_is w h v hand held facts fits (Serve r request) next
 
   -- its node is one of eight, and can serve it
   pub ready : (r < 8) × IsServable m r request
-  ready = facts.ready (Client c) (state_in h c hand) r request (in_hand_is w h c hand held) due_here
+  ready = facts.ready v (state_in h v hand) r request (in_hand_is w h v hand held) due_here
 
   -- and it is one of a call that is built
   pub built : IsReservationOr request
-  built = subst AsksSo next (next_of AsksSo (λ o. tt) (λ step none. tt) (λ r k. tt) w.cluster (rooms_at w c) hand.driver (asked_goes hand.driver))
+  built = subst AsksSo next (next_of AsksSo (λ o. tt) (λ step none. tt) (λ r k. tt) w.cluster (rooms_at w (client_by v)) hand.driver (asked_goes hand.driver))
 
   module _ (goes : GoesToReplica request) where
     -- the node has the replica
@@ -201,34 +203,34 @@ copy_seen None s a there room counts = absurd (cc there)
 copy_seen (Some E) None a there room counts = absurd room
 copy_seen (Some E) (Some s) a there room counts = λ i. Some (record s { attributes = sym room i; count = counts i })
 
-module _ (w : World) (h : History) (c r : ℕ) (hand : InHand) (facts : Facts (machine_of w h)) (fits : HistoryFits w h) (held : hand_at w.hands c ≡ Some hand) where
+module _ (w : World) (h : History) (v : Who) (r : ℕ) (hand : InHand) (facts : Facts (machine_of w h)) (fits : HistoryFits w h) (held : hand_at w.hands v ≡ Some hand) where
   abbrev M : Machine
   M = machine_of w h
 
   abbrev s : CallState
-  s = state_in h c hand
+  s = state_in h v hand
 
   abbrev kept : ClientState
-  kept = kept_by w.tables c
+  kept = kept_by w.tables (client_by v)
 
   -- the iteration that it starts or with which it goes on
   pub tables_ready : (request : Request) → due M s ≡ Serve r request → TablesReady request M s hand kept
   tables_ready (requests.Iterate call k choice) is =
-      let starting = facts.starts (Client c) s r call k choice (in_hand_is w h c hand held) is in
-      (starting, iteration_is w h c hand held fits ∙ ap (λ a. room_for a s.kept.room) starting.asks)
+      let starting = facts.starts v s r call k choice (in_hand_is w h v hand held) is in
+      (starting, iteration_is w h v hand held fits ∙ ap (λ a. room_for a s.kept.room) starting.asks)
   tables_ready (requests.Next call k) is =
-      let going = facts.goes_on (Client c) s r call k (in_hand_is w h c hand held) is in
-      let caller = actor_is w h c hand held facts in
+      let going = facts.goes_on v s r call k (in_hand_is w h v hand held) is in
+      let caller = actor_is w h v hand held facts in
       goes_on_with (asked hand.op) kept going.iteration going.asks going.within
       (from_there _ (iteration_at going.iteration kept) (subst (λ (o : Option HandleView). IsSome o) (λ i. handle_asked (going.asks i) (tables_of w.tables (caller i))) going.handle))
-      (facts.rest (Client c))
+      (facts.rest (Client (client_by v)))
   tables_ready request is = tt
 
   -- the room for what it copies is what its checkpoint declares
   pub copy_room_is : (k : ℕ) → HasCopyRoom M s k → (e : Entry) → entry_of k w.cluster.entries ≡ Some e → IsSomeAnd hand.snapshot (λ s. s.attributes ≡ e.attributes)
   copy_room_is k has e at =
       let declares : s.kept.declares ≡ Some e.attributes = subst (λ (o : Option Entry). IsSomeAnd o (λ e. s.kept.declares ≡ Some e.attributes)) at has.declares in
-      subst (λ d. IsRoomToCopy (asked hand.op) d hand.snapshot) declares (copy_stays w h c hand held fits).room has.takes
+      subst (λ d. IsRoomToCopy (asked hand.op) d hand.snapshot) declares (copy_stays w h v hand held fits).room has.takes
 
   pub copy_declared : (k : ℕ) → HasCopyRoom M s k → (x : Replica) (e : Entry) → entry_of k w.cluster.entries ≡ Some e → x.attributes ≡ e.attributes → IsSomeAnd hand.snapshot (λ s. s.attributes ≡ x.attributes)
   copy_declared k has x e at same = subst (λ a. IsSomeAnd hand.snapshot (λ s. s.attributes ≡ a)) (sym same) (copy_room_is k has e at)
@@ -236,7 +238,7 @@ module _ (w : World) (h : History) (c r : ℕ) (hand : InHand) (facts : Facts (m
   -- a call that pulls has room
   pub copy_there : (request : Request) → due M s ≡ Serve r request → HasCopyRoomFor request hand.snapshot
   copy_there (requests.Pull call k) is =
-      let has = facts.pulls (Client c) s r call k (in_hand_is w h c hand held) is in
+      let has = facts.pulls v s r call k (in_hand_is w h v hand held) is in
       let (e, at, declares) = entry_with (λ e. s.kept.declares ≡ Some e.attributes) (entry_of k w.cluster.entries) has.declares in
       copy_is_there (λ s. s.attributes ≡ e.attributes) hand.snapshot (copy_room_is k has e at)
   copy_there request is = tt
@@ -244,17 +246,17 @@ module _ (w : World) (h : History) (c r : ℕ) (hand : InHand) (facts : Facts (m
   -- and one that installs has in hand what the machine's call has
   pub copy_carried : (request : Request) → due M s ≡ Serve r request → IsSameCopy request (payload_with hand kept) (payload_due M s)
   copy_carried (requests.Install call k) is =
-      let (has, there) = facts.installs (Client c) s r call k (in_hand_is w h c hand held) is in
+      let (has, there) = facts.installs v s r call k (in_hand_is w h v hand held) is in
       let (e, at, declares) = entry_with (λ e. s.kept.declares ≡ Some e.attributes) (entry_of k w.cluster.entries) has.declares in
-      sym (ap (λ d. seen_snapshot d s.snapshot) declares ∙ copy_seen (h.pulled (Client c)) hand.snapshot e.attributes there (copy_room_is k has e at) (copy_stays w h c hand held fits).counts)
+      sym (ap (λ d. seen_snapshot d s.snapshot) declares ∙ copy_seen (h.pulled v) hand.snapshot e.attributes there (copy_room_is k has e at) (copy_stays w h v hand held fits).counts)
   copy_carried request is = tt
 
   -- and what else of its own it uses at a replica
   pub of_call : (request : Request) → due M s ≡ Serve r request → (E : List Effect) (o : CallId) (x : Replica) (e : Entry) → entry_of (ckpt_of request) w.cluster.entries ≡ Some e → x.attributes ≡ e.attributes → M.replicas (ckpt_of request) r ≡ shown_replica E o (Some x) → IsOfCall request hand kept x
   of_call (requests.Commit call k) is E o x e at same is_shown =
-      let own = facts.commits (Client c) s r call k (in_hand_is w h c hand held) is in
+      let own = facts.commits v s r call k (in_hand_is w h v hand held) is in
       shown_update (update_of hand.op) o x.slot (subst (λ (y : Option ReplicaState). IsSomeAnd y (λ x. IsSomeAnd x.slot (λ slot. slot.update ≡ update_of hand.op))) is_shown own)
-  of_call (requests.Mark call k) is E o x e at same is_shown = facts.marks (Client c) s r call k (in_hand_is w h c hand held) is
+  of_call (requests.Mark call k) is E o x e at same is_shown = facts.marks v s r call k (in_hand_is w h v hand held) is
   of_call (requests.Iterate call k choice) is E o x e at same is_shown =
       let ready = tables_ready (requests.Iterate call k choice) is in
       let room : room_declared x.attributes ≡ s.kept.room = ap room_declared same ∙ sym (ready.0.room ∙ ap (λ o. room_in (declared_in o)) at) in
@@ -262,6 +264,6 @@ module _ (w : World) (h : History) (c r : ℕ) (hand : InHand) (facts : Facts (m
   of_call (requests.Next call k) is E o x e at same is_shown =
       let ready = tables_ready (requests.Next call k) is in
       subst (λ (o : Option KeptIds). IsSome o) (sym (asked_is (asked hand.op) kept ready)) refl
-  of_call (requests.Pull call k) is E o x e at same is_shown = copy_declared k (facts.pulls (Client c) s r call k (in_hand_is w h c hand held) is) x e at same
-  of_call (requests.Install call k) is E o x e at same is_shown = copy_declared k (facts.installs (Client c) s r call k (in_hand_is w h c hand held) is).0 x e at same
+  of_call (requests.Pull call k) is E o x e at same is_shown = copy_declared k (facts.pulls v s r call k (in_hand_is w h v hand held) is) x e at same
+  of_call (requests.Install call k) is E o x e at same is_shown = copy_declared k (facts.installs v s r call k (in_hand_is w h v hand held) is).0 x e at same
   of_call request is E o x e at same is_shown = tt

@@ -1,6 +1,6 @@
 -- A call holds its checkpoint, or the marks of a weak write keep it off: what that asks of the world, and what it makes of it.
 use Rattle.std.proofs.Common.{◌≡◌, inl, ℕ, ◌<◌, List, length, Bool, true, false, cond, refl, sym, ap, subst, ◌∙◌}
-use Rattle.std.specs.Prelude.{Option, Some, None, Result, Ok, Err, IfSome, IsSome, IsSomeAnd, ◌==◌, slice_index, slice_set}
+use Rattle.std.specs.Prelude.{Option, Some, None, Result, Ok, Err, IfSome, IsSome, IsSomeAnd, ◌==◌, slice_index}
 use Rattle.std.specs.Option.{option_map}
 use Rattle.std.proofs.lemmas.Option.{same_Some}
 use Rattle.ckpt_types.specs.declared.ais_error.AisError.TheVariants.{TryAgain}
@@ -8,7 +8,6 @@ use Rattle.ckpt_types.specs.declared.answers.Cause.TheVariants.{Holder}
 use Rattle.ckpt_types.specs.declared.calls.Held.{Held}
 use Rattle.ckpt_types.specs.declared.answers.Outcome.{Outcome}
 use Rattle.ckpt_types.specs.declared.answers.Outcome.TheVariants.{Refused}
-use Rattle.ckpt_types.specs.declared.identities.ActorName.TheVariants.{Client}
 use Rattle.ckpt_types.specs.declared.identities.CallId.{CallId}
 use Rattle.ckpt_types.specs.declared.words.OpWord.{OpWord}
 use Rattle.ckpt_types.specs.OpWord.{word_of_op}
@@ -39,21 +38,25 @@ use Rattle.ckpt_machine.specs.Steps.{Told, IsDone, IsEventAnswer, kept_off, mark
 use Rattle.world_core.specs.declared.hands.InHand.{InHand}
 use Rattle.world_core.specs.declared.snapshots.Background.{Background}
 use Rattle.world_core.specs.declared.world.World.{World}
+use Rattle.world_core.specs.Alone.{ended_at}
 use Rattle.world_core.specs.Freeing.{freed_world}
 use Rattle.world_core.specs.Happenings.{IsStep, rooms_at}
 use Rattle.world_core.specs.HandSteps.{hand_taken}
 use Rattle.world_core.specs.Leading.{synchronized_by, HasFreeHold}
 use Rattle.world_core.specs.Nodes.{replica_in}
 use Rattle.world_core.specs.RecordAfter.{event_after, nodes_behind, snapshots_behind}
-use Rattle.world_core.specs.Shows.{Does, IsShown, History, FitsReplica, IsRoomToCopy, complete_replica, machine_of, hand_at, shown_replica, where_complete}
-use Rattle.world_core.proofs.CallSteps.{IsKnown, known, known_by, behind_step, step_before, IsShownBehind, pulled_by_client}
+use Rattle.world_core.specs.Shows.{Does, IsShown, History, FitsReplica, IsRoomToCopy, complete_replica, machine_of, shown_replica, where_complete}
+use Rattle.world_core.proofs.CallSteps.{IsKnown, known, known_by, behind_step, step_before, step_under, IsShownBehind, pulled_by_client}
 use Rattle.world_core.proofs.CopySteps.{counts_effects, copied_whole, room_alike}
 use Rattle.world_core.proofs.Finding.{copy_declared}
 use Rattle.world_core.proofs.Freeing.{does_before, does_freed}
 use Rattle.world_core.proofs.Held.{copy_stays, state_in}
-use Rattle.world_core.proofs.LiveRooms.{EntersWithRoom, rooms_after}
+use Rattle.world_core.proofs.LiveRooms.{EntersWithRoom, rooms_after, rooms_ended}
+use Rattle.world_core.proofs.Maps.{HasUnder, ended_going, hand_left}
 use Rattle.world_core.proofs.RecordEvent.{done_beside, event_asks, event_ready, fits_recorded, holds_after, recorded, told_so}
 use Rattle.world_core.proofs.Recording.{with_effects}
+use Rattle.world_core.specs.HandsState.{hand_at, set_at, client_by}
+use Rattle.ckpt_types.specs.declared.identities.Who.{Who}
 use Rattle.world_core.proofs.SnapshotRooms.{event_has}
 
 -- ---- a call that synchronizes
@@ -105,10 +108,10 @@ replica_shown E o n y there = by_test (n == 0) refl y there where
   by_test false t None there = absurd (cc there)
   by_test false t (Some x) there = (x, refl, t)
 
-module _ (w : World) (c r : ℕ) (hand : InHand) (held : hand_at w.hands c ≡ Some hand) (next : driver_next w.cluster (rooms_at w c) hand.driver ≡ Event (events.Hold r)) where
+module _ (w : World) (v : Who) (r : ℕ) (hand : InHand) (held : hand_at w.hands v ≡ Some hand) (next : driver_next w.cluster (rooms_at w (client_by v)) hand.driver ≡ Event (events.Hold r)) where
   -- it synchronizes a checkpoint
   pub holds_one : IsShown w → IsSome (synchronized_by hand.driver)
-  holds_one shown = let h = shown.shows.history in synchronizes (machine_of w h) (state_in h c hand) hand.driver r (event_ready w c (events.Hold r) hand held next shown)
+  holds_one shown = let h = shown.shows.history in synchronizes (machine_of w h) (state_in h v hand) hand.driver r (event_ready w v (events.Hold r) hand held next shown)
 
   module _ (k : ℕ) (one : synchronized_by hand.driver ≡ Some k) where
     abbrev u : SyncState
@@ -134,11 +137,11 @@ module _ (w : World) (c r : ℕ) (hand : InHand) (held : hand_at w.hands c ≡ S
       m = machine_of w h
 
       abbrev s : CallState
-      s = state_in h c hand
+      s = state_in h v hand
 
       -- what is due asks it
       asks : IsEventReady m s (drivers.Sync u) (events.Hold r)
-      asks = subst (λ x. IsEventReady m s x (events.Hold r)) driver (event_asks w c (events.Hold r) hand held next h is)
+      asks = subst (λ x. IsEventReady m s x (events.Hold r)) driver (event_asks w v (events.Hold r) hand held next h is)
 
       -- the replica of the active stands there
       found : (x : Replica) × (replica_in w.nodes k r ≡ Some x) × ((slice_index (complete_of (entry_of k w.cluster.entries)) r == 0) ≡ false)
@@ -168,39 +171,39 @@ module _ (w : World) (c r : ℕ) (hand : InHand) (held : hand_at w.hands c ≡ S
         roomy = by_entry (entry_of k w.cluster.entries) refl (free h is) its where
           by_entry : (o : Option Entry) → entry_of k w.cluster.entries ≡ o → HasFreeHold o → FitsReplica k o (h.effects k r) (Some x) → IsSomeAnd hand.snapshot (λ s. s.attributes ≡ x.attributes)
           by_entry None at none fits = absurd none
-          by_entry (Some e) at none fits = copy_declared w h c r hand is.facts is.fits held k (subst (HasCopyRoom (m h is) (s h is)) ckpt_is (asks h is).2) x e at fits.1
+          by_entry (Some e) at none fits = copy_declared w h v r hand is.facts is.fits held k (subst (HasCopyRoom (m h is) (s h is)) ckpt_is (asks h is).2) x e at fits.1
 
         -- the step is told as the marks on it have it
         told_here : (reply : StepReply) (end : Option Outcome) → IsEventAnswer (call_of x.marks) None (events.Hold r) (hold_told reply end) → IsDone (m h is) (s h is) (Event (events.Hold r)) (hold_told reply end)
         told_here reply end answer =
             subst (λ (z : Option ℕ × Option ℕ). IsDone (m h is) (s h is) (Event (events.Hold r)) (record (hold_told reply end) { ckpt = z.0; node = z.1 })) (λ i. (sym label_ckpt i, sym label_node i))
-            (told_so w c (events.Hold r) hand held next h is reply end
+            (told_so w v (events.Hold r) hand held next h is reply end
             (subst (λ (z : Option CallId × Option Outcome × Option ℕ × Option ℕ). IsEventAnswer z.0 z.1 (events.Hold r) (record (hold_told reply end) { ckpt = z.2; node = z.3 }))
             (λ i. ((ap (λ y. call_of (marks_on y)) (sym shown_is) ∙ ap (λ o. kept_off (m h is) o (events.Hold r)) label_ckpt) i, sym granted i, label_ckpt i, label_node i)) answer))
 
         -- marks keep it off
-        kept_off_here : (by : CallId) → call_of x.marks ≡ Some by → IsShownBehind w c hand held w (λ h. h) verbs.Hold (Some k) (Some r) (words.Held by) (Some (Refused TryAgain (Holder by))) beside.Nothing 0 hand.snapshot (pulled_by_client c) (Event (events.Hold r)) h
+        kept_off_here : (by : CallId) → call_of x.marks ≡ Some by → IsShownBehind w v hand held w (λ h. h) verbs.Hold (Some k) (Some r) (words.Held by) (Some (Refused TryAgain (Holder by))) beside.Nothing 0 hand.snapshot (pulled_by_client v) (Event (events.Hold r)) h
         kept_off_here by marked = record {
           done = told_here (words.Held by) (Some (Refused TryAgain (Holder by))) (subst (λ o. IsEventAnswer o None (events.Hold r) (hold_told (words.Held by) (Some (Refused TryAgain (Holder by))))) (sym marked) (refl, refl));
           change = refl;
           fits = is.fits;
           count_is = refl;
-          copy_is = copy_stays w h c hand held is.fits;
+          copy_is = copy_stays w h v hand held is.fits;
         }
 
         -- it holds the checkpoint
         holds_here : length w.nodes ≡ 8 → call_of x.marks ≡ None → (t : copies.Snapshot) → hand.snapshot ≡ Some t →
-            IsShownBehind w c hand held (recorded w c (events.Hold r) hand held next) (with_effects w) verbs.Hold (Some k) (Some r) words.Ok None beside.Nothing 0 (Some (pulled_from x t)) (λ h. Some (h.effects k r)) (Event (events.Hold r)) h
+            IsShownBehind w v hand held (recorded w v (events.Hold r) hand held next) (with_effects w) verbs.Hold (Some k) (Some r) words.Ok None beside.Nothing 0 (Some (pulled_from x t)) (λ h. Some (h.effects k r)) (Event (events.Hold r)) h
         holds_here eight unmarked t had = record {
           done = told_here words.Ok None (subst (λ o. IsEventAnswer o None (events.Hold r) (hold_told words.Ok None)) (sym unmarked) (inl (refl, refl)));
-          change = ap (λ (z : Option ℕ × Option ℕ). changed (m h is) (s h is) verbs.Hold z.0 z.1 words.Ok) (λ i. (label_ckpt i, label_node i)) ∙ done_beside w c (events.Hold r) hand held next h is eight granted;
-          fits = fits_recorded w c (events.Hold r) hand held next h is eight granted;
+          change = ap (λ (z : Option ℕ × Option ℕ). changed (m h is) (s h is) verbs.Hold z.0 z.1 words.Ok) (λ i. (label_ckpt i, label_node i)) ∙ done_beside w v (events.Hold r) hand held next h is eight granted;
+          fits = fits_recorded w v (events.Hold r) hand held next h is eight granted;
           count_is = refl;
           copy_is =
-              let has = copy_stays w h c hand held is.fits in
+              let has = copy_stays w h v hand held is.fits in
               let copied = copied_whole ((m h is).replicas k r) (h.effects k r) (h.origins k r) x t shown_is (counts_effects k (h.effects k r) x (entry_of k w.cluster.entries) its)
-              (IsRoomToCopy (asked hand.op) (h.beginnings (Client c)).kept.declares) (λ s t attributes. room_alike (asked hand.op) (h.beginnings (Client c)).kept.declares s t attributes)
-              (subst (IsRoomToCopy (asked hand.op) (h.beginnings (Client c)).kept.declares) had has.room) in
+              (IsRoomToCopy (asked hand.op) (h.beginnings v).kept.declares) (λ s t attributes. room_alike (asked hand.op) (h.beginnings v).kept.declares s t attributes)
+              (subst (IsRoomToCopy (asked hand.op) (h.beginnings v).kept.declares) had has.room) in
               record { same = copied.same; room = copied.room; counts = copied.counts };
         }
 
@@ -209,22 +212,22 @@ module _ (w : World) (c r : ℕ) (hand : InHand) (held : hand_at w.hands c ≡ S
       abbrev hold_label : StepReply → Option Outcome → Label
       hold_label reply end = Stepped hand.call (word_of_op hand.op) verbs.Hold (Some k) (Some r) reply end beside.Nothing
 
-      pub hold_kept_off : (by : CallId) → call_of x.marks ≡ Some by → Does w (record w { hands = slice_set w.hands c None }) (hold_label (words.Held by) (Some (Refused TryAgain (Holder by))))
+      pub hold_kept_off : (by : CallId) → call_of x.marks ≡ Some by → Does w (ended_at v (Some (Refused TryAgain (Holder by))) (record w { hands = set_at w.hands v None })) (hold_label (words.Held by) (Some (Refused TryAgain (Holder by))))
       hold_kept_off by marked =
-          let end = Some (Refused TryAgain (Holder by)) in
-          does_before w (record w { hands = slice_set w.hands c None }) (hold_label (words.Held by) end)
-          (step_before w c hand held w (λ h. h) verbs.Hold (Some k) (Some r) (words.Held by) end beside.Nothing 0 hand.snapshot (pulled_by_client c) (Event (events.Hold r)) next held (λ h. refl) (λ h is. kept_off_here h is by marked))
-          (λ m s f. s.holds) (λ m s f. s.keeps) (λ m s f. s.rooms)
+          let end : Option Outcome = Some (Refused TryAgain (Holder by)) in
+          does_before w (ended_at v end (record w { hands = set_at w.hands v None })) (hold_label (words.Held by) end)
+          (step_before w v hand held w (λ h. h) verbs.Hold (Some k) (Some r) (words.Held by) end beside.Nothing 0 hand.snapshot (pulled_by_client v) (Event (events.Hold r)) next held (λ h. refl) (λ h is. kept_off_here h is by marked))
+          (λ m s f. s.holds) (λ m s f. s.keeps) (λ m s f. rooms_ended w w.cluster v end s.rooms)
 
       pub hold_done : length w.nodes ≡ 8 → call_of x.marks ≡ None → (t : copies.Snapshot) → hand.snapshot ≡ Some t →
-          Does w (freed_world (behind_step w c hand held (recorded w c (events.Hold r) hand held next) (with_effects w) verbs.Hold (Some k) (Some r) words.Ok None beside.Nothing 0 (Some (pulled_from x t)) (λ h. Some (h.effects k r)))) (hold_label words.Ok None)
+          Does w (freed_world (behind_step w v hand held (recorded w v (events.Hold r) hand held next) (with_effects w) verbs.Hold (Some k) (Some r) words.Ok None beside.Nothing 0 (Some (pulled_from x t)) (λ h. Some (h.effects k r)))) (hold_label words.Ok None)
       hold_done eight unmarked t had =
-          let behind = recorded w c (events.Hold r) hand held next in
-          does_freed w (behind_step w c hand held behind (with_effects w) verbs.Hold (Some k) (Some r) words.Ok None beside.Nothing 0 (Some (pulled_from x t)) (λ h. Some (h.effects k r))) (hold_label words.Ok None)
-          (step_before w c hand held behind (with_effects w) verbs.Hold (Some k) (Some r) words.Ok None beside.Nothing 0 (Some (pulled_from x t)) (λ h. Some (h.effects k r)) (Event (events.Hold r)) next held (λ h. refl) (λ h is. holds_here h is eight unmarked t had))
-          (λ m s f. holds_after w c (events.Hold r) hand held next s.history (known_by w m s f) eight granted)
+          let behind = recorded w v (events.Hold r) hand held next in
+          does_freed w (behind_step w v hand held behind (with_effects w) verbs.Hold (Some k) (Some r) words.Ok None beside.Nothing 0 (Some (pulled_from x t)) (λ h. Some (h.effects k r))) (hold_label words.Ok None)
+          (step_before w v hand held behind (with_effects w) verbs.Hold (Some k) (Some r) words.Ok None beside.Nothing 0 (Some (pulled_from x t)) (λ h. Some (h.effects k r)) (Event (events.Hold r)) next held (λ h. refl) (λ h is. holds_here h is eight unmarked t had))
+          (λ m s f. holds_after w v (events.Hold r) hand held next s.history (known_by w m s f) eight granted)
           (λ m s f. let is = known_by w m s f in event_has w.cluster w.snapshots is.keeps is.facts.rises is.facts.up_to hand.call hand.driver (events.Hold r))
-          (λ m s f. rooms_after hand.call hand.driver (events.Hold r) w.cluster w.tables (subst (λ x. EntersWithRoom hand.call x w.tables) (sym driver) tt) s.rooms)
+          (λ m s f. rooms_ended w (recorded w v (events.Hold r) hand held next).cluster v None (rooms_after hand.call hand.driver (events.Hold r) w.cluster w.tables (subst (λ x. EntersWithRoom hand.call x w.tables) (sym driver) tt) s.rooms))
 
 -- ---- with the parts as the code names them
 
@@ -241,29 +244,29 @@ unmarked : (o : Option CallId) (done : Unit {0}) → pull_result o ≡ Ok done �
 unmarked None done is = refl
 unmarked (Some by) done is = absurd (cc is)
 
-module _ (w : World) (c r : ℕ) (hand : InHand) (held : hand_at w.hands c ≡ Some hand) (next : driver_next w.cluster (rooms_at w c) hand.driver ≡ Event (events.Hold r)) (k : ℕ) (one : synchronized_by hand.driver ≡ Some k) (shown : IsShown w) where
+module _ (w : World) (v : Who) (r : ℕ) (hand : InHand) (held : hand_at w.hands v ≡ Some hand) (next : driver_next w.cluster (rooms_at w (client_by v)) hand.driver ≡ Event (events.Hold r)) (k : ℕ) (one : synchronized_by hand.driver ≡ Some k) (shown : IsShown w) where
   abbrev is : IsKnown w shown.shows.history
   is = known w shown
 
   abbrev x : Replica
-  x = (found w c r hand held next k one shown.shows.history is).0
+  x = (found w v r hand held next k one shown.shows.history is).0
 
   at : replica_in w.nodes k r ≡ Some x
-  at = (found w c r hand held next k one shown.shows.history is).1
+  at = (found w v r hand held next k one shown.shows.history is).1
 
   -- what the copy asks
   pub on_node : r < 8
-  on_node = (asks w c r hand held next k one shown.shows.history is).0
+  on_node = (asks w v r hand held next k one shown.shows.history is).0
 
   room : IsSomeAnd hand.snapshot (λ s. s.attributes ≡ x.attributes)
-  room = roomy w c r hand held next k one x at shown.shows.history is
+  room = roomy w v r hand held next k one x at shown.shows.history is
 
   pub has_room : IsSomeAnd hand.snapshot (λ s. IsSomeAnd (replica_in w.nodes k r) (λ x. s.attributes ≡ x.attributes))
   has_room = subst (λ y. IsSomeAnd hand.snapshot (λ s. IsSomeAnd y (λ x. s.attributes ≡ x.attributes))) (sym at) room
 
   -- what the hold asks
   pub is_free : HasFreeHold (entry_of k w.cluster.entries)
-  is_free = free w c r hand held next k one shown.shows.history is
+  is_free = free w v r hand held next k one shown.shows.history is
 
   module _ (result : Result (Unit {0}) Held) (answer : IfSome (replica_in w.nodes k r) (λ x. result ≡ pull_result (call_of x.marks))) (word : OpWord) (word_is : word ≡ word_of_op hand.op) where
     answered : result ≡ pull_result (call_of x.marks)
@@ -273,24 +276,12 @@ module _ (w : World) (c r : ℕ) (hand : InHand) (held : hand_at w.hands c ≡ S
     its_label reply end = Stepped hand.call word verbs.Hold (Some k) (Some r) reply end beside.Nothing
 
     -- it is kept off
-    pub kept_off_step : (by : Held) → result ≡ Err by → IsStep c w (record w { hands = slice_set w.hands c None }) (its_label (words.Held by.by) (Some (Refused TryAgain (Holder by.by))))
-    kept_off_step by refused = record {
-      hand = hand;
-      held = held;
-      op = word;
-      verb = verbs.Hold;
-      ckpt = Some k;
-      node = Some r;
-      reply = words.Held by.by;
-      end = Some (Refused TryAgain (Holder by.by));
-      details = beside.Nothing;
-      label_is = refl;
-      next = hand;
-      same_call = refl;
-      same_op = refl;
-      hands = refl;
-      does = rw (word_is) (hold_kept_off w c r hand held next k one x at by.by (marked_by (call_of x.marks) by (sym answered ∙ refused)));
-    }
+    pub kept_off_step : (new : World) (by : Held) → result ≡ Err by → new ≡ ended_at v (Some (Refused TryAgain (Holder by.by))) (record w { hands = set_at w.hands v None }) → IsStep v w new (its_label (words.Held by.by) (Some (Refused TryAgain (Holder by.by))))
+    kept_off_step new by refused new_is =
+        let end : Option Outcome = Some (Refused TryAgain (Holder by.by)) in
+        step_under v w new hand hand word verbs.Hold (Some k) (Some r) (words.Held by.by) end beside.Nothing held refl refl
+        (subst (λ (z : World). HasUnder w.hands v None z.hands) (sym new_is) (hand_left w.hands v hand hand end held refl))
+        (rw (new_is, word_is) (hold_kept_off w v r hand held next k one x at by.by (marked_by (call_of x.marks) by (sym answered ∙ refused))))
 
     module _ (done : Unit {0}) (ok : result ≡ Ok done) (copied : InHand) (copied_is : IfSome (replica_in w.nodes k r) (λ x. copied ≡ record hand { snapshot = option_map (pulled_unless (call_of x.marks) x) hand.snapshot })) where
       free_of_marks : call_of x.marks ≡ None
@@ -308,32 +299,30 @@ module _ (w : World) (c r : ℕ) (hand : InHand) (held : hand_at w.hands c ≡ S
       copy_is : record hand { snapshot = Some (pulled_from x t) } ≡ copied
       copy_is = (λ i. record hand { snapshot = option_map (pulled_unless (sym free_of_marks i) x) (sym copy_there.1 i) }) ∙ sym (subst (λ y. IfSome y (λ x. copied ≡ record hand { snapshot = option_map (pulled_unless (call_of x.marks) x) hand.snapshot })) at copied_is)
 
+      abbrev N : RecordState
+      N = swept (hold_set k hand.call w.cluster)
+
+      abbrev told_hand : InHand
+      told_hand = hand_taken (done_of N verbs.Hold (Some k) (Some r) words.Ok) (record hand { snapshot = Some (pulled_from x t) })
+
+      held_so : length w.nodes ≡ 8 → Does w (freed_world (ended_at v None (record w { cluster = N; hands = set_at w.hands v (Some told_hand) }))) (hold_label w v r hand held next k one x at words.Ok None)
+      held_so eight =
+          subst (λ (z : RecordState × List (List Replica) × List Background).
+          Does w (freed_world (ended_at v None (record w { cluster = z.0; nodes = z.1; snapshots = z.2; hands = set_at w.hands v (Some (hand_taken (done_of z.0 verbs.Hold (Some k) (Some r) words.Ok) (record hand { snapshot = Some (pulled_from x t) }))) }))) (hold_label w v r hand held next k one x at words.Ok None))
+          (λ i. (
+            (ap (λ y. event_after hand.call y (events.Hold r) w.cluster) (driver w v r hand held next k one) ∙ ap (λ j. swept (hold_set j hand.call w.cluster)) (ckpt_is w v r hand held next k one)) i,
+            nodes_behind (driver w v r hand held next k one i) (events.Hold r) w.cluster w.nodes,
+            snapshots_behind (driver w v r hand held next k one i) (events.Hold r) w.cluster w.snapshots,
+          ))
+          (hold_done w v r hand held next k one x at eight free_of_marks t copy_there.1)
+
       -- it holds the checkpoint
       pub hold_step : length w.nodes ≡ 8 → (freed_of : World) (R : RecordState) (taken : InHand) → R ≡ swept (hold_set k hand.call w.cluster) → taken ≡ hand_taken (done_of R verbs.Hold (Some k) (Some r) words.Ok) copied →
-          freed_of ≡ freed_world (record w { cluster = R; hands = slice_set w.hands c (Some taken) }) → IsStep c w freed_of (its_label words.Ok None)
-      hold_step eight freed_of R taken R_is taken_is freed_is = record {
-        hand = hand;
-        held = held;
-        op = word;
-        verb = verbs.Hold;
-        ckpt = Some k;
-        node = Some r;
-        reply = words.Ok;
-        end = None;
-        details = beside.Nothing;
-        label_is = refl;
-        next = taken;
-        same_call = ap (λ (h : InHand). h.call) (taken_is ∙ ap (hand_taken (done_of R verbs.Hold (Some k) (Some r) words.Ok)) (sym copy_is));
-        same_op = ap (λ (h : InHand). h.op) (taken_is ∙ ap (hand_taken (done_of R verbs.Hold (Some k) (Some r) words.Ok)) (sym copy_is));
-        hands = ap (λ (v : World). v.hands) freed_is;
-        does = rw (freed_is, taken_is, R_is, word_is)
-            (subst (λ (z : RecordState × List (List Replica) × List Background × InHand).
-            Does w (freed_world (record w { cluster = z.0; nodes = z.1; snapshots = z.2; hands = slice_set w.hands c (Some (hand_taken (done_of z.0 verbs.Hold (Some k) (Some r) words.Ok) z.3)) })) (hold_label w c r hand held next k one x at words.Ok None))
-            (λ i. (
-              (ap (λ y. event_after hand.call y (events.Hold r) w.cluster) (driver w c r hand held next k one) ∙ ap (λ j. swept (hold_set j hand.call w.cluster)) (ckpt_is w c r hand held next k one)) i,
-              nodes_behind (driver w c r hand held next k one i) (events.Hold r) w.cluster w.nodes,
-              snapshots_behind (driver w c r hand held next k one i) (events.Hold r) w.cluster w.snapshots,
-              copy_is i,
-            ))
-            (hold_done w c r hand held next k one x at eight free_of_marks t copy_there.1));
-      }
+          freed_of ≡ freed_world (record w { cluster = R; hands = set_at w.hands v (Some taken) }) → IsStep v w freed_of (its_label words.Ok None)
+      hold_step eight freed_of R taken R_is taken_is freed_is =
+          let same : taken ≡ told_hand = taken_is ∙ (λ i. hand_taken (done_of (R_is i) verbs.Hold (Some k) (Some r) words.Ok) (sym copy_is i)) in
+          let behind : freed_of ≡ freed_world (ended_at v None (record w { cluster = N; hands = set_at w.hands v (Some told_hand) })) = freed_is
+          ∙ (λ i. freed_world (record w { cluster = R_is i; hands = set_at w.hands v (Some (same i)) })) ∙ ap freed_world (sym (ended_going v (record w { cluster = N; hands = set_at w.hands v (Some told_hand) }))) in
+          step_under v w freed_of hand told_hand word verbs.Hold (Some k) (Some r) words.Ok None beside.Nothing held refl refl
+          (subst (λ (z : World). HasUnder w.hands v (Some told_hand) z.hands) (sym behind) (hand_left w.hands v hand told_hand None held refl))
+          (subst (λ (z : World × OpWord). Does w z.0 (Stepped hand.call z.1 verbs.Hold (Some k) (Some r) words.Ok None beside.Nothing)) (λ i. (sym behind i, sym word_is i)) (held_so eight))

@@ -1,6 +1,9 @@
 pub mod Adding
+pub mod AloneSteps
+pub mod AloneLaws
 pub mod Begin
 pub mod CallSteps
+pub mod Answered
 pub mod Asking
 mod Carrying
 pub mod Events
@@ -21,7 +24,9 @@ pub mod LiveRooms
 pub mod Look
 pub mod Maps
 pub mod Moving
+pub mod Named
 pub mod New
+pub mod NewCalls
 pub mod Numbered
 pub mod OpenRoom
 pub mod Openings
@@ -46,5 +51,7 @@ pub mod TableFields
 pub mod Taken
 pub mod TakenRoom
 pub mod Told
+pub mod Waits
+pub mod WaitedFor
 pub mod Words
 mod Staging

@@ -6,6 +6,11 @@ use Rattle.ckpt_types.specs.declared.answers.Outcome.{Outcome}
 use Rattle.ckpt_types.specs.declared.answers.Outcome.TheVariants.{Done}
 use Rattle.ckpt_types.specs.declared.attributes.CreationAttributes.{CreationAttributes}
 use Rattle.ckpt_types.specs.declared.identities.CallId.{CallId}
+use Rattle.ckpt_types.specs.declared.identities.Who.{Who}
+use Rattle.ckpt_types.specs.declared.identities.Who.TheVariants.{Actor, Call}
+use Rattle.call_dispatch.specs.PendingCalls.{PendingCalls}
+use Rattle.world_core.specs.Alone.{ended_tables}
+use Rattle.world_core.specs.TableEnds.{table_ended}
 use Rattle.ckpt_types.specs.declared.operation.Op.{Op}
 use Rattle.node_msgs.specs.declared.next.RecordStep.{RecordStep}
 use Rattle.node_msgs.specs.declared.next.RecordStep.TheVariants as events
@@ -22,11 +27,11 @@ use Rattle.cluster_record.specs.DueOnce as once
 use Rattle.world_core.specs.declared.world.World.{World}
 use Rattle.client_handles.specs.ClientState.{ClientState, emptied}
 use Rattle.ckpt_types.specs.Asks.{asked}
-use Rattle.ckpt_machine.specs.Tables.{handle_given, closing}
+use Rattle.ckpt_machine.specs.Tables.{handle_given, closing, registering}
 use Rattle.world_core.specs.RecordAfter.{once_change, event_change, event_after}
 use Rattle.world_core.specs.LiveRooms.{room_is_taken, LiveHaveRoom}
 use Rattle.world_core.specs.Settling.{tables_given, settled, looked}
-use Rattle.world_core.specs.TableState.{TableState, with_client, table_changed, at_client}
+use Rattle.world_core.specs.TableState.{TableState, with_calls, with_client, table_changed, at_client}
 use Rattle.cluster_record.specs.LookUps.{creation_flags_of}
 use Rattle.cluster_record.specs.RecordState.{entry_of}
 use Rattle.world_core.proofs.TableFields.{field_same}
@@ -49,12 +54,17 @@ module _ (w : World) (R : RecordState) (c : ℕ) where
   pub rooms_client : (change : ClientState → ClientState) → LiveHaveRoom R w.tables → LiveHaveRoom R (at_client c (with_client change) w.tables)
   rooms_client change rooms = rooms_at (with_client change) (λ t. refl) rooms
 
+  -- nor do its asynchronous calls
+  pub rooms_calls : (change : PendingCalls → PendingCalls) → LiveHaveRoom R w.tables → LiveHaveRoom R (at_client c (with_calls change) w.tables)
+  rooms_calls change rooms = rooms_at (with_calls change) (λ t. refl) rooms
+
   rooms_given : (N : RecordState) (op : Op) (k : Option ℕ) → LiveHaveRoom R w.tables → LiveHaveRoom R (tables_given N c op k w.tables)
   rooms_given N op None rooms = rooms
   rooms_given N op (Some k) rooms = rooms_client (handle_given (asked op) k (creation_flags_of (entry_of k N.entries))) rooms
 
   -- by what a step of the record makes of it
   pub rooms_settled : (N : RecordState) (op : Op) (step : RecordStep) (k : Option ℕ) → LiveHaveRoom R w.tables → LiveHaveRoom R (settled N c op step k w.tables)
+  rooms_settled N op events.Enter k rooms = rooms_client (registering (asked op)) rooms
   rooms_settled N op events.Open k rooms = rooms_given N op k rooms
   rooms_settled N op events.Finish k rooms = rooms_given N op k rooms
   rooms_settled N op events.Close k rooms = rooms_client (closing (asked op)) rooms
@@ -65,6 +75,12 @@ module _ (w : World) (R : RecordState) (c : ℕ) where
   pub rooms_looked : (o : Outcome) (op : Op) → LiveHaveRoom R w.tables → LiveHaveRoom R (looked o c op w.tables)
   rooms_looked (Done answer) op rooms = rooms_client (closing (asked op)) rooms
   rooms_looked o op rooms = rooms
+
+-- an end of which a client is to be told changes none either
+pub rooms_ended : (w : World) (R : RecordState) (v : Who) (end : Option Outcome) → LiveHaveRoom R w.tables → LiveHaveRoom R (ended_tables v end w.tables)
+rooms_ended w R (Actor a) end rooms = rooms
+rooms_ended w R (Call call) None rooms = rooms
+rooms_ended w R (Call call) (Some end) rooms = rooms_at w R (client_of call) (table_ended call end) (λ t. refl) rooms
 
 -- ---- another record
 

@@ -1,6 +1,6 @@
 -- A step whose answer the record alone decides.
 use Rattle.std.proofs.Common.{◌≡◌, ℕ, Bool, true, false, cond, List, refl, sym, ap, subst, ◌∙◌}
-use Rattle.std.specs.Prelude.{Option, Some, None, IsSomeAnd, slice_set}
+use Rattle.std.specs.Prelude.{Option, Some, None, IsSomeAnd}
 use Rattle.ckpt_types.specs.declared.answers.Outcome.{Outcome}
 use Rattle.ckpt_types.specs.declared.answers.Outcome.TheVariants.{Done}
 use Rattle.ckpt_types.specs.declared.identities.ActorName.TheVariants.{Client}
@@ -27,25 +27,32 @@ use Rattle.ckpt_machine.specs.Drivers as drivers
 use Rattle.ckpt_machine.specs.Driving.{driver_next, making_in}
 use Rattle.world_core.specs.Nodes.{replica_in}
 use Rattle.ckpt_machine.specs.Steps.{changed, without_making, look_word}
-use Rattle.ckpt_machine.specs.Tables.{closing}
+use Rattle.ckpt_machine.specs.Tables.{handle_closed}
 use Rattle.ckpt_machine.proofs.Deadlines.{in_time-cases}
 use Rattle.ckpt_machine.proofs.OwnMaking.{making_there}
 use Rattle.world_core.specs.declared.hands.InHand.{InHand}
 use Rattle.world_core.specs.declared.world.World.{World}
 use Rattle.world_core.specs.Backgrounds.{background_in, pulled_in}
 use Rattle.world_core.specs.Freeing.{freed_world}
-use Rattle.world_core.specs.Happenings.{rooms_at}
+use Rattle.world_core.specs.Happenings.{IsStep, rooms_at}
 use Rattle.world_core.specs.Settling.{looked, without_making_of}
-use Rattle.world_core.specs.Shows.{IsShown, Does, History, machine_of, hand_at}
-use Rattle.world_core.specs.TableState.{TableState}
-use Rattle.world_core.proofs.CallSteps.{pulled_by_client, IsKnown, known, known_by, behind_step, step_before}
+use Rattle.world_core.specs.Shows.{IsShown, Does, History, machine_of}
+use Rattle.world_core.specs.TableState.{TableState, kept_by}
+use Rattle.world_core.specs.Alone.{ended_at, ended_hands, gone_with_look}
+use Rattle.world_core.proofs.AloneSteps.{MayClose, looked_clients, looked_fits, looked_here, looked_record, looked_set, rooms_looked_at}
+use Rattle.world_core.proofs.CallSteps.{pulled_by_client, IsKnown, known, known_by, behind_step, step_before, step_told}
 use Rattle.world_core.proofs.Freeing.{does_before, does_freed, holds_freed}
 use Rattle.world_core.proofs.Going.{unmade_goes}
-use Rattle.world_core.proofs.Held.{copy_stays, state_in, in_hand_is, driver_is, actor_is}
-use Rattle.world_core.proofs.LiveRooms.{rooms_looked}
-use Rattle.world_core.proofs.RecordEvent.{closing-none, table_changes}
+use Rattle.world_core.proofs.Held.{copy_stays, state_in, in_hand_is, driver_is, name_is, actor_is}
+use Rattle.world_core.proofs.LiveRooms.{rooms_ended, rooms_looked}
+use Rattle.world_core.proofs.Maps.{HasUnder, hand_left, under_other, under_own}
+use Rattle.world_core.proofs.RecordEvent.{closing_shown}
 use Rattle.world_core.proofs.Recording.{GoesAt, none_pulled, with_effects, record_is, record_fits}
+use Rattle.world_core.specs.HandsState.{HandsState, hand_at, set_at, client_by}
+use Rattle.ckpt_types.specs.declared.identities.Who.{Who}
+use Rattle.ckpt_types.specs.declared.identities.Who.TheVariants.{Actor}
 use Rattle.world_core.proofs.SnapshotRooms.{unmade_has}
+use Rattle.world_core.proofs.WaitedFor.{may_close}
 
 -- ---- what a call is making is undone by the look that ends it
 
@@ -69,32 +76,60 @@ late_next R room x k is = absurd (cc is)
 -- what is in the making by a call is undone
 undone_made : (k : ℕ) (R : RecordState) (call : CallId) (e : Option Entry) → IsSomeAnd e (λ e. e.making ≡ Some call) → undone_by (making_call e) k R ≡ undone k R
 undone_made k R call None made = absurd made
-undone_made k R call (Some e) made = ap (λ c. undone_by c k R) made
+undone_made k R call (Some e) made = ap (λ o. undone_by o k R) made
 
-module _ (w : World) (c : ℕ) (o : Outcome) (hand : InHand) (held : hand_at w.hands c ≡ Some hand) (next : driver_next w.cluster (rooms_at w c) hand.driver ≡ End o) where
+module _ (w : World) (v : Who) (o : Outcome) (hand : InHand) (held : hand_at w.hands v ≡ Some hand) (next : driver_next w.cluster (rooms_at w (client_by v)) hand.driver ≡ End o) where
   abbrev label : Label
   label = Stepped hand.call (word_of_op hand.op) verbs.Look None None (look_word o) (Some o) beside.Nothing
 
+  -- the handle that it closes, if it closes one
+  abbrev closed : Option ℕ
+  closed = handle_closed (asked hand.op) (kept_by w.tables (client_by v))
+
   -- the table is looked at
+  abbrev settled : Outcome → World
+  settled end = record w { tables = looked end (client_by v) hand.op w.tables }
+
+  -- and the synchronisations go with the handle
   abbrev looked_world : Outcome → World
-  looked_world end = record w { tables = looked end c hand.op w.tables }
+  looked_world end = gone_with_look end (client_by v) closed (settled end)
+
+  -- a call whose handle is closed is one that its client waits for
+  closes_own : IsShown w → MayClose closed v
+  closes_own shown =
+      let is : IsKnown w shown.shows.history = known w shown in
+      may_close (state_in shown.shows.history v hand) v (kept_by w.tables (client_by v)) (name_is w shown.shows.history v hand held is.facts)
+
+  -- so the call is in hand still
+  stays_held : IsShown w → (end : Outcome) → hand_at (looked_world end).hands v ≡ Some hand
+  stays_held shown end = looked_here (settled end) (client_by v) end closed v (closes_own shown) ∙ held
 
   -- what the call is making by its own steps is what is in the making by it
   makes : (h : History) → IsKnown w h → making_of hand.call w.cluster ≡ making_in hand.driver
-  makes h is = is.facts.makes (Client c) (state_in h c hand) (in_hand_is w h c hand held) ∙ ap making_in (sym (driver_is w h c hand held is.fits))
+  makes h is = is.facts.makes v (state_in h v hand) (in_hand_is w h v hand held) ∙ ap making_in (sym (driver_is w h v hand held is.fits))
 
   -- ---- where the call is making nothing
 
-  look_changes : (h : History) → IsKnown w h → making_in hand.driver ≡ None → (end : Outcome) → changed (machine_of w h) (state_in h c hand) verbs.Look None None (look_word end) ≡ machine_of (looked_world end) h
-  look_changes h is none (Done answer) = table_changes w h c (state_in h c hand) (actor_is w h c hand held is.facts) (closing (asked hand.op)) (λ empty. closing-none (asked hand.op))
+  look_changes : (h : History) → IsKnown w h → making_in hand.driver ≡ None → (end : Outcome) → changed (machine_of w h) (state_in h v hand) verbs.Look None None (look_word end) ≡ machine_of (looked_world end) h
+  look_changes h is none (Done answer) = closing_shown w h (client_by v) (state_in h v hand) (actor_is w h v hand held is.facts)
   look_changes h is none end = ap (λ (making : Option ℕ). without_making making (machine_of w h)) (makes h is ∙ none)
 
-  look_does : making_in hand.driver ≡ None → Does w (behind_step w c hand held (looked_world o) (λ h. h) verbs.Look None None (look_word o) (Some o) beside.Nothing 0 hand.snapshot (pulled_by_client c)) label
-  look_does none =
-      does_before w (behind_step w c hand held (looked_world o) (λ h. h) verbs.Look None None (look_word o) (Some o) beside.Nothing 0 hand.snapshot (pulled_by_client c)) label
-      (step_before w c hand held (looked_world o) (λ h. h) verbs.Look None None (look_word o) (Some o) beside.Nothing 0 hand.snapshot (pulled_by_client c) (End o) next held (λ h. refl)
-      (λ h is. record { done = refl; change = look_changes h is none o; fits = let f = is.fits in record { replicas = f.replicas; copies = f.copies; hands = f.hands }; count_is = refl; copy_is = copy_stays w h c hand held is.fits }))
-      (λ m s f. s.holds) (λ m s f. s.keeps) (λ m s f. rooms_looked w w.cluster c o hand.op s.rooms)
+  -- the world behind it
+  abbrev done_world : World
+  done_world = behind_step w v hand held (looked_world o) (λ h. h) verbs.Look None None (look_word o) (Some o) beside.Nothing 0 hand.snapshot (pulled_by_client v)
+
+  look_does : making_in hand.driver ≡ None → IsShown w → Does w done_world label
+  look_does none shown =
+      does_before w done_world label
+      (step_before w v hand held (looked_world o) (λ h. h) verbs.Look None None (look_word o) (Some o) beside.Nothing 0 hand.snapshot (pulled_by_client v) (End o) next (stays_held shown o) (λ h. refl)
+      (λ h is. record {
+        done = refl;
+        change = look_changes h is none o;
+        fits = let f = is.fits in looked_fits (settled o) (client_by v) o closed h (record { replicas = f.replicas; copies = f.copies; hands = f.hands });
+        count_is = refl;
+        copy_is = copy_stays w h v hand held is.fits;
+      }))
+      (λ m s f. s.holds) (λ m s f. s.keeps) (λ m s f. rooms_ended (looked_world o) w.cluster v (Some o) (rooms_looked_at (settled o) (client_by v) w.cluster o closed (rooms_looked w w.cluster (client_by v) o hand.op s.rooms)))
 
   -- ---- where it is making a checkpoint
 
@@ -103,8 +138,11 @@ module _ (w : World) (c : ℕ) (o : Outcome) (hand : InHand) (held : hand_at w.h
     abbrev R : RecordState
     R = swept (undone k w.cluster)
 
+    abbrev settled_there : Outcome → World
+    settled_there end = record (settled end) { cluster = R }
+
     abbrev left_world : Outcome → World
-    left_world end = record (looked_world end) { cluster = R }
+    left_world end = gone_with_look end (client_by v) closed (settled_there end)
 
     goes : (h : History) → IsKnown w h → (j q : ℕ) → GoesAt w.cluster.up j (entry_of j w.cluster.entries) (entry_of j R.entries) q (replica_in w.nodes j q)
     goes h is = unmade_goes w h is.facts is.holds k
@@ -112,24 +150,27 @@ module _ (w : World) (c : ℕ) (o : Outcome) (hand : InHand) (held : hand_at w.h
     none_new : (h : History) → IsKnown w h → (j : ℕ) → entry_of j w.cluster.entries ≡ None → pulled_in w.snapshots j ≡ None
     none_new h is j = none_pulled (entry_of j w.cluster.entries) (background_in w.snapshots j) (is.keeps j)
 
-    late_changes : (h : History) → IsKnown w h → (end : Outcome) → IsNoDone (End end) → changed (machine_of w h) (state_in h c hand) verbs.Look None None (look_word end) ≡ machine_of (left_world end) (with_effects w h)
+    late_changes : (h : History) → IsKnown w h → (end : Outcome) → IsNoDone (End end) → changed (machine_of w h) (state_in h v hand) verbs.Look None None (look_word end) ≡ machine_of (left_world end) (with_effects w h)
     late_changes h is (Done answer) refused = absurd refused
     late_changes h is end refused = ap (λ (making : Option ℕ). without_making making (machine_of w h)) (makes h is ∙ making) ∙ record_is w h R (goes h is) refl (none_new h is)
 
-    late_does : Does w (freed_world (behind_step w c hand held (left_world o) (with_effects w) verbs.Look None None (look_word o) (Some o) beside.Nothing 0 hand.snapshot (pulled_by_client c))) label
-    late_does =
-        does_freed w (behind_step w c hand held (left_world o) (with_effects w) verbs.Look None None (look_word o) (Some o) beside.Nothing 0 hand.snapshot (pulled_by_client c)) label
-        (step_before w c hand held (left_world o) (with_effects w) verbs.Look None None (look_word o) (Some o) beside.Nothing 0 hand.snapshot (pulled_by_client c) (End o) next held (λ h. refl)
+    abbrev late_world : World
+    late_world = behind_step w v hand held (left_world o) (with_effects w) verbs.Look None None (look_word o) (Some o) beside.Nothing 0 hand.snapshot (pulled_by_client v)
+
+    late_does : IsShown w → Does w (freed_world late_world) label
+    late_does shown =
+        does_freed w late_world label
+        (step_before w v hand held (left_world o) (with_effects w) verbs.Look None None (look_word o) (Some o) beside.Nothing 0 hand.snapshot (pulled_by_client v) (End o) next (looked_here (settled_there o) (client_by v) o closed v (closes_own shown) ∙ held) (λ h. refl)
         (λ h is. record {
           done = refl;
-          change = late_changes h is o (subst IsNoDone next (late_next w.cluster (rooms_at w c) hand.driver k making));
-          fits = let f = record_fits w h R (goes h is) refl (none_new h is) is.fits in record { replicas = f.replicas; copies = f.copies; hands = f.hands };
+          change = late_changes h is o (subst IsNoDone next (late_next w.cluster (rooms_at w (client_by v)) hand.driver k making));
+          fits = let f = record_fits w h R (goes h is) refl (none_new h is) is.fits in looked_fits (settled_there o) (client_by v) o closed (with_effects w h) (record { replicas = f.replicas; copies = f.copies; hands = f.hands });
           count_is = refl;
-          copy_is = let stays = copy_stays w h c hand held is.fits in record { same = refl; room = stays.room; counts = stays.counts };
+          copy_is = let stays = copy_stays w h v hand held is.fits in record { same = refl; room = stays.room; counts = stays.counts };
         }))
         (λ m s f. holds_freed w.cluster R w.nodes refl (goes s.history (known_by w m s f)) s.holds)
         (λ m s f. let is = known_by w m s f in unmade_has w.cluster w.snapshots is.keeps is.facts.rises is.facts.up_to k)
-        (λ m s f. rooms_looked w R c o hand.op (λ d live. s.rooms d live))
+        (λ m s f. rooms_ended (left_world o) R v (Some o) (rooms_looked_at (settled_there o) (client_by v) R o closed (rooms_looked w R (client_by v) o hand.op (λ d live. s.rooms d live))))
 
     -- it is in the making by the call
     own_making : IsShown w → making_undone k w.cluster ≡ undone k w.cluster
@@ -140,12 +181,38 @@ module _ (w : World) (c : ℕ) (o : Outcome) (hand : InHand) (held : hand_at w.h
 
   -- ---- in either case
 
-  look_ends : (making : Option ℕ) → making_in hand.driver ≡ making → IsShown w → Does w (without_making_of making (record w { tables = looked o c hand.op w.tables; hands = slice_set w.hands c None })) label
-  look_ends None none shown = look_does none
+  -- what the code does before the making is undone
+  abbrev ended_world : World
+  ended_world = gone_with_look o (client_by v) closed (record (settled o) { hands = set_at w.hands v None })
+
+  ended_is : IsShown w → ended_world ≡ record (looked_world o) { hands = set_at (looked_world o).hands v None }
+  ended_is shown = looked_set (settled o) (client_by v) o closed v None (closes_own shown)
+
+  look_ends : (making : Option ℕ) → making_in hand.driver ≡ making → IsShown w → Does w (ended_at v (Some o) (without_making_of making ended_world)) label
+  look_ends None none shown = subst (λ (x : World). Does w (ended_at v (Some o) x) label) (sym (ended_is shown)) (look_does none shown)
   look_ends (Some k) making shown =
-      subst (λ (U : RecordState). Does w (freed_world (record w { cluster = swept U; tables = looked o c hand.op w.tables; hands = slice_set w.hands c None })) label) (sym (own_making k making shown)) (late_does k making)
+      subst (λ (x : World). Does w (ended_at v (Some o) (freed_world x)) label)
+      (sym ((λ i. record (ended_is shown i) { cluster = swept (own_making k making shown i) }) ∙ ap (λ (x : World). record x { hands = set_at x.hands v None }) (looked_record (settled o) (client_by v) (R k making) o closed))) (late_does k making shown)
+
+  -- the calls in hand are as they were where a making is undone
+  unmade_hands : (making : Option ℕ) (x : World) → (without_making_of making x).hands ≡ x.hands
+  unmade_hands None x = refl
+  unmade_hands (Some k) x = refl
+
+  under : (making : Option ℕ) → IsShown w → HasUnder (looked_world o).hands v None (ended_at v (Some o) (without_making_of making ended_world)).hands
+  under making shown =
+      subst (λ (hands : HandsState). HasUnder (looked_world o).hands v None (ended_hands v (Some o) hands)) (sym (unmade_hands making ended_world ∙ ap (λ (x : World). x.hands) (ended_is shown)))
+      (hand_left (looked_world o).hands v hand hand (Some o) (stays_held shown o) refl)
+
+  look_told : (making : Option ℕ) → making_in hand.driver ≡ making → IsShown w → IsStep v w (ended_at v (Some o) (without_making_of making ended_world)) label
+  look_told making making_is shown =
+      let new = ended_at v (Some o) (without_making_of making ended_world) in
+      step_told v w new hand hand (word_of_op hand.op) verbs.Look None None (look_word o) (Some o) beside.Nothing held refl refl
+      (under_own (looked_world o).hands new.hands v None (under making shown))
+      (λ d other. under_other (looked_world o).hands new.hands v None (under making shown) (Actor (Client d)) other ∙ looked_clients (settled o) (client_by v) o closed d)
+      (look_ends making making_is shown)
 
   -- the call ends by a look at the record, and what it is making is undone, with the parts as the code names them
-  pub look_done : (making : Option ℕ) (tables : List TableState) (hands : List (Option InHand)) (op : OpWord) (reply : StepReply) → IsShown w → making ≡ making_in hand.driver → tables ≡ looked o c hand.op w.tables → hands ≡ slice_set w.hands c None → op ≡ word_of_op hand.op → reply ≡ look_word o →
-      Does w (without_making_of making (record w { tables = tables; hands = hands })) (Stepped hand.call op verbs.Look None None reply (Some o) beside.Nothing)
-  look_done making tables hands op reply shown making_is tables_are hands_are op_is reply_is = rw (tables_are, hands_are, op_is, reply_is) (look_ends making (sym making_is) shown)
+  pub look_is : (new : World) (making : Option ℕ) (tables : List TableState) (c : ℕ) (closed_as : Option ℕ) (op : OpWord) (reply : StepReply) → IsShown w → making ≡ making_in hand.driver → c ≡ client_by v → closed_as ≡ handle_closed (asked hand.op) (kept_by w.tables c) → tables ≡ looked o c hand.op w.tables → op ≡ word_of_op hand.op → reply ≡ look_word o →
+      new ≡ ended_at v (Some o) (without_making_of making (gone_with_look o c closed_as (record w { tables = tables; hands = set_at w.hands v None }))) → IsStep v w new (Stepped hand.call op verbs.Look None None reply (Some o) beside.Nothing)
+  look_is new making tables c closed_as op reply shown making_is c_is closed_is tables_are op_is reply_is new_is = rw (new_is, closed_is, tables_are, c_is, op_is, reply_is) (look_told making (sym making_is) shown)

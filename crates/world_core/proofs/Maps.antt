@@ -1,23 +1,30 @@
 -- The machine's maps, changed at one place.
-use Rattle.std.proofs.Common.{◌≡◌, ℕ, Bool, true, false, List, [], refl, sym, ap, subst, ◌∙◌, cond}
-use Rattle.std.specs.Prelude.{Option, Some, None, ◌==◌, ◌&&◌, slice_get, slice_set, slice_index}
+use Rattle.std.proofs.Common.{◌≡◌, ◌≢◌, ℕ, Bool, true, false, List, [], refl, sym, ap, subst, ◌∙◌, cond}
+use Rattle.std.specs.Prelude.{Option, Some, None, IfSome, ◌==◌, ◌&&◌, slice_get, slice_set, slice_index}
 use Rattle.std.proofs.lemmas.Bool.{eqb-true}
 use Rattle.std.proofs.lemmas.List.{set-get_or}
 use Rattle.std.proofs.lemmas.Option.{get_or_from_slice_get}
-use Rattle.ckpt_types.specs.declared.identities.ActorName.{ActorName}
-use Rattle.ckpt_types.specs.declared.identities.ActorName.TheVariants.{Client, Node}
 use Rattle.ckpt_types.specs.declared.identities.CallId.{CallId}
 use Rattle.world_core.specs.declared.hands.InHand.{InHand}
 use Rattle.cluster_record.specs.declared.entries.Entry.{Entry}
 use Rattle.replica.specs.Replicas.{Replica}
-use Rattle.cluster_record.specs.Calls.{put_actor}
-use Rattle.cluster_record.specs.Places.{find_key, change_key, list_or, or_none, put2}
+use Rattle.cluster_record.specs.Calls.{left}
+use Rattle.cluster_record.specs.Places.{find_key, change_key, list_or, put2}
 use Rattle.cluster_record.specs.RecordState.{RecordState, entry_of, complete_of}
 use Rattle.node_core.specs.Nodes.{replica_key}
 use Rattle.world_core.specs.Nodes.{replica_in, with_changed}
 use Rattle.cluster_record.specs.StepDone.{StepDone}
 use Rattle.ckpt_machine.specs.Machine.{Effect}
-use Rattle.world_core.specs.Shows.{Beginning, History, shown_replica, shown_reservation, shown_hand, where_complete, where_not_complete, complete_replica, reserved_in, hand_at, hand_of, FitsReplica, FitsHand}
+use Rattle.world_core.specs.Shows.{Beginning, History, shown_replica, shown_reservation, shown_hand, where_complete, where_not_complete, complete_replica, reserved_in, hand_of, FitsReplica, FitsHand}
+use Rattle.world_core.specs.HandsState.{HandsState, hand_at, set_at}
+use Rattle.world_core.proofs.AloneLaws.{left_set, without_call-set}
+use Rattle.world_core.specs.Alone.{ended_at, ended_hands}
+use Rattle.world_core.specs.declared.world.World.{World}
+use Rattle.ckpt_types.specs.declared.answers.Outcome.{Outcome}
+use Rattle.ckpt_types.specs.declared.identities.Who.{Who}
+use Rattle.ckpt_types.specs.declared.identities.Who.TheVariants.{Actor, Call}
+use Rattle.ckpt_machine.specs.Whose.{same_who, put_who}
+use Rattle.ckpt_machine.proofs.Whose.{same_who-refl, same_who-true, same_who-false}
 use Rattle.cluster_record.proofs.Places.{find_changed, get_set}
 
 -- ---- tests of places
@@ -122,42 +129,58 @@ reserved_same R nodes new k r y x is at j q =
 
 -- ---- the calls in hand
 
-there_in_some : (o : Option (Option InHand)) (h : InHand) → or_none o ≡ Some h → (p : Option InHand) × (o ≡ Some p)
-there_in_some None h e = absurd cc
-there_in_some (Some p) h e = (p, refl)
+-- under this name the new calls in hand have this, and under any other what the old ones have
+abbrev pub HasUnder : HandsState → Who → Option InHand → HandsState → Type 0
+HasUnder old v p new = (u : Who) → hand_at new u ≡ cond (same_who u v) p (hand_at old u)
 
-none_case : (b : Bool) (p : Option InHand) (o : Option (Option InHand)) → or_none (cond b (Some p) o) ≡ cond b p (or_none o)
-none_case true p o = refl
-none_case false p o = refl
+-- so it has that one
+pub under_own : (old new : HandsState) (v : Who) (p : Option InHand) → HasUnder old v p new → hand_at new v ≡ p
+under_own old new v p under = under v ∙ ap (λ b. cond b p (hand_at old v)) (same_who-refl v)
 
-pub hand_set : (hands : List (Option InHand)) (c : ℕ) (h : InHand) (p : Option InHand) → hand_at hands c ≡ Some h → (d : ℕ) → hand_at (slice_set hands c p) d ≡ cond (d == c) p (hand_at hands d)
-hand_set hands c h p is d = let t = there_in_some (slice_get hands c) h is in ap or_none (get_set hands c p t.0 d t.1) ∙ none_case (d == c) p (slice_get hands d)
+-- and the others stay
+pub under_other : (old new : HandsState) (v : Who) (p : Option InHand) → HasUnder old v p new → (u : Who) → u ≢ v → hand_at new u ≡ hand_at old u
+under_other old new v p under u other = under u ∙ ap (λ b. cond b p (hand_at old u)) (same_who-false u v other)
+
+same_left : (end : Option Outcome) (next : InHand) (call : CallId) → next.call ≡ call → IfSome (left end next) (λ z. z.call ≡ call)
+same_left None next call same = same
+same_left (Some end) next call same = tt
+
+-- a call that goes on, or has ended, is so behind its step, under its name
+pub hand_left : (hands : HandsState) (v : Who) (hand next : InHand) (end : Option Outcome) → hand_at hands v ≡ Some hand → next.call ≡ hand.call → HasUnder hands v (left end next) (ended_hands v end (set_at hands v (left end next)))
+hand_left hands (Actor a) hand next end held same u = left_set hands (Actor a) hand (left end next) held (same_left end next hand.call same) u
+hand_left hands (Call call) hand next None held same u = left_set hands (Call call) hand (Some next) held same u
+hand_left hands (Call call) hand next (Some end) held same u = ap (λ (z : HandsState). hand_at z u) (without_call-set call hands) ∙ left_set hands (Call call) hand None held tt u
+
+-- where it goes on the world is as it was
+pub ended_going : (v : Who) (w : World) → ended_at v None w ≡ w
+ended_going (Actor a) w = refl
+ended_going (Call call) w = refl
+
+-- ---- and as the machine has them
 
 hand_case : (b : Bool) (k l : Beginning) (new old : List StepDone) (made before : Option (List ℕ)) (copy had : Option (List Effect)) (p o : Option InHand) → (b ≡ true → k ≡ l) →
     cond b (shown_hand l new made copy p) (shown_hand k old before had o) ≡ shown_hand k (cond b new old) (cond b made before) (cond b copy had) (cond b p o)
 hand_case true k l new old made before copy had p o e = ap (λ k. shown_hand k new made copy p) (sym (e refl))
 hand_case false k l new old made before copy had p o e = refl
 
--- the history in which a client's call has these steps, has created this, and has pulled these effects
-abbrev pub with_steps : History → ℕ → List StepDone → Option (List ℕ) → Option (List Effect) → History
-with_steps h c steps created pulled = record h { steps = put_actor h.steps (Client c) steps; created = put_actor h.created (Client c) created; pulled = put_actor h.pulled (Client c) pulled }
+-- the history in which the call of a name has these steps, has created this, and has pulled these effects
+abbrev pub with_steps : History → Who → List StepDone → Option (List ℕ) → Option (List Effect) → History
+with_steps h v steps created pulled = record h { steps = put_who h.steps v steps; created = put_who h.created v created; pulled = put_who h.pulled v pulled }
 
--- the calls in hand, where client c's is another now
-pub put_hand : (h : History) (hands : List (Option InHand)) (c : ℕ) (old : InHand) (p : Option InHand) (new : List StepDone) (made : Option (List ℕ)) (copy : Option (List Effect)) → hand_at hands c ≡ Some old →
-    (a : ActorName) → put_actor (hand_of h hands) (Client c) (shown_hand (h.beginnings (Client c)) new made copy p) a ≡ hand_of (with_steps h c new made copy) (slice_set hands c p) a
-put_hand h hands c old p new made copy is (Client d) =
-    hand_case (d == c) (h.beginnings (Client d)) (h.beginnings (Client c)) new (h.steps (Client d)) made (h.created (Client d)) copy (h.pulled (Client d)) p (hand_at hands d) (λ e. ap (λ d. h.beginnings (Client d)) (eqb-true d c e))
-    ∙ ap (shown_hand (h.beginnings (Client d)) (put_actor h.steps (Client c) new (Client d)) (put_actor h.created (Client c) made (Client d)) (put_actor h.pulled (Client c) copy (Client d))) (sym (hand_set hands c old p is d))
-put_hand h hands c old p new made copy is (Node r) = refl
+module _ (h : History) (old new : HandsState) (v : Who) (p : Option InHand) (under : HasUnder old v p new) where
+  -- the calls in hand, where that of a name is another now
+  pub put_hand : (steps : List StepDone) (made : Option (List ℕ)) (copy : Option (List Effect)) (u : Who) → put_who (hand_of h old) v (shown_hand (h.beginnings v) steps made copy p) u ≡ hand_of (with_steps h v steps made copy) new u
+  put_hand steps made copy u =
+      hand_case (same_who u v) (h.beginnings u) (h.beginnings v) steps (h.steps u) made (h.created u) copy (h.pulled u) p (hand_at old u) (λ e. ap h.beginnings (same_who-true u v e))
+      ∙ ap (shown_hand (h.beginnings u) (put_who h.steps v steps u) (put_who h.created v made u) (put_who h.pulled v copy u)) (sym (under u))
 
-fits_hand_case : (b : Bool) (k l : Beginning) (new old : List StepDone) (copy had : Option (List Effect)) (p o : Option InHand) → (b ≡ true → k ≡ l) → FitsHand l new copy p → FitsHand k old had o → FitsHand k (cond b new old) (cond b copy had) (cond b p o)
-fits_hand_case true k l new old copy had p o e h g = subst (λ (k : Beginning). FitsHand k new copy p) (sym (e refl)) h
-fits_hand_case false k l new old copy had p o e h g = g
+  fits_hand_case : (b : Bool) (k l : Beginning) (new old : List StepDone) (copy had : Option (List Effect)) (p o : Option InHand) → (b ≡ true → k ≡ l) → FitsHand l new copy p → FitsHand k old had o → FitsHand k (cond b new old) (cond b copy had) (cond b p o)
+  fits_hand_case true k l new old copy had p o e h g = subst (λ (k : Beginning). FitsHand k new copy p) (sym (e refl)) h
+  fits_hand_case false k l new old copy had p o e h g = g
 
--- and how they fit
-pub fits_hand : (h : History) (hands : List (Option InHand)) (c : ℕ) (old : InHand) (p : Option InHand) (new : List StepDone) (copy : Option (List Effect)) → hand_at hands c ≡ Some old →
-    FitsHand (h.beginnings (Client c)) new copy p → ((d : ℕ) → FitsHand (h.beginnings (Client d)) (h.steps (Client d)) (h.pulled (Client d)) (hand_at hands d)) →
-    (d : ℕ) → FitsHand (h.beginnings (Client d)) (put_actor h.steps (Client c) new (Client d)) (put_actor h.pulled (Client c) copy (Client d)) (hand_at (slice_set hands c p) d)
-fits_hand h hands c old p new copy is one all d =
-    subst (FitsHand (h.beginnings (Client d)) (put_actor h.steps (Client c) new (Client d)) (put_actor h.pulled (Client c) copy (Client d))) (sym (hand_set hands c old p is d))
-    (fits_hand_case (d == c) (h.beginnings (Client d)) (h.beginnings (Client c)) new (h.steps (Client d)) copy (h.pulled (Client d)) p (hand_at hands d) (λ e. ap (λ d. h.beginnings (Client d)) (eqb-true d c e)) one (all d))
+  -- and how they fit
+  pub fits_hand : (steps : List StepDone) (copy : Option (List Effect)) → FitsHand (h.beginnings v) steps copy p → ((u : Who) → FitsHand (h.beginnings u) (h.steps u) (h.pulled u) (hand_at old u)) →
+      (u : Who) → FitsHand (h.beginnings u) (put_who h.steps v steps u) (put_who h.pulled v copy u) (hand_at new u)
+  fits_hand steps copy one all u =
+      subst (FitsHand (h.beginnings u) (put_who h.steps v steps u) (put_who h.pulled v copy u)) (sym (under u))
+      (fits_hand_case (same_who u v) (h.beginnings u) (h.beginnings v) steps (h.steps u) copy (h.pulled u) p (hand_at old u) (λ e. ap h.beginnings (same_who-true u v e)) one (all u))

@@ -5,7 +5,7 @@ use Rattle.ckpt_types.specs.declared.answers.Outcome.{Outcome}
 use Rattle.ckpt_types.specs.declared.identities.ActorName.{ActorName}
 use Rattle.ckpt_types.specs.declared.identities.CallId.{CallId}
 use Rattle.ckpt_types.specs.declared.identities.Who.{Who}
-use Rattle.ckpt_types.specs.declared.identities.Who.TheVariants as whos
+use Rattle.ckpt_types.specs.OpWord.{stepped_as}
 use Rattle.ckpt_types.specs.declared.operation.Op.{Op}
 use Rattle.node_msgs.specs.declared.steps.Verb.{Verb}
 use Rattle.node_msgs.specs.declared.steps.Verb.TheVariants as verbs
@@ -35,8 +35,9 @@ use Rattle.world_core.specs.declared.world.World.{World}
 use Rattle.world_core.specs.Backgrounds.{background_in, pulled_in, HaveRooms}
 use Rattle.world_core.specs.Freeing.{freed_world}
 use Rattle.world_core.specs.Happenings.{SetsMoment}
-use Rattle.world_core.specs.Runs.{Answers, AnswersBegin, AnswersStep, IsIdleWord, IsShownOf, IsPulledOf, IsPutOf, hand_of_actor, moment_of}
+use Rattle.world_core.specs.Runs.{Answers, AnswersBegin, AnswersStep, IsShownOf, IsPulledOf, IsPutOf, moment_of}
 use Rattle.world_core.specs.Shows.{Does, Shows, History, machine_of}
+use Rattle.world_core.specs.HandsState.{hand_at}
 use Rattle.world_core.proofs.Freeing.{DoesBefore, does_freed, holds_freed}
 use Rattle.world_core.proofs.Going.{goes_same, goes_left}
 use Rattle.world_core.proofs.Recording.{GoesAt, none_pulled, with_effects, record_is, record_fits}
@@ -166,7 +167,7 @@ put-moment m k r reply s x = refl
 
 -- THE LAW: in the state after a label the moment is the one that the label set, or the one before it
 pub after-moment : (m : Machine) (l : Label) → (after m l).cluster.moment ≡ moment_after l m.cluster.moment
-after-moment m (labels.Stepped call op verb k r reply end details) = step_of-moment m (m.in_hand call.actor) verb k r reply end
+after-moment m (labels.Stepped call op verb k r reply end details) = step_of-moment m (m.in_hand (stepped_as call op)) verb k r reply end
 after-moment m (labels.Moved t) = refl
 after-moment m (labels.Pulled k reply) = pulled-moment m k reply (source_at m k)
 after-moment m (labels.Put k r reply) = put-moment m k r reply (m.snapshots k) (target_at m k r)
@@ -178,15 +179,11 @@ begin-moment : (a : ActorName) (op : Op) (old new : World) (label : Label) (befo
 begin-moment a op old new (labels.Moved t) before answers = absurd answers
 begin-moment a op old new label before answers = refl
 
-step-moment : (a : ActorName) (finish : Bool) (hand : Option InHand) (old new : World) (label : Label) (before : ℤ) → AnswersStep a finish hand old new label → moment_after label before ≡ before
-step-moment a finish None old new (labels.Moved t) before answers = absurd answers
-step-moment a finish (Some h) old new (labels.Moved t) before answers = absurd answers
-step-moment a finish None old new label before answers = refl
-step-moment a finish (Some h) old new label before answers = refl
-
-idle-moment : (who : Who) (finish : Bool) (old new : World) (label : Label) (before : ℤ) → IsIdleWord who finish old new label → moment_after label before ≡ before
-idle-moment who finish old new (labels.Moved t) before answers = absurd answers
-idle-moment who finish old new label before answers = refl
+step-moment : (who : Who) (finish : Bool) (hand : Option InHand) (old new : World) (label : Label) (before : ℤ) → AnswersStep who finish hand old new label → moment_after label before ≡ before
+step-moment who finish None old new (labels.Moved t) before answers = absurd answers
+step-moment who finish (Some h) old new (labels.Moved t) before answers = absurd answers
+step-moment who finish None old new label before answers = refl
+step-moment who finish (Some h) old new label before answers = refl
 
 listed-moment : (k : ℕ) (label : Label) (before : ℤ) → IsShownOf k label → moment_after label before ≡ before
 listed-moment k (labels.Moved t) before is = absurd is
@@ -204,8 +201,7 @@ put_of-moment k r label before is = refl
 pub answers-moment : (event : Event) (old new : World) (label : Label) (before : ℤ) → Answers event old new label → moment_after label before ≡ moment_of event before
 answers-moment (happenings.Nodes n) old new label before answers = ap (λ l. moment_after l before) answers.0
 answers-moment (happenings.Begin a op) old new label before answers = begin-moment a op old new label before answers
-answers-moment (happenings.Step (whos.Actor a) finish) old new label before answers = step-moment a finish (hand_of_actor old a) old new label before answers
-answers-moment (happenings.Step (whos.Call call) finish) old new label before answers = idle-moment (whos.Call call) finish old new label before answers
+answers-moment (happenings.Step who finish) old new label before answers = step-moment who finish (hand_at old.hands who) old new label before answers
 answers-moment (happenings.At t) old new label before answers = ap (λ l. moment_after l before) answers.0
 answers-moment (happenings.Show k) old new label before answers = listed-moment k label before answers.0
 answers-moment (happenings.Pull k) old new label before answers = pull-moment k label before answers.0

@@ -4,6 +4,8 @@ use Rattle.std.specs.Prelude.{None, pos}
 use Rattle.ckpt_types.specs.declared.identities.ActorName.{ActorName}
 use Rattle.ckpt_types.specs.declared.identities.ActorName.TheVariants.{Client, Node}
 use Rattle.ckpt_types.specs.declared.identities.CallId.{CallId}
+use Rattle.ckpt_types.specs.declared.identities.Who.{Who}
+use Rattle.call_dispatch.specs.PendingCalls.{no_pending}
 use Rattle.world_core.specs.declared.world.World.{World}
 use Rattle.cluster_record.specs.RecordState.{RecordState, entry_of, is_live_client}
 use Rattle.cluster_record.specs.DueOnce.{Leave}
@@ -13,7 +15,7 @@ use Rattle.ckpt_machine.specs.Machine.{empty_cluster, no_tables}
 use Rattle.ckpt_machine.specs.Steps.{room_in}
 use Rattle.world_core.specs.declared.snapshots.Background.{Background}
 use Rattle.world_core.specs.Backgrounds.{background_in, pulled_in, HasRoom}
-use Rattle.world_core.specs.Shows.{Beginning, History, Shows, HistoryFits, FitsReplica, FitsSnapshot, snapshot_shown, FitsHand, machine_of, complete_replica, hand_of, next_of, reserved_in, shown_hand, shown_replica, tables_of, where_complete}
+use Rattle.world_core.specs.Shows.{Beginning, History, Shows, HistoryFits, FitsReplica, FitsSnapshot, snapshot_shown, FitsHand, machine_of, complete_replica, hand_of, next_of, pending_of, reserved_in, shown_hand, shown_replica, tables_of, where_complete}
 use Rattle.world_core.specs.Runs.{IsNew, IsRunTo}
 use Rattle.world_core.proofs.HoldingLaws.{nothing_held}
 use Rattle.world_core.proofs.Recording.{zero_there}
@@ -40,9 +42,12 @@ module _ (w : World) (new : IsNew w) where
   nexts (Client c) = sym (new.next c)
   nexts (Node r) = refl
 
-  hands : (a : ActorName) → None ≡ hand_of nothing w.hands a
-  hands (Client c) = sym (ap (shown_hand none_has_begun [] None None) (new.hands c))
-  hands (Node r) = refl
+  pendings : (a : ActorName) → no_pending ≡ pending_of w.tables a
+  pendings (Client c) = sym (new.pending c)
+  pendings (Node r) = refl
+
+  hands : (v : Who) → None ≡ hand_of nothing w.hands v
+  hands v = sym (ap (shown_hand none_has_begun [] None None) (new.hands v))
 
   shows_nothing : empty_cluster ≡ machine_of w nothing
   shows_nothing =
@@ -55,17 +60,16 @@ module _ (w : World) (new : IsNew w) where
         reserved = λ k r. reserved k r i;
         snapshots = λ k. copies k i;
         tables = λ a. keeps a i;
-        pending = λ a. [];
+        pending = λ a. pendings a i;
         next = λ a. nexts a i;
-        in_hand = λ a. hands a i;
-        operations = λ call. None;
+        in_hand = λ v. hands v i;
       }
 
   fits_nothing : HistoryFits w nothing
   fits_nothing = record {
     replicas = λ k r. subst (FitsReplica k (entry_of k w.cluster.entries) []) (sym (no_replica k r)) tt;
     copies = λ k. subst (λ (backgrounds : List Background). FitsSnapshot [] (pulled_in backgrounds k)) (sym new.snapshots) tt;
-    hands = λ c. subst (FitsHand none_has_begun [] None) (sym (new.hands c)) tt;
+    hands = λ v. subst (FitsHand none_has_begun [] None) (sym (new.hands v)) tt;
   }
 
   none_live : (c : ℕ) → is_live_client c w.cluster ≡ true → ⊥

@@ -1,6 +1,6 @@
 -- A step of the record, whatever the step: done, or refused by the record or for the memory that it takes.
 use Rattle.std.proofs.Common.{◌≡◌, inl, inr, ℕ, List, length, true, false, refl, sym, ap, subst, ◌∙◌}
-use Rattle.std.specs.Prelude.{Option, Some, None, IsSome, IsSomeAnd, slice_get, slice_set}
+use Rattle.std.specs.Prelude.{Option, Some, None, IsSome, IsSomeAnd, slice_get}
 use Rattle.ckpt_types.specs.declared.answers.Outcome.{Outcome}
 use Rattle.ckpt_types.specs.declared.identities.ActorName.{ActorName}
 use Rattle.ckpt_types.specs.declared.identities.ActorName.TheVariants.{Client}
@@ -30,10 +30,10 @@ use Rattle.ckpt_machine.specs.Drivers as drivers
 use Rattle.ckpt_machine.specs.Driving.{driver_next, event_ckpt, event_node, event_end, event_refusal}
 use Rattle.ckpt_machine.specs.Facts.{IsEventReady, IsFinishable}
 use Rattle.ckpt_machine.specs.Machine.{Machine, CallState, no_tables}
-use Rattle.ckpt_machine.specs.Steps.{Told, IsDone, IsEventAnswer, IsRecordAnswer, at_some, changed, kept_off, led_from, pulled_by, created_for, retained_for, driver_of, record_step, with_closed, with_given, with_record, with_tables}
+use Rattle.ckpt_machine.specs.Steps.{Told, IsDone, IsEventAnswer, IsRecordAnswer, at_some, changed, kept_off, led_from, pulled_by, created_for, retained_for, driver_of, record_step, with_closed, with_given, with_record, with_tables, without_calls, without_syncs}
 use Rattle.replica.specs.Replicas.{Replica}
 use Rattle.world_core.specs.Nodes.{replica_in}
-use Rattle.ckpt_machine.specs.Tables.{handle_given, closing}
+use Rattle.ckpt_machine.specs.Tables.{handle_closed, handle_given, closing, registering}
 use Rattle.ckpt_machine.proofs.AskedFor.{DrivesFor, state_drives}
 use Rattle.world_core.specs.declared.hands.InHand.{InHand}
 use Rattle.world_core.specs.declared.world.World.{World}
@@ -45,17 +45,22 @@ use Rattle.world_core.specs.declared.snapshots.Background.{Background}
 use Rattle.world_core.specs.Backgrounds.{background_in, pulled_in}
 use Rattle.world_core.specs.RecordAfter.{event_after, nodes_behind, snapshots_behind}
 use Rattle.world_core.specs.RecordReady.{IsPlain, IsRefusedWith}
-use Rattle.world_core.specs.Settling.{tables_given, settled, CanSettle}
-use Rattle.world_core.specs.Shows.{Does, IsShown, History, HistoryFits, machine_of, hand_at}
-use Rattle.world_core.specs.TableState.{with_client, at_client}
+use Rattle.world_core.specs.Settling.{tables_closed, tables_given, settled, CanSettle}
+use Rattle.world_core.specs.Shows.{Does, IsShown, History, HistoryFits, machine_of, tables_of}
+use Rattle.world_core.specs.TableState.{kept_by, with_client, at_client}
+use Rattle.world_core.specs.Alone.{calls_gone, ended_at, gone_with, syncs_gone}
+use Rattle.world_core.proofs.AloneSteps.{MayGoWith, all_gone, gone_fits, gone_here, rooms_gone, syncs_are}
+use Rattle.world_core.proofs.WaitedFor.{may_go_with}
 use Rattle.world_core.proofs.CallSteps.{pulled_by_client, event_counts, event_pulls, IsKnown, known, known_by, behind_step, IsShownBehind, step_before}
 use Rattle.world_core.proofs.Freeing.{does_before, does_freed}
 use Rattle.world_core.proofs.Adding.{AddedAt, added_record, added_fits, holds_added}
 use Rattle.world_core.proofs.Going.{event_goes, event_adds, event_once, event_keeps}
-use Rattle.world_core.proofs.Held.{copy_stays, IsCopyBehind, state_in, in_hand_is, driver_is, actor_is, due_is}
-use Rattle.world_core.proofs.LiveRooms.{EntersWithRoom, rooms_settled, rooms_after}
+use Rattle.world_core.proofs.Held.{copy_stays, IsCopyBehind, state_in, in_hand_is, driver_is, name_is, actor_is, due_is}
+use Rattle.world_core.proofs.LiveRooms.{EntersWithRoom, rooms_ended, rooms_settled, rooms_after}
 use Rattle.world_core.proofs.Recording.{GoesAt, none_pulled, with_effects, record_is, record_fits}
 use Rattle.world_core.proofs.SnapshotRooms.{behind-pulled, event_has}
+use Rattle.world_core.specs.HandsState.{hand_at, set_at, client_by}
+use Rattle.ckpt_types.specs.declared.identities.Who.{Who}
 use Rattle.world_core.proofs.TableFields.{change_is}
 
 -- ---- what is there of what a step is about
@@ -78,12 +83,13 @@ ckpt_there (Some making) there = refl
 
 -- ---- what it makes of the machine, by its driver
 
--- beside the record: of the client's tables, or of the replica that leads
+-- beside the record: of the client's tables and of its asynchronous calls, or of the replica that leads
 abbrev pub besides : CallState → RecordStep → Option ℕ → Machine → Machine
+besides s events.Enter k m = with_tables s.call.actor (registering (asked s.op)) m
 besides s events.Open k m = at_some k m (λ k. with_given s k m)
 besides s events.Finish k m = at_some k m (λ k. with_given s k m)
 besides s events.Close k m = with_closed s m
-besides s events.Leave k m = with_tables s.call.actor emptied m
+besides s events.Leave k m = without_calls s.call.actor (with_tables s.call.actor emptied m)
 besides s (events.Activate r) k m = at_some k m (λ k. led_from s.snapshot k r m)
 besides s step k m = m
 
@@ -150,15 +156,38 @@ module _ (w : World) (h : History) (c : ℕ) (s : CallState) (actor : s.call.act
   pub table_changes : (change : ClientState → ClientState) → (slice_get w.tables c ≡ None → change no_tables ≡ no_tables) → with_tables s.call.actor change (machine_of w h) ≡ machine_of (record w { tables = at_client c (with_client change) w.tables }) h
   table_changes change none = ap (λ (a : ActorName). with_tables a change (machine_of w h)) actor ∙ change_is w h c change none
 
+  -- where its room was taken there is a table
+  has_table : room_is_taken (slice_get w.tables c) ≡ true → (X : Type 0) → slice_get w.tables c ≡ None → X
+  has_table taken X none = let no : true ≡ false = sym taken ∙ ap room_is_taken none in absurd (cc no)
+
   given_shown : (k : Option ℕ) → room_is_taken (slice_get w.tables c) ≡ true → at_some k (machine_of w h) (λ k. with_given s k (machine_of w h)) ≡ machine_of (record w { tables = tables_given w.cluster c s.op k w.tables }) h
   given_shown None taken = refl
-  given_shown (Some k) taken = table_changes (handle_given (asked s.op) k (creation_flags_of (entry_of k w.cluster.entries))) (λ none. let no : true ≡ false = sym taken ∙ ap room_is_taken none in absurd (cc no))
+  given_shown (Some k) taken = table_changes (handle_given (asked s.op) k (creation_flags_of (entry_of k w.cluster.entries))) (has_table taken _)
 
-  settles : (step : RecordStep) (k : Option ℕ) → IsPlain step → CanSettle c s.op step w.tables → besides s step k (machine_of w h) ≡ machine_of (record w { tables = settled w.cluster c s.op step k w.tables }) h
+  -- the handle that the call closes, if it closes one
+  abbrev pub handle : Option ℕ
+  handle = handle_closed (asked s.op) (kept_by w.tables c)
+
+  -- it is closed, with the synchronisations over it
+  pub closing_shown : with_closed s (machine_of w h) ≡ machine_of (syncs_gone c handle (record w { tables = tables_closed c s.op w.tables })) h
+  closing_shown =
+      ap (λ (a : ActorName). without_syncs (handle_closed (asked s.op) (tables_of w.tables a)) a (with_tables a (closing (asked s.op)) (machine_of w h))) actor
+      ∙ ap (without_syncs handle (Client c)) (change_is w h c (closing (asked s.op)) (λ none. closing-none (asked s.op)))
+      ∙ syncs_are (record w { tables = tables_closed c s.op w.tables }) h c handle
+
+  leaving_shown : without_calls s.call.actor (with_tables s.call.actor emptied (machine_of w h)) ≡ machine_of (calls_gone c (record w { tables = at_client c (with_client emptied) w.tables })) h
+  leaving_shown =
+      ap (λ (a : ActorName). without_calls a (with_tables a emptied (machine_of w h))) actor
+      ∙ ap (without_calls (Client c)) (change_is w h c emptied (λ none. refl))
+      ∙ all_gone (record w { tables = at_client c (with_client emptied) w.tables }) h c
+
+  settles : (step : RecordStep) (k : Option ℕ) → IsPlain step → CanSettle c s.op step w.tables →
+      besides s step k (machine_of w h) ≡ machine_of (gone_with step c handle (record w { tables = settled w.cluster c s.op step k w.tables })) h
+  settles events.Enter k plain can = table_changes (registering (asked s.op)) (has_table can _)
   settles events.Open k plain can = given_shown k can.roomy
   settles events.Finish k plain can = given_shown k can.roomy
-  settles events.Close k plain can = table_changes (closing (asked s.op)) (λ none. closing-none (asked s.op))
-  settles events.Leave k plain can = table_changes emptied (λ none. refl)
+  settles events.Close k plain can = closing_shown
+  settles events.Leave k plain can = leaving_shown
   settles (events.Hold r) k plain can = absurd plain
   settles (events.Activate r) k plain can = absurd plain
   settles step k plain can = refl
@@ -171,11 +200,19 @@ record_after w hand step = event_after hand.call hand.driver step w.cluster
 abbrev ckpt_in : World → InHand → RecordStep → Option ℕ
 ckpt_in w hand step = event_ckpt w.cluster hand.driver step
 
--- the world with the record, the nodes, the snapshots and the client's table after it
-abbrev settled_world : World → ℕ → InHand → RecordStep → World
-settled_world w c hand step = let R = record_after w hand step in record w { cluster = R; nodes = nodes_behind hand.driver step w.cluster w.nodes; snapshots = snapshots_behind hand.driver step w.cluster w.snapshots; tables = settled R c hand.op step (ckpt_in w hand step) w.tables }
+-- the handle that its call closes, if it closes one
+abbrev pub closed_in : World → Who → InHand → Option ℕ
+closed_in w v hand = handle_closed (asked hand.op) (kept_by w.tables (client_by v))
 
-module _ (w : World) (c : ℕ) (step : RecordStep) (hand : InHand) (held : hand_at w.hands c ≡ Some hand) (next : driver_next w.cluster (rooms_at w c) hand.driver ≡ Event step) where
+-- the world with the record, the nodes, the snapshots and the client's table after it
+abbrev pub settled_alone : World → Who → InHand → RecordStep → World
+settled_alone w v hand step = let R = record_after w hand step in record w { cluster = R; nodes = nodes_behind hand.driver step w.cluster w.nodes; snapshots = snapshots_behind hand.driver step w.cluster w.snapshots; tables = settled R (client_by v) hand.op step (ckpt_in w hand step) w.tables }
+
+-- and without the asynchronous calls that go with it
+abbrev pub settled_world : World → Who → InHand → RecordStep → World
+settled_world w v hand step = gone_with step (client_by v) (closed_in w v hand) (settled_alone w v hand step)
+
+module _ (w : World) (v : Who) (step : RecordStep) (hand : InHand) (held : hand_at w.hands v ≡ Some hand) (next : driver_next w.cluster (rooms_at w (client_by v)) hand.driver ≡ Event step) where
   abbrev verb : Verb
   verb = event_verb step
 
@@ -214,13 +251,13 @@ module _ (w : World) (c : ℕ) (step : RecordStep) (hand : InHand) (held : hand_
     m = machine_of w h
 
     abbrev s : CallState
-    s = state_in h c hand
+    s = state_in h v hand
 
     driver : hand.driver ≡ driver_of s
-    driver = driver_is w h c hand held is.fits
+    driver = driver_is w h v hand held is.fits
 
     pub event_asks : IsEventReady m s hand.driver step
-    event_asks = subst (λ (x : Driver). IsEventReady m s x step) (sym driver) (is.facts.events (Client c) s step (in_hand_is w h c hand held) (due_is w h c hand held is.facts is.fits (Event step) next))
+    event_asks = subst (λ (x : Driver). IsEventReady m s x step) (sym driver) (is.facts.events v s step (in_hand_is w h v hand held) (due_is w h v hand held is.facts is.fits (Event step) next))
 
     up : R.up ≡ w.cluster.up
     up = (event_keeps hand.call hand.driver step w.cluster).up
@@ -263,29 +300,30 @@ module _ (w : World) (c : ℕ) (step : RecordStep) (hand : InHand) (held : hand_
     plainly_told reply end plain answer = told_so reply end (subst (λ o. IsEventAnswer o (event_refusal w.cluster step hand.driver) step (parts reply end)) (sym (plain_kept k step plain)) answer)
 
     -- it pulls nothing
-    stays : (reply : StepReply) → IsPlain step → IsCopyBehind (with_effects w h) c hand (pulled_by m s verb k r reply) (h.pulled (Client c)) hand.snapshot
-    stays reply plain = let copy = copy_stays w h c hand held is.fits in record { same = event_pulls m s step k r reply plain; room = copy.room; counts = copy.counts }
+    stays : (reply : StepReply) → IsPlain step → IsCopyBehind (with_effects w h) v hand (pulled_by m s verb k r reply) (h.pulled v) hand.snapshot
+    stays reply plain = let copy = copy_stays w h v hand held is.fits in record { same = event_pulls m s step k r reply plain; room = copy.room; counts = copy.counts }
 
     module _ (eight : length w.nodes ≡ 8) (granted : event_refusal w.cluster step hand.driver ≡ None) where
       -- so the machine is shown where the record has taken the step
       pub done_beside : changed m s verb k r words.Ok ≡ besides s step k (machine_of recorded (with_effects w h))
       done_beside =
-          change_done m s hand.driver step event_asks (subst (DrivesFor s.call (asked s.op)) (sym driver) (state_drives s (is.facts.driven (Client c) s (in_hand_is w h c hand held))))
+          change_done m s hand.driver step event_asks (subst (DrivesFor s.call (asked s.op)) (sym driver) (state_drives s (is.facts.driven v s (in_hand_is w h v hand held))))
           ∙ ap (besides s step k) (added_record w h R nodes (adds eight granted) backgrounds pulled ∙ record_is (record w { nodes = nodes; snapshots = backgrounds }) h R (goes eight granted) up none_new)
 
       pub fits_recorded : HistoryFits recorded (with_effects w h)
       fits_recorded = record_fits (record w { nodes = nodes; snapshots = backgrounds }) h R (goes eight granted) up none_new (added_fits w h R nodes (adds eight granted) backgrounds pulled is.fits)
 
-    shown_done : length w.nodes ≡ 8 → event_refusal w.cluster step hand.driver ≡ None → IsPlain step → CanSettle c hand.op step w.tables → IsShownBehind w c hand held (settled_world w c hand step) (with_effects w) verb k r words.Ok end beside.Nothing 0 hand.snapshot (pulled_by_client c) (Event step) h
+    shown_done : length w.nodes ≡ 8 → event_refusal w.cluster step hand.driver ≡ None → IsPlain step → CanSettle (client_by v) hand.op step w.tables →
+        IsShownBehind w v hand held (settled_world w v hand step) (with_effects w) verb k r words.Ok end beside.Nothing 0 hand.snapshot (pulled_by_client v) (Event step) h
     shown_done eight granted plain can = record {
       done = plainly_told words.Ok end plain (subst (λ o. IsRecordAnswer o step (parts words.Ok end)) (sym granted) (inl (refl, refl)));
-      change = done_beside eight granted ∙ settles recorded (with_effects w h) c s (actor_is w h c hand held is.facts) step k plain can;
-      fits = let f = fits_recorded eight granted in record { replicas = f.replicas; copies = f.copies; hands = f.hands };
+      change = done_beside eight granted ∙ settles recorded (with_effects w h) (client_by v) s (actor_is w h v hand held is.facts) step k plain can;
+      fits = let f = fits_recorded eight granted in gone_fits (settled_alone w v hand step) (client_by v) (closed_in w v hand) step (with_effects w h) (record { replicas = f.replicas; copies = f.copies; hands = f.hands });
       count_is = event_counts m step k r words.Ok;
       copy_is = stays words.Ok plain;
     }
 
-    shown_refused : (reply : StepReply) (end : Outcome) → IsPlain step → IsRefusedWith (event_refusal w.cluster step hand.driver) step reply end → IsShownBehind w c hand held w (λ h. h) verb k r reply (Some end) beside.Nothing 0 hand.snapshot (pulled_by_client c) (Event step) h
+    shown_refused : (reply : StepReply) (end : Outcome) → IsPlain step → IsRefusedWith (event_refusal w.cluster step hand.driver) step reply end → IsShownBehind w v hand held w (λ h. h) verb k r reply (Some end) beside.Nothing 0 hand.snapshot (pulled_by_client v) (Event step) h
     shown_refused reply end plain refused = record {
       done = plainly_told reply (Some end) plain (refused_answer (event_refusal w.cluster step hand.driver) step verb k r reply end refused);
       change = refused_leaves m s step k r reply (not_ok (event_refusal w.cluster step hand.driver) step reply end refused);
@@ -294,38 +332,49 @@ module _ (w : World) (c : ℕ) (step : RecordStep) (hand : InHand) (held : hand_
       copy_is = let copy = stays reply plain in record { same = copy.same; room = copy.room; counts = copy.counts };
     }
 
+  -- the call is one that its client waits for, where others go with its step
+  pub goes_own : IsShown w → MayGoWith step v
+  goes_own shown =
+      let h : History = shown.shows.history in
+      let is : IsKnown w h = known w shown in
+      may_go_with (machine_of w h) (state_in h v hand) hand.driver step v (event_asks h is) (driver h is) (is.facts.driven v (state_in h v hand) (in_hand_is w h v hand held)) (name_is w h v hand held is.facts)
+
   -- what a due step asks
-  pub event_ready : (shown : IsShown w) → let h = shown.shows.history in IsEventReady (machine_of w h) (state_in h c hand) hand.driver step
+  pub event_ready : (shown : IsShown w) → let h = shown.shows.history in IsEventReady (machine_of w h) (state_in h v hand) hand.driver step
   event_ready shown = event_asks shown.shows.history (known w shown)
 
   -- a client that becomes live has its room
-  pub enters : IsShown w → (step ≡ events.Enter → room_is_taken (slice_get w.tables c) ≡ true) → EntersWithRoom hand.call hand.driver w.tables
+  pub enters : IsShown w → (step ≡ events.Enter → room_is_taken (slice_get w.tables (client_by v)) ≡ true) → EntersWithRoom hand.call hand.driver w.tables
   enters shown roomy = by_driver step hand.driver (event_ready shown) roomy where
     its : CallState
-    its = state_in shown.shows.history c hand
+    its = state_in shown.shows.history v hand
 
-    client : client_of hand.call ≡ c
-    client = ap number_of (actor_is w shown.shows.history c hand held (known w shown).facts)
+    client : client_of hand.call ≡ client_by v
+    client = ap number_of (actor_is w shown.shows.history v hand held (known w shown).facts)
 
-    by_driver : (step : RecordStep) (x : Driver) → IsEventReady (machine_of w shown.shows.history) its x step → (step ≡ events.Enter → room_is_taken (slice_get w.tables c) ≡ true) → EntersWithRoom hand.call x w.tables
+    by_driver : (step : RecordStep) (x : Driver) → IsEventReady (machine_of w shown.shows.history) its x step → (step ≡ events.Enter → room_is_taken (slice_get w.tables (client_by v)) ≡ true) → EntersWithRoom hand.call x w.tables
     by_driver events.Enter (drivers.Once (once.Enter r)) _ roomy = subst (λ d. room_is_taken (slice_get w.tables d) ≡ true) (sym client) (roomy refl)
     by_driver step (drivers.Once (once.Enter r)) asks roomy = absurd asks
     by_driver step x _ roomy = tt
 
+  -- the world behind it, before the nodes are freed
+  abbrev pub done_world : World
+  done_world = behind_step w v hand held (settled_world w v hand step) (with_effects w) verb k r words.Ok end beside.Nothing 0 hand.snapshot (pulled_by_client v)
+
   -- the step is done, and the nodes are freed of what is gone
-  pub event_does : length w.nodes ≡ 8 → event_refusal w.cluster step hand.driver ≡ None → IsPlain step → CanSettle c hand.op step w.tables → EntersWithRoom hand.call hand.driver w.tables →
-      Does w (freed_world (behind_step w c hand held (settled_world w c hand step) (with_effects w) verb k r words.Ok end beside.Nothing 0 hand.snapshot (pulled_by_client c))) (told words.Ok end)
-  event_does eight granted plain can enters =
-      let behind = settled_world w c hand step in
-      does_freed w (behind_step w c hand held behind (with_effects w) verb k r words.Ok end beside.Nothing 0 hand.snapshot (pulled_by_client c)) (told words.Ok end)
-      (step_before w c hand held behind (with_effects w) verb k r words.Ok end beside.Nothing 0 hand.snapshot (pulled_by_client c) (Event step) next held (λ h. refl) (λ h is. shown_done h is eight granted plain can))
+  pub event_does : IsShown w → length w.nodes ≡ 8 → event_refusal w.cluster step hand.driver ≡ None → IsPlain step → CanSettle (client_by v) hand.op step w.tables → (step ≡ events.Enter → room_is_taken (slice_get w.tables (client_by v)) ≡ true) → Does w (freed_world done_world) (told words.Ok end)
+  event_does shown eight granted plain can roomy =
+      let behind = settled_world w v hand step in
+      does_freed w done_world (told words.Ok end)
+      (step_before w v hand held behind (with_effects w) verb k r words.Ok end beside.Nothing 0 hand.snapshot (pulled_by_client v) (Event step) next (gone_here (settled_alone w v hand step) (client_by v) (closed_in w v hand) step v (goes_own shown) ∙ held) (λ h. refl) (λ h is. shown_done h is eight granted plain can))
       (λ m s f. holds_after s.history (known_by w m s f) eight granted)
       (λ m s f. let is = known_by w m s f in event_has w.cluster w.snapshots is.keeps is.facts.rises is.facts.up_to hand.call hand.driver step)
-      (λ m s f. rooms_settled w R c R hand.op step k (rooms_after hand.call hand.driver step w.cluster w.tables enters s.rooms))
+      (λ m s f. rooms_ended behind R v end (rooms_gone (settled_alone w v hand step) (client_by v) (closed_in w v hand) R step (rooms_settled w R (client_by v) R hand.op step k (rooms_after hand.call hand.driver step w.cluster w.tables (enters shown roomy) s.rooms))))
 
   -- it is refused, and the call ends
-  pub refused_does : (reply : StepReply) (end : Outcome) → IsPlain step → IsRefusedWith (event_refusal w.cluster step hand.driver) step reply end → Does w (record w { hands = slice_set w.hands c None }) (told reply (Some end))
+  pub refused_does : (reply : StepReply) (end : Outcome) → IsPlain step → IsRefusedWith (event_refusal w.cluster step hand.driver) step reply end → Does w (ended_at v (Some end) (record w { hands = set_at w.hands v None })) (told reply (Some end))
   refused_does reply end plain refused =
-      does_before w (record w { hands = slice_set w.hands c None }) (told reply (Some end))
-      (step_before w c hand held w (λ h. h) verb k r reply (Some end) beside.Nothing 0 hand.snapshot (pulled_by_client c) (Event step) next held (λ h. refl) (λ h is. shown_refused h is reply end plain refused))
-      (λ m s f. s.holds) (λ m s f. s.keeps) (λ m s f. s.rooms)
+      let new = ended_at v (Some end) (record w { hands = set_at w.hands v None }) in
+      does_before w new (told reply (Some end))
+      (step_before w v hand held w (λ h. h) verb k r reply (Some end) beside.Nothing 0 hand.snapshot (pulled_by_client v) (Event step) next held (λ h. refl) (λ h is. shown_refused h is reply end plain refused))
+      (λ m s f. s.holds) (λ m s f. s.keeps) (λ m s f. rooms_ended w w.cluster v (Some end) s.rooms)

@@ -4,7 +4,6 @@ use Rattle.std.specs.Prelude.{Option, Some, None, ◌==◌, ◌&&◌, IsSomeAnd,
 use Rattle.std.proofs.lemmas.Bool.{eqb-true}
 use Rattle.ckpt_types.specs.declared.answers.Answer.TheVariants as answers
 use Rattle.ckpt_types.specs.declared.answers.Outcome.{Outcome}
-use Rattle.ckpt_types.specs.declared.identities.ActorName.TheVariants.{Client}
 use Rattle.node_msgs.specs.declared.requests.Request.TheVariants.{Reserve}
 use Rattle.node_msgs.specs.declared.replies.Reply.{Reply}
 use Rattle.node_msgs.specs.declared.replies.Reply.TheVariants.{Done, NoMemory}
@@ -30,14 +29,17 @@ use Rattle.ckpt_machine.specs.Driving.{driver_next, driver_taken, driver_end}
 use Rattle.ckpt_machine.specs.Steps.{changed, ended_details, payload_due, seen_at}
 use Rattle.world_core.specs.Happenings.{rooms_at}
 use Rattle.ckpt_machine.specs.Facts.{IsReservable, IsServable}
-use Rattle.world_core.specs.Shows.{Does, HistoryFits, FitsReplica, History, machine_of, shown_replica, where_complete, complete_replica, where_not_complete, shown_reservation, reserved_in, hand_at}
+use Rattle.world_core.specs.Shows.{Does, HistoryFits, FitsReplica, History, machine_of, shown_replica, where_complete, complete_replica, where_not_complete, shown_reservation, reserved_in}
 use Rattle.world_core.proofs.Held.{state_in, driver_is, IsCopyBehind, copy_stays}
+use Rattle.world_core.proofs.LiveRooms.{rooms_ended}
 use Rattle.world_core.proofs.HoldingLaws.{opening_there, holds_served}
 use Rattle.world_core.proofs.Maps.{both_true, same_there, set_again, node_case}
 use Rattle.cluster_record.proofs.Places.{find_pushed, get_set, there_is}
 use Rattle.world_core.proofs.Finding as finding
 use Rattle.world_core.proofs.Serve.{behind, its_end, its_details, its_copy, replica_there, served_world, served_label}
 use Rattle.world_core.proofs.CallSteps.{IsKnown, known_by, pulled_by_client, step_before}
+use Rattle.world_core.specs.HandsState.{hand_at, client_by}
+use Rattle.ckpt_types.specs.declared.identities.Who.{Who}
 use Rattle.world_core.proofs.Freeing.{does_before}
 
 -- ---- what a reservation makes of the nodes
@@ -120,12 +122,12 @@ copy_kept k None s = refl
 copy_kept k (Some x) None = refl
 copy_kept k (Some x) (Some s) = refl
 
-module _ (w : World) (c r k : ℕ) (hand : InHand) (p : Payload) (reply : Reply) (held : hand_at w.hands c ≡ Some hand) (next : driver_next w.cluster (rooms_at w c) hand.driver ≡ Serve r (Reserve k)) (may : (reply ≡ Done answers.Nothing) ⊎ (reply ≡ NoMemory)) (within : r < length w.nodes) where
+module _ (w : World) (v : Who) (r k : ℕ) (hand : InHand) (p : Payload) (reply : Reply) (held : hand_at w.hands v ≡ Some hand) (next : driver_next w.cluster (rooms_at w (client_by v)) hand.driver ≡ Serve r (Reserve k)) (may : (reply ≡ Done answers.Nothing) ⊎ (reply ≡ NoMemory)) (within : r < length w.nodes) where
   abbrev new : World
-  new = behind w c r (Reserve k) hand p reply
+  new = behind w v r (Reserve k) hand p reply
 
   abbrev end : Option Outcome
-  end = its_end w c r (Reserve k) hand p reply
+  end = its_end w v r (Reserve k) hand p reply
 
   -- neither answer tells a count
   no_count : 0 ≡ count_told reply
@@ -133,7 +135,7 @@ module _ (w : World) (c r k : ℕ) (hand : InHand) (p : Payload) (reply : Reply)
 
   -- what the step has changed with this reply, where the nodes have this then
   record Reserves (answer : Reply) (nodes : List (List Replica)) (h : History) : Type 0 where
-    change : changed (machine_of w h) (state_in h c hand) verbs.Reserve (Some k) (Some r) (word_of answer) ≡ machine_of (record w { nodes = nodes }) h
+    change : changed (machine_of w h) (state_in h v hand) verbs.Reserve (Some k) (Some r) (word_of answer) ≡ machine_of (record w { nodes = nodes }) h
     fits : HistoryFits (record w { nodes = nodes }) h
 
   taken : (e : Entry) → entry_of k w.cluster.entries ≡ Some e → IsReservable w.cluster r e → (h : History) → IsKnown w h → Reserves (Done answers.Nothing) (reserved_at w.nodes r (opened_replica k e.attributes e.made)) h
@@ -152,7 +154,7 @@ module _ (w : World) (c r k : ℕ) (hand : InHand) (p : Payload) (reply : Reply)
   reserves : (h : History) → IsKnown w h → Reserves reply new.nodes h
   reserves h known = elim may [
     | inl done ↦
-        let (e, there, can) = entry_there (entry_of k w.cluster.entries) (finding.ready w h c r (Reserve k) hand known.facts known.fits held next).1 in
+        let (e, there, can) = entry_there (entry_of k w.cluster.entries) (finding.ready w h v r (Reserve k) hand known.facts known.fits held next).1 in
         subst (λ (a : Reply). Reserves a (nodes_after w.cluster w.nodes r (Reserve k) p a) h) (sym done)
         (subst (λ (nodes : List (List Replica)). Reserves (Done answers.Nothing) nodes h) (sym (ap (λ (o : Option Entry). slice_set w.nodes r (reserved_for o k (list_or (slice_get w.nodes r)))) there)) (taken e there can h known))
     | inr refused ↦
@@ -161,10 +163,10 @@ module _ (w : World) (c r k : ℕ) (hand : InHand) (p : Payload) (reply : Reply)
         (subst (λ (nodes : List (List Replica)). Reserves NoMemory nodes h) (sym (ap (λ o. slice_set w.nodes r (list_or o)) there ∙ set_again w.nodes r xs there)) (record { change = refl; fits = known.fits }))
   ]
 
-  pub reserve_does : Does w (served_world w c r (Reserve k) hand p reply) (served_label w c r (Reserve k) hand p reply)
+  pub reserve_does : Does w (served_world w v r (Reserve k) hand p reply) (served_label w v r (Reserve k) hand p reply)
   reserve_does =
-      does_before w (served_world w c r (Reserve k) hand p reply) (served_label w c r (Reserve k) hand p reply)
-      (step_before w c hand held new (λ h. h) verbs.Reserve (Some k) (Some r) (word_of reply) end (ended_details end (its_details w c r (Reserve k) hand p reply)) (count_told reply) (its_copy w c r (Reserve k) hand p reply) (pulled_by_client c) (Serve r (Reserve k)) next held (λ h. refl) (λ h known. record {
+      does_before w (served_world w v r (Reserve k) hand p reply) (served_label w v r (Reserve k) hand p reply)
+      (step_before w v hand held new (λ h. h) verbs.Reserve (Some k) (Some r) (word_of reply) end (ended_details end (its_details w v r (Reserve k) hand p reply)) (count_told reply) (its_copy w v r (Reserve k) hand p reply) (pulled_by_client v) (Serve r (Reserve k)) next held (λ h. refl) (λ h known. record {
         done = record {
           answer = reply;
           may = may;
@@ -172,14 +174,14 @@ module _ (w : World) (c r k : ℕ) (hand : InHand) (p : Payload) (reply : Reply)
           ckpt = refl;
           node = refl;
           reply = refl;
-          details = ap (ended_details end) (none_read k p (record_seen w.cluster k r) (replica_there w c r (Reserve k) hand p reply) ∙ sym (none_read k (payload_due (machine_of w h) (state_in h c hand)) (record_seen w.cluster k r) (seen_at (machine_of w h) k r)));
-          end = λ i. let done = counting (sym no_count i) (done_of w.cluster verbs.Reserve (Some k) (Some r) (word_of reply)) in driver_end hand.op done reply (driver_taken done (driver_is w h c hand held known.fits i));
+          details = ap (ended_details end) (none_read k p (record_seen w.cluster k r) (replica_there w v r (Reserve k) hand p reply) ∙ sym (none_read k (payload_due (machine_of w h) (state_in h v hand)) (record_seen w.cluster k r) (seen_at (machine_of w h) k r)));
+          end = λ i. let done = counting (sym no_count i) (done_of w.cluster verbs.Reserve (Some k) (Some r) (word_of reply)) in driver_end hand.op done reply (driver_taken done (driver_is w h v hand held known.fits i));
         };
         change = (reserves h known).change;
         fits = (reserves h known).fits;
         count_is = no_count;
-        copy_is = let copy = copy_stays w h c hand held known.fits in subst (IsCopyBehind h c hand (state_in h c hand).snapshot (h.pulled (Client c))) (sym (copy_kept k (replica_there w c r (Reserve k) hand p reply) hand.snapshot)) copy;
+        copy_is = let copy = copy_stays w h v hand held known.fits in subst (IsCopyBehind h v hand (state_in h v hand).snapshot (h.pulled v)) (sym (copy_kept k (replica_there w v r (Reserve k) hand p reply) hand.snapshot)) copy;
       }))
-      (λ m s f. let is = known_by w m s f in holds_served w.cluster w.nodes r (Reserve k) p reply is.holds within (λ j e. subst (IsServable (machine_of w s.history) r) e (finding.ready w s.history c r (Reserve k) hand is.facts is.fits held next).1))
+      (λ m s f. let is = known_by w m s f in holds_served w.cluster w.nodes r (Reserve k) p reply is.holds within (λ j e. subst (IsServable (machine_of w s.history) r) e (finding.ready w s.history v r (Reserve k) hand is.facts is.fits held next).1))
       (λ m s f. s.keeps)
-      (λ m s f. s.rooms)
+      (λ m s f. rooms_ended new w.cluster v end s.rooms)

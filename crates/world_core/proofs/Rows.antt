@@ -1,7 +1,7 @@
 -- Worked examples of the machine, each by computation: which logs are runs, what a call answers, and what state is after it. A
 -- state has a name where the next example goes on from it.
 use Rattle.std.proofs.Common.{◌≡◌, ℕ, inl, List, [], ◌∷◌, ◌++◌, replicate, codes, pos, Option, Some, None, true, refl, sym, subst, ◌∙◌, arith}
-use Rattle.std.specs.Prelude.{◌+◌, ◌≤◌, IsSomeAnd}
+use Rattle.std.specs.Prelude.{◌+◌, ◌≤◌, is_some, IsSomeAnd}
 use Rattle.std.specs.Option.{option_map}
 use Rattle.ckpt_types.specs.declared.ais_error.AisError.TheVariants as errors
 use Rattle.ckpt_types.specs.declared.answers.Answer.TheVariants as answers
@@ -9,15 +9,17 @@ use Rattle.ckpt_types.specs.declared.answers.Cause.TheVariants.{Plain, Index, Ho
 use Rattle.ckpt_types.specs.declared.answers.Outcome.{Outcome}
 use Rattle.ckpt_types.specs.declared.answers.Outcome.TheVariants.{Done, Refused}
 use Rattle.ckpt_types.specs.declared.attributes.CreationAttributes.{CreationAttributes}
+use Rattle.ckpt_types.specs.declared.calls.AsyncKind.TheVariants as kinds
 use Rattle.ckpt_types.specs.declared.identities.ActorName.TheVariants.{Client}
 use Rattle.ckpt_types.specs.declared.identities.CallId.{CallId}
+use Rattle.ckpt_types.specs.declared.identities.Who.TheVariants.{Actor, Call}
 use Rattle.ckpt_types.specs.declared.operation.Op.{Op}
 use Rattle.ckpt_types.specs.declared.operation.Op.TheVariants as ops
 use Rattle.ckpt_types.specs.declared.sections.SectionState.TheVariants.{Valid}
 use Rattle.ckpt_types.specs.declared.update.IoElement.{IoElement}
 use Rattle.ckpt_types.specs.declared.update.Update.TheVariants as updates
 use Rattle.ckpt_types.specs.Asks.{asked, update_of}
-use Rattle.ckpt_types.specs.Limits.{wr_all_replicas, checkpoint_read, checkpoint_write, checkpoint_create, release, major_max, minor_answered, end_of_time}
+use Rattle.ckpt_types.specs.Limits.{wr_all_replicas, checkpoint_read, checkpoint_write, checkpoint_create, release, major_max, minor_answered, end_of_time, dispatch_one}
 use Rattle.ckpt_types.specs.Sections.{Section}
 use Rattle.node_msgs.specs.declared.next.Next.{Next}
 use Rattle.node_msgs.specs.declared.next.Next.TheVariants.{Event, End}
@@ -30,8 +32,9 @@ use Rattle.node_msgs.specs.declared.steps.Verb.TheVariants as verbs
 use Rattle.node_msgs.specs.declared.details.Details.TheVariants as beside
 use Rattle.run_labels.specs.declared.labels.Label.{Label}
 use Rattle.run_labels.specs.declared.labels.Label.TheVariants as labels
-use Rattle.ckpt_types.specs.OpWord.{word_of_op}
+use Rattle.ckpt_types.specs.OpWord.{word_of_op, stepped_as}
 use Rattle.ckpt_types.specs.declared.words.OpWord.{OpWord}
+use Rattle.call_dispatch.specs.PendingCalls.{no_pending}
 use Rattle.client_handles.specs.declared.handle_view.HandleView.{HandleView}
 use Rattle.cluster_record.specs.declared.entries.Entry.{Entry}
 use Rattle.cluster_record.specs.DueOnce.{Leave}
@@ -86,7 +89,7 @@ writes place bytes = ops.Write place (updates.Write (into [] 0 bytes ∷ []))
 
 -- a call begins, and its steps
 abbrev begins : ℕ → Op → Label
-begins n op = labels.Began (c0 n) op None
+begins n op = labels.Began (c0 n) op None beside.Nothing
 
 abbrev steps : ℕ → Op → Verb → Option ℕ → Option ℕ → Label
 steps n op verb k r = labels.Stepped (c0 n) (word_of_op op) verb k r words.Ok None beside.Nothing
@@ -111,7 +114,7 @@ five = comes_up ∷ begins 1 starts ∷ example_enters ∷ begins 2 (ops.Unlink 
 
 -- the call that c0 has in hand
 abbrev in_hand : Machine → Option CallState
-in_hand m = m.in_hand (Client 0)
+in_hand m = m.in_hand (Actor (Client 0))
 
 -- what drives a call, or a leaving where nothing does
 abbrev driver_or : Option Driver → Driver
@@ -154,16 +157,16 @@ five_labels_are_a_run = (
   ),
 ) where
   first_begins : IsDue (last (comes_up ∷ [])) (begins 1 starts)
-  first_begins = record { client = omega arith; built = (omega arith, record { opens = refl; syncs = refl }); number = refl; none_in_hand = refl; may = (refl, refl); answer = inl refl }
+  first_begins = record { client = omega arith; built = omega arith; number = refl; none_in_hand = refl; may = (refl, refl); answer = inl refl; told = refl }
 
   first_may_begin : Allowed (last (comes_up ∷ [])) (begins 1 starts)
-  first_may_begin = record { client = omega arith; built = (omega arith, record { opens = refl; syncs = refl }); number = refl; none_in_hand = refl; may = (refl, refl); row = (record { version = refl; handle = refl; flags = refl; arguments = refl; access = refl; operation = refl }, refl) }
+  first_may_begin = record { client = omega arith; built = omega arith; number = refl; none_in_hand = refl; may = (refl, refl); row = (record { version = refl; handle = refl; callback = refl; flags = refl; arguments = refl; access = refl; operation = refl }, refl); told = refl }
 
   then_begins : IsDue (last (comes_up ∷ begins 1 starts ∷ example_enters ∷ [])) (begins 2 (ops.Unlink ck))
-  then_begins = record { client = omega arith; built = tt; number = refl; none_in_hand = refl; may = tt; answer = inl refl }
+  then_begins = record { client = omega arith; built = tt; number = refl; none_in_hand = refl; may = tt; answer = inl refl; told = refl }
 
   then_may_begin : Allowed (last (comes_up ∷ begins 1 starts ∷ example_enters ∷ [])) (begins 2 (ops.Unlink ck))
-  then_may_begin = record { client = omega arith; built = tt; number = refl; none_in_hand = refl; may = tt; row = (record { version = refl; handle = refl; flags = refl; arguments = refl; access = refl; operation = refl }, refl) }
+  then_may_begin = record { client = omega arith; built = tt; number = refl; none_in_hand = refl; may = tt; row = (record { version = refl; handle = refl; callback = refl; flags = refl; arguments = refl; access = refl; operation = refl }, refl); told = refl }
 
 -- with its step in front of its beginning
 pub a_step_before_its_call_is_no_run : IsRun (comes_up ∷ example_enters ∷ begins 1 starts ∷ begins 2 (ops.Unlink ck) ∷ example_refused ∷ []) → ⊥
@@ -228,7 +231,7 @@ abbrev writing : CallState
 writing = example_begun example_opened 3 (writes 0 (codes "abc"))
 
 -- what an allowed step asks of the state, by the call that is in hand
-its_row : (m : Machine) (s : CallState) (word : OpWord) (t : Told) → m.in_hand s.call.actor ≡ Some s → IsAllowedStep m s.call word t → Row m s t.verb t
+its_row : (m : Machine) (s : CallState) (word : OpWord) (t : Told) → m.in_hand (stepped_as s.call word) ≡ Some s → IsAllowedStep m s.call word t → Row m s t.verb t
 its_row m s word t here allowed = subst (λ s. Row m s t.verb t) (sym (same_Some s allowed.state (sym here ∙ allowed.in_hand))) allowed.row
 
 -- a commit before its stage: there is no slot
@@ -374,7 +377,7 @@ abbrev for_3 : Op
 for_3 = ops.Open 0 ck (checkpoint_read + checkpoint_write + checkpoint_create) (pos 3) (Some (sized 16 1))
 
 abbrev log_making : List Label
-log_making = comes_up ∷ begins 1 starts ∷ example_enters ∷ labels.Began (c1 1) starts None ∷ labels.Stepped (c1 1) (word_of_op starts) verbs.Enter None (Some 0) words.Ok (Some (Done answers.Version)) beside.Nothing ∷ begins 2 for_3 ∷ steps 2 for_3 verbs.Create (Some 1) None ∷ []
+log_making = comes_up ∷ begins 1 starts ∷ example_enters ∷ labels.Began (c1 1) starts None beside.Nothing ∷ labels.Stepped (c1 1) (word_of_op starts) verbs.Enter None (Some 0) words.Ok (Some (Done answers.Version)) beside.Nothing ∷ begins 2 for_3 ∷ steps 2 for_3 verbs.Create (Some 1) None ∷ []
 
 abbrev in_the_making : Machine
 in_the_making = last log_making
@@ -400,7 +403,7 @@ pub timeout_comes_before_try_again : due in_the_making (c1_begins in_the_making 
 timeout_comes_before_try_again = refl
 
 abbrev both_in_hand : Machine
-both_in_hand = last (log_making ++ labels.Began (c1 2) (opens 0 ck) None ∷ [])
+both_in_hand = last (log_making ++ labels.Began (c1 2) (opens 0 ck) None beside.Nothing ∷ [])
 
 abbrev held_open : Label
 held_open = labels.Stepped (c1 2) (word_of_op (opens 0 ck)) verbs.Open (Some 1) None words.Refused (Some (Refused errors.TryAgain (Holder (c0 2)))) beside.Nothing
@@ -421,7 +424,7 @@ what_is_made_is_not_held allowed =
     let none : None ≡ Some held.3.0 = (subst (λ name. IsSomeAnd (named name m.cluster.entries) (λ e. (e.identity ≡ 1) × (e.making ≡ Some held.3.0))) name held.3.1.there).1 in
     cc none
 
-pub the_making_stays : ((after both_in_hand held_open).cluster ≡ both_in_hand.cluster) × ((after both_in_hand held_open).in_hand (Client 0) ≡ both_in_hand.in_hand (Client 0)) × ((after both_in_hand held_open).in_hand (Client 1) ≡ None)
+pub the_making_stays : ((after both_in_hand held_open).cluster ≡ both_in_hand.cluster) × ((after both_in_hand held_open).in_hand (Actor (Client 0)) ≡ both_in_hand.in_hand (Actor (Client 0))) × ((after both_in_hand held_open).in_hand (Actor (Client 1)) ≡ None)
 the_making_stays = (refl, refl, refl)
 
 -- ---- a making whose deadline is reached by a moment that is set in between
@@ -465,5 +468,64 @@ a_late_making_is_refused = (
 pub it_was_reserved : (at 5).reserved 1 0 ≡ Some 1
 it_was_reserved = refl
 
-pub and_is_undone : ((after (at 5) too_late).cluster ≡ record (at 5).cluster { entries = [] }) × ((after (at 5) too_late).reserved 1 0 ≡ None) × ((after (at 5) too_late).in_hand (Client 0) ≡ None)
+pub and_is_undone : ((after (at 5) too_late).cluster ≡ record (at 5).cluster { entries = [] }) × ((after (at 5) too_late).reserved 1 0 ≡ None) × ((after (at 5) too_late).in_hand (Actor (Client 0)) ≡ None)
 and_is_undone = (refl, refl, refl)
+
+-- ---- an asynchronous open: `client c0 n0 B.2.2 both`, `openasync c0 h0 7 'ck 7 1 16 0 1 16 8`, `dispatch c0 1`
+
+abbrev registers : Op
+registers = ops.Client 0 (record { release = release; major = major_max; minor = minor_answered }) (record { opens = true; syncs = true })
+
+abbrev makes_alone : Op
+makes_alone = ops.OpenAsync 0 7 ck (checkpoint_read + checkpoint_write + checkpoint_create) (Some (sized 16 1))
+
+abbrev log_alone : List Label
+log_alone = comes_up ∷ begins 1 registers ∷ ends 1 registers verbs.Enter None (Some 0) (Done answers.Version) ∷ labels.Began (c0 2) makes_alone (Some (Done answers.Nothing)) beside.Nothing ∷ []
+
+abbrev goes_alone : Machine
+goes_alone = last log_alone
+
+pub it_is_in_hand_under_its_own_name : is_some (goes_alone.in_hand (Call (c0 2))) ≡ true
+it_is_in_hand_under_its_own_name = refl
+
+pub its_client_waits_for_nothing : goes_alone.in_hand (Actor (Client 0)) ≡ None
+its_client_waits_for_nothing = refl
+
+pub another_call_may_begin : IsDue goes_alone (begins 3 (ops.Unlink ck))
+another_call_may_begin = record { client = omega arith; built = tt; number = refl; none_in_hand = refl; may = tt; answer = inl refl; told = refl }
+
+-- once it has ended
+abbrev log_ended : List Label
+log_ended = log_alone ++ steps 2 makes_alone verbs.Create (Some 1) None ∷ steps 2 makes_alone verbs.Reserve (Some 1) (Some 0) ∷ ends 2 makes_alone verbs.Finish (Some 1) None (Done (answers.Opened 1)) ∷ []
+
+abbrev ended_alone : Machine
+ended_alone = last log_ended
+
+pub it_is_in_hand_no_more : ended_alone.in_hand (Call (c0 2)) ≡ None
+it_is_in_hand_no_more = refl
+
+pub its_callback_is_to_be_given : ended_alone.pending (Client 0) ≡ record { unfinished = []; finished = record { asked = record { call = c0 2; kind = kinds.Open 0; invocation = 7; handle = 1 }; outcome = Done (answers.Opened 1) } ∷ [] }
+its_callback_is_to_be_given = refl
+
+pub its_place_stands_for_none_yet : asked_handle ended_alone (Client 0) (ops.Close 0) ≡ None
+its_place_stands_for_none_yet = refl
+
+-- and its callback is given
+abbrev dispatches : Label
+dispatches = labels.Began (c0 3) (ops.Dispatch dispatch_one) (Some (Done (answers.Dispatched (record { given = 1; left = 0 })))) (beside.Callbacks (record { kind = kinds.Open 0; invocation = 7; outcome = Done (answers.Opened 1) } ∷ []))
+
+pub a_dispatch_gives_it : IsDue ended_alone dispatches
+a_dispatch_gives_it = record { client = omega arith; built = tt; number = refl; none_in_hand = refl; may = tt; answer = inl refl; told = refl }
+
+pub then_its_place_stands_for_the_handle : asked_handle (after ended_alone dispatches) (Client 0) (ops.Close 0) ≡ Some a_handle
+then_its_place_stands_for_the_handle = refl
+
+pub and_nothing_is_to_be_given : (after ended_alone dispatches).pending (Client 0) ≡ no_pending
+and_nothing_is_to_be_given = refl
+
+-- where its client leaves before it has ended, it goes, and what it is making
+abbrev leaves : Machine
+leaves = last (log_alone ++ steps 2 makes_alone verbs.Create (Some 1) None ∷ begins 3 ops.Finalize ∷ ends 3 ops.Finalize verbs.Leave None None (Done answers.Nothing) ∷ [])
+
+pub it_goes_with_its_client : (leaves.in_hand (Call (c0 2)) ≡ None) × (leaves.pending (Client 0) ≡ no_pending) × (leaves.cluster.entries ≡ [])
+it_goes_with_its_client = (refl, refl, refl)

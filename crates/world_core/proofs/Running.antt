@@ -1,7 +1,6 @@
 -- A run goes on by one label, and what the code may rely on in the world after it.
 use Rattle.std.proofs.Common.{◌≡◌, ℕ, ◌+◌, ◌*◌, ◌-◌, ◌<◌, ◌≤◌, ◌^◌, List, [], ◌∷◌, ◌++◌, length, Option, Some, None, Bool, true, false, cond, not, ◌&&◌, refl, sym, ap, subst, ◌∙◌, arith}
 use Rattle.std.specs.Prelude.{◌==◌, IfSome}
-use Rattle.std.proofs.lemmas.Bool.{eq-eqb}
 use Rattle.std.proofs.lemmas.Option.{same_Some}
 use Rattle.ckpt_types.specs.declared.answers.Outcome.{Outcome}
 use Rattle.ckpt_types.specs.declared.identities.ActorName.TheVariants.{Client}
@@ -25,14 +24,16 @@ use Rattle.cluster_record.specs.declared.calls.SyncKind.{SyncKind}
 use Rattle.cluster_record.specs.declared.calls.SyncKind.TheVariants.{Synchronize, ActiveSet}
 use Rattle.cluster_record.specs.declared.entries.Entry.{Entry}
 use Rattle.world_core.specs.declared.world.World.{World}
-use Rattle.cluster_record.specs.Calls.{same_actor, left}
+use Rattle.cluster_record.specs.Calls.{left}
 use Rattle.cluster_record.specs.RecordState.{RecordState, entry_of, complete_of}
 use Rattle.ckpt_machine.specs.Driving.{driver_taken}
 use Rattle.cluster_record.specs.StepDone.{done_of, counting}
-use Rattle.ckpt_machine.specs.Machine.{Machine, CallState}
+use Rattle.ckpt_machine.specs.Machine.{Machine, CallState, who}
 use Rattle.ckpt_machine.specs.Steps.{driver_of, changed, counted_at, kept_behind, step_of, after}
-use Rattle.ckpt_machine.specs.Facts.{Facts}
-use Rattle.world_core.specs.Shows.{Does, Shows, History, HistoryFits, FitsReplica, IsShown, HasNumbersLeft, machine_of, shown_replica, hand_at}
+use Rattle.ckpt_machine.specs.Whose.{put_who}
+use Rattle.ckpt_machine.proofs.Whose.{put_who-here}
+use Rattle.ckpt_types.specs.OpWord.{stepped_as}
+use Rattle.world_core.specs.Shows.{Does, Shows, History, HistoryFits, FitsReplica, IsShown, HasNumbersLeft, machine_of, shown_replica}
 use Rattle.ckpt_machine.specs.Invariant.{InvariantIn, Invariant, IsGoodIn}
 use Rattle.ckpt_machine.specs.Shape.{Shape}
 use Rattle.ckpt_machine.specs.Runs.{Counts, last}
@@ -42,10 +43,12 @@ use Rattle.ckpt_machine.specs.Left.{lacking, having, unserved, making_left, acti
 use Rattle.cluster_record.specs.declared.calls.UpdatePhase.{UpdatePhase}
 use Rattle.cluster_record.specs.declared.calls.UpdatePhase.TheVariants.{Staging, Committing}
 use Rattle.world_core.specs.StepsLeft.{hand_left, left_of}
-use Rattle.world_core.proofs.Held.{state_in, in_hand_is, in_hand_at, driver_is, actor_is}
+use Rattle.world_core.proofs.Held.{state_in, in_hand_is, driver_is}
 use Rattle.ckpt_machine.proofs.Nearer.{step_nearer}
 use Rattle.ckpt_machine.proofs.Facts.{facts}
 use Rattle.ckpt_machine.proofs.Runs.{last-push}
+use Rattle.world_core.specs.HandsState.{hand_at}
+use Rattle.ckpt_types.specs.declared.identities.Who.{Who}
 use Rattle.ckpt_machine.proofs.RunLaws.{run_has, run_goes_on}
 
 -- the world after a log shows the state after it
@@ -99,36 +102,40 @@ steps_left-from_one R (drivers.Active a) = active_left-from_one a.kind a.marks
 steps_left-from_one R (drivers.Sync s) = kind_left-from_one (entry_of s.ckpt R.entries) s s.kind
 
 -- after a step that does not end it a call is in hand with this step more
-step_of-in_hand : (m : Machine) (s : CallState) (c : ℕ) (verb : Verb) (k r : Option ℕ) (reply : StepReply) → s.call.actor ≡ Client c
-    → (let n = step_of m (Some s) verb k r reply None in n.in_hand (Client c) ≡ Some (kept_behind m s n.cluster verb k r reply))
-step_of-in_hand m s c verb k r reply is = let n = changed m s verb k r reply in ap (λ b. cond b (Some (kept_behind m s n.cluster verb k r reply)) (n.in_hand (Client c))) (ap (same_actor (Client c)) is ∙ eq-eqb c c refl)
+step_of-in_hand : (m : Machine) (s : CallState) (v : Who) (verb : Verb) (k r : Option ℕ) (reply : StepReply) → who s ≡ v
+    → (let n = step_of m (Some s) verb k r reply None in n.in_hand v ≡ Some (kept_behind m s n.cluster verb k r reply))
+step_of-in_hand m s v verb k r reply is =
+    let n = changed m s verb k r reply in
+    let next = kept_behind m s n.cluster verb k r reply in
+    subst (λ u. put_who n.in_hand (who s) (Some next) u ≡ Some next) is (put_who-here n.in_hand (who s) (Some next))
 
 -- after a step fewer steps are left of its call, and none where it has ended
-pub nearer : (w w' : World) (log : List Label) (c : ℕ) (hand next : InHand) (op : OpWord) (verb : Verb) (k r : Option ℕ) (reply : StepReply) (end : Option Outcome) (details : Details)
-    → IsRunTo w log → hand_at w.hands c ≡ Some hand → Does w w' (Stepped hand.call op verb k r reply end details) → hand_at w'.hands c ≡ left end next → left_of w' (Client c) < left_of w (Client c)
-nearer w w' log c hand next op verb k r reply (Some o) details to held does then =
-    subst (λ p. hand_left w'.cluster p < left_of w (Client c)) (sym then) (subst (λ p. 0 < hand_left w.cluster p) (sym held) (let some = steps_left-from_one w.cluster hand.driver in omega (arith, some)))
-nearer w w' log c hand next op verb k r reply None details to held does then =
+pub nearer : (w w' : World) (log : List Label) (v : Who) (hand next : InHand) (op : OpWord) (verb : Verb) (k r : Option ℕ) (reply : StepReply) (end : Option Outcome) (details : Details)
+    → IsRunTo w log → hand_at w.hands v ≡ Some hand → Does w w' (Stepped hand.call op verb k r reply end details) → hand_at w'.hands v ≡ left end next → left_of w' v < left_of w v
+nearer w w' log v hand next op verb k r reply (Some o) details to held does then =
+    subst (λ p. hand_left w'.cluster p < left_of w v) (sym then) (subst (λ p. 0 < hand_left w.cluster p) (sym held) (let some = steps_left-from_one w.cluster hand.driver in omega (arith, some)))
+nearer w w' log v hand next op verb k r reply None details to held does then =
     let m = last log in
     let h = to.shows.history in
-    let s = state_in h c hand in
+    let s = state_in h v hand in
     let known = facts m (run_has log to.run).0 in
-    let its = subst Facts to.shows.same known in
-    let here : m.in_hand hand.call.actor ≡ Some s = ap (λ (m : Machine). m.in_hand hand.call.actor) to.shows.same ∙ in_hand_at w h c hand held its in
+    let here : m.in_hand v ≡ Some s = ap (λ (m : Machine). m.in_hand v) to.shows.same ∙ in_hand_is w h v hand held in
     let due = does.due_is m to.shows known in
+    let name : stepped_as hand.call op ≡ v = known.calls.one_name (stepped_as hand.call op) v due.state s due.in_hand here due.call_is in
+    let under : m.in_hand (stepped_as hand.call op) ≡ Some s = ap m.in_hand name ∙ here in
     let new = does.shows m to.shows known in
     let m' = after m (Stepped hand.call op verb k r reply None details) in
-    let goes : m'.in_hand (Client c) ≡ Some (kept_behind m s m'.cluster verb k r reply)
-    = subst (λ o. let n = step_of m o verb k r reply None in n.in_hand (Client c) ≡ Some (kept_behind m s n.cluster verb k r reply)) (sym here) (step_of-in_hand m s c verb k r reply (actor_is w h c hand held its)) in
+    let goes : m'.in_hand v ≡ Some (kept_behind m s m'.cluster verb k r reply)
+    = subst (λ o. let n = step_of m o verb k r reply None in n.in_hand v ≡ Some (kept_behind m s n.cluster verb k r reply)) (sym under) (step_of-in_hand m s v verb k r reply (known.callers v s here)) in
     let told = counting (counted_at m verb k r reply) (done_of m'.cluster verb k r reply) in
     let driver : next.driver ≡ driver_taken told (driver_of s)
-    = driver_is w' new.history c next then new.fits
-    ∙ ap driver_of (same_Some (state_in new.history c next) (kept_behind m s m'.cluster verb k r reply) (sym (in_hand_is w' new.history c next then) ∙ sym (ap (λ (m : Machine). m.in_hand (Client c)) new.same) ∙ goes)) in
-    let now : steps_left m'.cluster (driver_taken told (driver_of s)) ≡ left_of w' (Client c)
+    = driver_is w' new.history v next then new.fits
+    ∙ ap driver_of (same_Some (state_in new.history v next) (kept_behind m s m'.cluster verb k r reply) (sym (in_hand_is w' new.history v next then) ∙ sym (ap (λ (m : Machine). m.in_hand v) new.same) ∙ goes)) in
+    let now : steps_left m'.cluster (driver_taken told (driver_of s)) ≡ left_of w' v
     = ap (steps_left m'.cluster) (sym driver) ∙ ap (λ (m : Machine). steps_left m.cluster next.driver) new.same ∙ ap (hand_left w'.cluster) (sym then) in
-    let before : steps_left m.cluster (driver_of s) ≡ left_of w (Client c)
-    = ap (steps_left m.cluster) (sym (driver_is w h c hand held to.shows.fits)) ∙ ap (λ (m : Machine). steps_left m.cluster hand.driver) to.shows.same ∙ ap (hand_left w.cluster) (sym held) in
-    subst (λ n. n < left_of w (Client c)) now (subst (λ n. steps_left m'.cluster (driver_taken told (driver_of s)) < n) before (step_nearer m hand.call op verb k r reply details s (run_has log to.run).0 due here))
+    let before : steps_left m.cluster (driver_of s) ≡ left_of w v
+    = ap (steps_left m.cluster) (sym (driver_is w h v hand held to.shows.fits)) ∙ ap (λ (m : Machine). steps_left m.cluster hand.driver) to.shows.same ∙ ap (hand_left w.cluster) (sym held) in
+    subst (λ n. n < left_of w v) now (subst (λ n. steps_left m'.cluster (driver_taken told (driver_of s)) < n) before (step_nearer m hand.call op verb k r reply details s (run_has log to.run).0 due under))
 
 -- ---- few steps are left of a call
 
@@ -193,8 +200,8 @@ one_or_none false x n few = omega (arith, few)
 -- no more nodes are left to serve than there are
 unserved_few : (complete : List ℕ) (served : List Bool) → unserved complete served ≤ length complete
 unserved_few [] served = omega arith
-unserved_few (c ∷ cs) [] = omega arith
-unserved_few (c ∷ cs) (b ∷ bs) = let few = one_or_none (is_unserved c b) (unserved cs bs) (length cs) (unserved_few cs bs) in omega (arith, few)
+unserved_few (v ∷ cs) [] = omega arith
+unserved_few (v ∷ cs) (b ∷ bs) = let few = one_or_none (is_unserved v b) (unserved cs bs) (length cs) (unserved_few cs bs) in omega (arith, few)
 
 sync_few : (complete : List ℕ) (s : SyncState) (pulled : Option PulledAt) → length complete ≡ 8 → sync_left complete s pulled ≤ 66
 sync_few complete s None eight = omega arith
@@ -231,19 +238,19 @@ hand_left-few : (R : RecordState) (hand : Option InHand) → length R.up ≡ 8 �
 hand_left-few R None up complete few = omega arith
 hand_left-few R (Some hand) up complete few = steps_left-few R hand.driver up complete few
 
--- so it is of the call that a client has in hand
-hand_few : (w : World) (h : History) (c : ℕ) (shapes : ℕ → Shape) → InvariantIn shapes (machine_of w h) → HistoryFits w h → (o : Option InHand) → hand_at w.hands c ≡ o → IfSome o (λ h. HasFewLeft h.driver)
-hand_few w h c shapes inv fits None held = tt
-hand_few w h c shapes inv fits (Some hand) held =
-    let s = state_in h c hand in
-    subst HasFewLeft (sym (driver_is w h c hand held fits)) (has_few (machine_of w h) shapes s (driver_of s) (inv.hands (Client c) s (in_hand_is w h c hand held)).here)
+-- so it is of the call that is in hand under a name
+hand_few : (w : World) (h : History) (v : Who) (shapes : ℕ → Shape) → InvariantIn shapes (machine_of w h) → HistoryFits w h → (o : Option InHand) → hand_at w.hands v ≡ o → IfSome o (λ h. HasFewLeft h.driver)
+hand_few w h v shapes inv fits None held = tt
+hand_few w h v shapes inv fits (Some hand) held =
+    let s = state_in h v hand in
+    subst HasFewLeft (sym (driver_is w h v hand held fits)) (has_few (machine_of w h) shapes s (driver_of s) (inv.hands v s (in_hand_is w h v hand held)).here)
 
--- after any run few steps are left of a client's call
-pub few_left : (w : World) (log : List Label) (c : ℕ) → IsRunTo w log → left_of w (Client c) ≤ 66
-few_left w log c to =
+-- after any run few steps are left of the call of a name
+pub few_left : (w : World) (log : List Label) (v : Who) → IsRunTo w log → left_of w v ≤ 66
+few_left w log v to =
     let inv = subst Invariant to.shows.same (run_has log to.run).0 in
-    hand_left-few w.cluster (hand_at w.hands c) (up_length inv.shapes (machine_of w to.shows.history) inv.holds) (λ k. complete_of-length inv.shapes (machine_of w to.shows.history) k inv.holds (entry_of k w.cluster.entries) refl)
-    (hand_few w to.shows.history c inv.shapes inv.holds to.shows.fits (hand_at w.hands c) refl)
+    hand_left-few w.cluster (hand_at w.hands v) (up_length inv.shapes (machine_of w to.shows.history) inv.holds) (λ k. complete_of-length inv.shapes (machine_of w to.shows.history) k inv.holds (entry_of k w.cluster.entries) refl)
+    (hand_few w to.shows.history v inv.shapes inv.holds to.shows.fits (hand_at w.hands v) refl)
 
 -- ---- no count is at its end
 

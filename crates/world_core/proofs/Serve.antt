@@ -40,7 +40,7 @@ use Rattle.ckpt_machine.specs.Machine.{Machine, Effect, ReplicaState, CallState}
 use Rattle.ckpt_machine.specs.Steps.{due, driver_of, ended_details, ids_asked, payload_due, MayAnswer, changed, counted_at, pulled_by, seen_at, staged_moment}
 use Rattle.ckpt_machine.specs.Tables.{ids_of, kept_asked}
 use Rattle.ckpt_machine.specs.Facts.{HasNoSlot, IsServable}
-use Rattle.world_core.specs.Shows.{Does, HistoryFits, History, machine_of, tables_of, shown_replica, shown_slot, complete_replica, hand_at, FitsReplica, IsRoomToCopy}
+use Rattle.world_core.specs.Shows.{Does, HistoryFits, History, machine_of, tables_of, shown_replica, shown_slot, complete_replica, FitsReplica, IsRoomToCopy}
 use Rattle.ckpt_machine.proofs.Calls.{IsOwn, own_request}
 use Rattle.world_core.proofs.Carrying.{GoesToReplica, reserves_none, Carries, payload_with, reply_carried, details_carried, replica_carried, carried_on}
 use Rattle.world_core.proofs.Finding.{There}
@@ -48,11 +48,14 @@ use Rattle.world_core.proofs.Finding as finding
 use Rattle.world_core.proofs.Held.{state_in, in_hand_is, actor_is, driver_is, IsCopyBehind, copy_stays}
 use Rattle.world_core.proofs.CopySteps.{counts_effects, counts_seen, counts_told, pulled_after, room_alike, copy_behind}
 use Rattle.world_core.proofs.IterationSteps.{tables_move, rooms_moved}
+use Rattle.world_core.proofs.LiveRooms.{rooms_ended}
 use Rattle.world_core.proofs.HoldingLaws.{after_key, replicas_served, holds_served}
 use Rattle.world_core.proofs.Maps.{changed_here, slice_there, complete_at_node, put_replica, fits_replica, reserved_same}
 use Rattle.world_core.proofs.RequestRows.{effects_in, effects_after, effects_carried, origin_after, row_moves, row_fits, tables_moved}
 use Rattle.world_core.proofs.Told.{told_world}
 use Rattle.world_core.proofs.CallSteps.{IsKnown, known_by, IsShownBehind, step_before}
+use Rattle.world_core.specs.HandsState.{hand_at, client_by}
+use Rattle.ckpt_types.specs.declared.identities.Who.{Who}
 use Rattle.world_core.proofs.Freeing.{does_before}
 
 -- ---- what the nodes have
@@ -83,7 +86,7 @@ may_answer m s r (Reserve k) answer goes h = absurd goes
 may_answer m s r request answer goes h = h
 
 -- the parts of a step that a node serves, by its reply
-module _ (w : World) (c r : ℕ) (request : Request) (hand : InHand) (p : Payload) (reply : Reply) where
+module _ (w : World) (v : Who) (r : ℕ) (request : Request) (hand : InHand) (p : Payload) (reply : Reply) where
   abbrev pub sight : RecordSeen
   sight = record_seen w.cluster (ckpt_of request) r
 
@@ -100,7 +103,7 @@ module _ (w : World) (c r : ℕ) (request : Request) (hand : InHand) (p : Payloa
   its_details = details_at request p sight replica_there
 
   abbrev pub its_iteration : Option KeptIds
-  its_iteration = iteration_behind request sight replica_there (iteration_lent request hand (kept_by w.tables c))
+  its_iteration = iteration_behind request sight replica_there (iteration_lent request hand (kept_by w.tables (client_by v)))
 
   -- the room that the call has for a snapshot, with what it has pulled then
   abbrev pub its_copy : Option copies.Snapshot
@@ -108,16 +111,16 @@ module _ (w : World) (c r : ℕ) (request : Request) (hand : InHand) (p : Payloa
 
   -- the world in which the node has served it, the call being in hand still
   abbrev pub behind : World
-  behind = record w { nodes = nodes_after w.cluster w.nodes r request p reply; tables = tables_keeping request c hand.op reply its_iteration (tables_lending request c hand.op w.tables) }
+  behind = record w { nodes = nodes_after w.cluster w.nodes r request p reply; tables = tables_keeping request (client_by v) hand.op reply its_iteration (tables_lending request (client_by v) hand.op w.tables) }
 
   abbrev pub served_world : World
-  served_world = told_world behind c hand its_copy its_done its_end
+  served_world = told_world behind v hand its_copy its_done its_end
 
   abbrev pub served_label : Label
   served_label = Stepped hand.call (word_of_op hand.op) (verb_of request) (Some (ckpt_of request)) (Some r) (word_of reply) its_end (ended_details its_end its_details)
 
-module _ (w : World) (c r : ℕ) (request : Request) (hand : InHand) (p : Payload) (reply : Reply) (goes : GoesToReplica request) (held : hand_at w.hands c ≡ Some hand) (next : driver_next w.cluster (rooms_at w c) hand.driver ≡ Serve r request)
-    (carries : Carries request p (payload_with hand (kept_by w.tables c))) (may : MayReply w.cluster (node_at w.nodes r) request p reply) (valid : IsValidFor request (kept_by w.tables c)) where
+module _ (w : World) (v : Who) (r : ℕ) (request : Request) (hand : InHand) (p : Payload) (reply : Reply) (goes : GoesToReplica request) (held : hand_at w.hands v ≡ Some hand) (next : driver_next w.cluster (rooms_at w (client_by v)) hand.driver ≡ Serve r request)
+    (carries : Carries request p (payload_with hand (kept_by w.tables (client_by v)))) (may : MayReply w.cluster (node_at w.nodes r) request p reply) (valid : IsValidFor request (kept_by w.tables (client_by v))) where
   abbrev k : ℕ
   k = ckpt_of request
 
@@ -125,17 +128,17 @@ module _ (w : World) (c r : ℕ) (request : Request) (hand : InHand) (p : Payloa
   y = replica_in w.nodes k r
 
   abbrev new : World
-  new = behind w c r request hand p reply
+  new = behind w v r request hand p reply
 
   abbrev end : Option Outcome
-  end = its_end w c r request hand p reply
+  end = its_end w v r request hand p reply
 
   abbrev seen : RecordSeen
   seen = record_seen w.cluster k r
 
   -- the effects of what the call has pulled
   abbrev had : History → List Effect
-  had h = effects_in (state_in h c hand).snapshot
+  had h = effects_in (state_in h v hand).snapshot
 
   -- its history, where the node has this replica
   abbrev later : Option Replica → History → History
@@ -143,14 +146,14 @@ module _ (w : World) (c r : ℕ) (request : Request) (hand : InHand) (p : Payloa
 
   -- and the effects that the call has pulled then
   abbrev then_pulled : History → Option (List Effect)
-  then_pulled h = pulled_after request y (h.effects k r) (h.pulled (Client c))
+  then_pulled h = pulled_after request y (h.effects k r) (h.pulled v)
 
   module _ (h : History) (known : IsKnown w h) where
     abbrev m : Machine
     m = machine_of w h
 
     abbrev s : CallState
-    s = state_in h c hand
+    s = state_in h v hand
 
     abbrev E : List Effect
     E = h.effects k r
@@ -161,23 +164,23 @@ module _ (w : World) (c r : ℕ) (request : Request) (hand : InHand) (p : Payloa
     abbrev q : Payload
     q = payload_due m s
 
-    actor : hand.call.actor ≡ Client c
-    actor = actor_is w h c hand held known.facts
+    actor : hand.call.actor ≡ Client (client_by v)
+    actor = actor_is w h v hand held known.facts
 
     due_here : due m s ≡ Serve r request
-    due_here = finding.due_here w h c r request hand known.facts known.fits held next
+    due_here = finding.due_here w h v r request hand known.facts known.fits held next
 
     abbrev found : There k (slice_index (complete_of (entry_of k w.cluster.entries)) r) (entry_of k w.cluster.entries) E o y (IsReadyFor request)
-    found = finding.found w h c r request hand known.facts known.fits held next goes
+    found = finding.found w h v r request hand known.facts known.fits held next goes
 
     seen_complete : is_complete seen ≡ true
-    seen_complete = finding.seen_complete w h c r request hand known.facts known.fits held next goes
+    seen_complete = finding.seen_complete w h v r request hand known.facts known.fits held next goes
 
-    served_is : replica_there w c r request hand p reply ≡ Some found.replica
-    served_is = finding.served_is w h c r request hand known.facts known.fits held next goes
+    served_is : replica_there w v r request hand p reply ≡ Some found.replica
+    served_is = finding.served_is w h v r request hand known.facts known.fits held next goes
 
     shown : m.replicas k r ≡ shown_replica E o (Some found.replica)
-    shown = finding.shown w h c r request hand known.facts known.fits held next goes
+    shown = finding.shown w h v r request hand known.facts known.fits held next goes
 
     abbrev x : Replica
     x = found.replica
@@ -185,18 +188,18 @@ module _ (w : World) (c r : ℕ) (request : Request) (hand : InHand) (p : Payloa
     -- what travels beside the request is what the machine's call has
     carried : Carries request p q
     carried =
-        carried_on request p (payload_with hand (kept_by w.tables c)) q carries refl refl (λ i. ids_of (kept_asked (asked hand.op) (tables_of w.tables (sym actor i))))
-        (finding.copy_carried w h c r hand known.facts known.fits held request due_here)
+        carried_on request p (payload_with hand (kept_by w.tables (client_by v))) q carries refl refl (λ i. ids_of (kept_asked (asked hand.op) (tables_of w.tables (sym actor i))))
+        (finding.copy_carried w h v r hand known.facts known.fits held request due_here)
 
     reply_is : reply ≡ reply_of request q seen x
     reply_is = replied w.cluster (node_at w.nodes r) request p reply goes may ∙ ap (reply_at request p seen) served_is ∙ reply_carried request p q seen (Some x) carried
 
     own : IsOwn s.call request
-    own = own_request w.cluster _ s r request (known.facts.driven (Client c) s (in_hand_is w h c hand held)) due_here
+    own = own_request w.cluster _ s r request (known.facts.driven v s (in_hand_is w h v hand held)) due_here
 
     moment : (call : CallId) (j : ℕ) (t : ℤ) → request ≡ Stage call j t → x.slot ≡ None → staged_moment m j ≡ t
     moment call j t is free =
-        known.facts.moments (Client c) s r call j t (in_hand_is w h c hand held) (due_here ∙ ap (Serve r) is)
+        known.facts.moments v s r call j t (in_hand_is w h v hand held) (due_here ∙ ap (Serve r) is)
         (subst (λ (q : Request). IsSomeAnd (m.replicas (ckpt_of q) r) HasNoSlot) is (subst (λ (y : Option ReplicaState). IsSomeAnd y HasNoSlot) (sym shown) (ap (shown_slot o) free)))
 
     abbrev x' : Replica
@@ -230,9 +233,9 @@ module _ (w : World) (c r : ℕ) (request : Request) (hand : InHand) (p : Payloa
         ∙ row_moves m s r E o x found.entry request goes found.at found.attributes shown found.seen found.holds own moment
         ∙ sym (λ i. tables_moved request s (ids_asked m s) w.cluster.moment x.sections (with (effects_carried hand.call request p q seen x o (had h) E carried i) (replica_carried request p q seen x carried i)))
         ∙ ap (tables_moved request s (ids_asked m s) w.cluster.moment x.sections) with_is
-        ∙ tables_move served_nodes (later (Some x) h) m s c hand actor refl (ids_asked m s) seen x request q reply (finding.tables_ready w h c r hand known.facts known.fits held request due_here) valid
+        ∙ tables_move served_nodes (later (Some x) h) m s (client_by v) hand actor refl (ids_asked m s) seen x request q reply (finding.tables_ready w h v r hand known.facts known.fits held request due_here) valid
         (λ i. ids_of (kept_asked (asked hand.op) (tables_of w.tables (actor i)))) reply_is
-        ∙ ap (λ it. machine_of (record new { tables = tables_keeping request c hand.op reply (iteration_behind request seen it (iteration_lent request hand (kept_by w.tables c))) (tables_lending request c hand.op w.tables) }) (later (Some x) h)) (sym served_is)
+        ∙ ap (λ it. machine_of (record new { tables = tables_keeping request (client_by v) hand.op reply (iteration_behind request seen it (iteration_lent request hand (kept_by w.tables (client_by v)))) (tables_lending request (client_by v) hand.op w.tables) }) (later (Some x) h)) (sym served_is)
         ∙ ap (λ (y : Option Replica). machine_of new (later y h)) (sym found.is)
 
     -- the replica that is served counts its effects
@@ -254,18 +257,18 @@ module _ (w : World) (c r : ℕ) (request : Request) (hand : InHand) (p : Payloa
 
     -- so it ends as the machine's call does
     its_end_is : end ≡ (let done = counting (counted_at m (verb_of request) (Some k) (Some r) (word_of reply)) (done_of w.cluster (verb_of request) (Some k) (Some r) (word_of reply)) in driver_end hand.op done reply (driver_taken done (driver_of s)))
-    its_end_is = λ i. let done = counting (sym count_here i) (done_of w.cluster (verb_of request) (Some k) (Some r) (word_of reply)) in driver_end hand.op done reply (driver_taken done (driver_is w h c hand held known.fits i))
+    its_end_is = λ i. let done = counting (sym count_here i) (done_of w.cluster (verb_of request) (Some k) (Some r) (word_of reply)) in driver_end hand.op done reply (driver_taken done (driver_is w h v hand held known.fits i))
 
     -- and what is in its hand then
-    copy_here : IsCopyBehind (later y h) c hand (pulled_by m s (verb_of request) (Some k) (Some r) (word_of reply)) (then_pulled h) (its_copy w c r request hand p reply)
+    copy_here : IsCopyBehind (later y h) v hand (pulled_by m s (verb_of request) (Some k) (Some r) (word_of reply)) (then_pulled h) (its_copy w v r request hand p reply)
     copy_here =
-        let found_copy = copy_behind m s r E o x request q seen hand.snapshot (h.pulled (Client c)) refl shown (finding.copy_there w h c r hand known.facts known.fits held request due_here) (counts_effects k E x (entry_of k w.cluster.entries) found.fits)
-        (λ a. IsRoomToCopy (asked hand.op) (h.beginnings (Client c)).kept.declares a) (λ s t attributes. room_alike (asked hand.op) (h.beginnings (Client c)).kept.declares s t attributes) (copy_stays w h c hand held known.fits).room (copy_stays w h c hand held known.fits).counts in
+        let found_copy = copy_behind m s r E o x request q seen hand.snapshot (h.pulled v) refl shown (finding.copy_there w h v r hand known.facts known.fits held request due_here) (counts_effects k E x (entry_of k w.cluster.entries) found.fits)
+        (λ a. IsRoomToCopy (asked hand.op) (h.beginnings v).kept.declares a) (λ s t attributes. room_alike (asked hand.op) (h.beginnings v).kept.declares s t attributes) (copy_stays w h v hand held known.fits).room (copy_stays w h v hand held known.fits).counts in
         let same = ap (λ a. pulled_by m s (verb_of request) (Some k) (Some r) (word_of a)) reply_is ∙ found_copy.same in
-        subst (λ (z : Option Replica × Option Replica). IsCopyBehind (later y h) c hand (pulled_by m s (verb_of request) (Some k) (Some r) (word_of reply)) (pulled_after request z.0 E (h.pulled (Client c))) (snapshot_behind request z.1 hand.snapshot))
+        subst (λ (z : Option Replica × Option Replica). IsCopyBehind (later y h) v hand (pulled_by m s (verb_of request) (Some k) (Some r) (word_of reply)) (pulled_after request z.0 E (h.pulled v)) (snapshot_behind request z.1 hand.snapshot))
         (λ i. (sym found.is i, sym served_is i)) (record { same = same; room = found_copy.room; counts = found_copy.counts })
 
-    is_served : IsShownBehind w c hand held new (later y) (verb_of request) (Some k) (Some r) (word_of reply) end (ended_details end (its_details w c r request hand p reply)) (count_told reply) (its_copy w c r request hand p reply) then_pulled (Serve r request) h
+    is_served : IsShownBehind w v hand held new (later y) (verb_of request) (Some k) (Some r) (word_of reply) end (ended_details end (its_details w v r request hand p reply)) (count_told reply) (its_copy w v r request hand p reply) then_pulled (Serve r request) h
     is_served = record {
       done = record {
         answer = reply;
@@ -274,7 +277,7 @@ module _ (w : World) (c r : ℕ) (request : Request) (hand : InHand) (p : Payloa
         ckpt = refl;
         node = refl;
         reply = refl;
-        details = ap (ended_details end) (details_carried request p q seen (replica_there w c r request hand p reply) carried ∙ ap (details_at request q seen) (served_is ∙ sym found.seen));
+        details = ap (ended_details end) (details_carried request p q seen (replica_there w v r request hand p reply) carried ∙ ap (details_at request q seen) (served_is ∙ sym found.seen));
         end = its_end_is;
       };
       change = change;
@@ -285,12 +288,12 @@ module _ (w : World) (c r : ℕ) (request : Request) (hand : InHand) (p : Payloa
 
     holds_behind : HoldsOnlyWhatStands w.cluster new.nodes
     holds_behind =
-        holds_served w.cluster w.nodes r request p reply known.holds (node_within w.nodes k r x found.is) (λ j e. subst (IsServable m r) e (finding.ready w h c r request hand known.facts known.fits held next).1)
+        holds_served w.cluster w.nodes r request p reply known.holds (node_within w.nodes k r x found.is) (λ j e. subst (IsServable m r) e (finding.ready w h v r request hand known.facts known.fits held next).1)
 
   -- the node serves the request
-  pub serve_does : Does w (served_world w c r request hand p reply) (served_label w c r request hand p reply)
-  serve_does = does_before w (served_world w c r request hand p reply) (served_label w c r request hand p reply)
-      (step_before w c hand held new (later y) (verb_of request) (Some k) (Some r) (word_of reply) end (ended_details end (its_details w c r request hand p reply)) (count_told reply) (its_copy w c r request hand p reply) then_pulled (Serve r request) next held (λ h. refl) is_served)
+  pub serve_does : Does w (served_world w v r request hand p reply) (served_label w v r request hand p reply)
+  serve_does = does_before w (served_world w v r request hand p reply) (served_label w v r request hand p reply)
+      (step_before w v hand held new (later y) (verb_of request) (Some k) (Some r) (word_of reply) end (ended_details end (its_details w v r request hand p reply)) (count_told reply) (its_copy w v r request hand p reply) then_pulled (Serve r request) next held (λ h. refl) is_served)
       (λ m s f. holds_behind s.history (known_by w m s f))
       (λ m s f. s.keeps)
-      (λ m s f. rooms_moved w w.cluster c hand.op request reply (its_iteration w c r request hand p reply) s.rooms)
+      (λ m s f. rooms_ended new w.cluster v end (rooms_moved w w.cluster (client_by v) hand.op request reply (its_iteration w v r request hand p reply) s.rooms))

@@ -1,6 +1,6 @@
 -- The step that a node serves, with the parts as the code names them.
 use Rattle.std.proofs.Common.{◌≡◌, ℕ, ◌<◌, List, length, refl, sym, ap, subst, ◌∙◌}
-use Rattle.std.specs.Prelude.{Option, Some, None, slice_set}
+use Rattle.std.specs.Prelude.{Option, Some, None}
 use Rattle.ckpt_types.specs.declared.answers.Answer.TheVariants as answers
 use Rattle.ckpt_types.specs.declared.answers.Outcome.{Outcome}
 use Rattle.ckpt_types.specs.declared.operation.Op.{Op}
@@ -32,16 +32,19 @@ use Rattle.node_core.specs.Serving.{details_at, iteration_behind, snapshot_behin
 use Rattle.ckpt_machine.specs.Steps.{ended_details}
 use Rattle.world_core.specs.declared.hands.InHand.{InHand}
 use Rattle.world_core.specs.declared.world.World.{World}
+use Rattle.world_core.specs.Alone.{ended_at}
 use Rattle.world_core.specs.Nodes.{node_at, nodes_after}
 use Rattle.world_core.specs.Lending.{IsLentBy, IsValidFor, CanKeep, hand_lending, iteration_lent, tables_lending, tables_keeping}
 use Rattle.world_core.specs.HandSteps.{hand_taken, hand_end, served_done}
 use Rattle.world_core.specs.Happenings.{IsNext, IsStep}
 use Rattle.world_core.specs.TableState.{TableState, kept_by}
-use Rattle.world_core.specs.Shows.{IsShown, HasNumbersLeft, hand_at}
+use Rattle.world_core.specs.Shows.{IsShown, HasNumbersLeft}
 use Rattle.world_core.proofs.Carrying.{lent_carries}
 use Rattle.world_core.proofs.IterationSteps.{lent_left, lent_op, lent_end}
 use Rattle.world_core.proofs.Serve.{its_copy, its_done, its_end, its_details, its_iteration, served_world}
 use Rattle.world_core.proofs.Held.{with_copy}
+use Rattle.world_core.specs.HandsState.{hand_at, set_at, client_by}
+use Rattle.ckpt_types.specs.declared.identities.Who.{Who}
 use Rattle.world_core.proofs.Stepping.{with_own, keeps, fits_lent, serve_is, ends_its}
 
 -- the iteration and the snapshot that travel beside are told by no label
@@ -71,44 +74,50 @@ lent_snapshot : (request : Request) (hand : InHand) → (hand_lending request ha
 lent_snapshot (requests.Iterate call k choice) hand = refl
 lent_snapshot request hand = refl
 
-module _ (w : World) (c r : ℕ) (request : Request) (hand : InHand) (held : hand_at w.hands c ≡ Some hand) (next : IsNext w c (Serve r request)) (shown : IsShown w) (room : HasNumbersLeft w) (lent : Lent) (is_lent : IsLentBy hand.op request lent) where
+module _ (w : World) (v : Who) (r : ℕ) (request : Request) (hand : InHand) (held : hand_at w.hands v ≡ Some hand) (next : IsNext w v (Serve r request)) (shown : IsShown w) (room : HasNumbersLeft w) (lent : Lent) (is_lent : IsLentBy hand.op request lent) where
   abbrev whole : Lent
-  whole = with_own w c r request hand held next lent
+  whole = with_own w v r request hand held next lent
 
   -- while the iteration and the snapshot are lent
-  module _ (hand1 hand2 : InHand) (it1 : Option KeptIds) (copy1 : Option Snapshot) (tables1 : List TableState) (hand_is : hand1 ≡ hand_lending request hand) (lent_is : hand2 ≡ record hand1 { snapshot = None }) (it1_is : it1 ≡ iteration_lent request hand (kept_by w.tables c)) (copy1_is : copy1 ≡ hand1.snapshot) (tables_are : tables1 ≡ tables_lending request c hand.op w.tables) where
+  module _ (c : ℕ) (c_is : c ≡ client_by v) (hand1 hand2 : InHand) (it1 : Option KeptIds) (copy1 : Option Snapshot) (tables1 : List TableState) (hand_is : hand1 ≡ hand_lending request hand) (lent_is : hand2 ≡ record hand1 { snapshot = None }) (it1_is : it1 ≡ iteration_lent request hand (kept_by w.tables c)) (copy1_is : copy1 ≡ hand1.snapshot) (tables_are : tables1 ≡ tables_lending request c hand.op w.tables) where
+    its_it : it1 ≡ iteration_lent request hand (kept_by w.tables (client_by v))
+    its_it = it1_is ∙ ap (λ d. iteration_lent request hand (kept_by w.tables d)) c_is
+
+    its_tables : tables1 ≡ tables_lending request (client_by v) hand.op w.tables
+    its_tables = tables_are ∙ ap (λ d. tables_lending request d hand.op w.tables) c_is
+
     abbrev lent1 : Lent
     lent1 = record lent { iteration = it1; snap = copy1 }
 
     whole_is : lent1 ≡ whole
-    whole_is = let copy_is = copy1_is ∙ ap (λ (h : InHand). h.snapshot) hand_is ∙ lent_snapshot request hand in λ i. record lent { iteration = it1_is i; snap = copy_is i }
+    whole_is = let copy_is = copy1_is ∙ ap (λ (h : InHand). h.snapshot) hand_is ∙ lent_snapshot request hand in λ i. record lent { iteration = its_it i; snap = copy_is i }
 
     pub fits_at : MayCome w.cluster (node_at w.nodes r) request lent1
-    fits_at = subst (MayCome w.cluster (node_at w.nodes r) request) (sym whole_is) (fits_lent w c r request hand held next shown room lent is_lent)
+    fits_at = subst (MayCome w.cluster (node_at w.nodes r) request) (sym whole_is) (fits_lent w v r request hand held next shown room lent is_lent)
 
     same_op : hand2.op ≡ hand.op
     same_op = ap (λ (h : InHand). h.op) lent_is ∙ ap (λ (h : InHand). h.op) hand_is ∙ lent_op request hand
 
     pub keeps_at : CanKeep request hand2.op (kept_by tables1 c)
-    keeps_at = subst (λ (z : List TableState × Op). CanKeep request z.1 (kept_by z.0 c)) (λ i. (sym tables_are i, sym same_op i)) (keeps w c r request hand held next shown room)
+    keeps_at = subst (λ (z : List TableState × Op × ℕ). CanKeep request z.1 (kept_by z.0 z.2)) (λ i. (sym its_tables i, sym same_op i, sym c_is i)) (keeps w v r request hand held next shown room)
 
     pub step_is : (reply : Reply) (nodes : List (List Replica)) (back : Lent) (it : Option KeptIds) (copy : Option Snapshot) (tables : List TableState) (taken : InHand) (place : Option InHand) (end : Option Outcome) (word : OpWord) (verb : Verb) (k : ℕ) (said : StepReply) (details : Details) → IsValidFor request (kept_by w.tables c) → ServedAs w r request lent1 back reply nodes → it ≡ back.iteration → copy ≡ back.snap →
         tables ≡ tables_keeping request c hand2.op reply it tables1 → taken ≡ hand_taken (served_done w.cluster request r reply) (with_copy hand2 copy) → end ≡ hand_end (served_done w.cluster request r reply) reply taken → place ≡ left end taken →
-        word ≡ word_of_op hand.op → verb ≡ verb_of request → k ≡ ckpt_of request → said ≡ word_of reply → details ≡ ended_details end (details_told reply back) → IsStep c w (record w { nodes = nodes; tables = tables; hands = slice_set w.hands c place }) (Stepped hand.call word verb (Some k) (Some r) said end details)
+        word ≡ word_of_op hand.op → verb ≡ verb_of request → k ≡ ckpt_of request → said ≡ word_of reply → details ≡ ended_details end (details_told reply back) → IsStep v w (ended_at v end (record w { nodes = nodes; tables = tables; hands = set_at w.hands v place })) (Stepped hand.call word verb (Some k) (Some r) said end details)
     step_is reply nodes back it copy tables taken place end word verb k said details valid served it_is copy_is kept_are taken_is end_is place_is word_is verb_is k_is said_is details_are =
         let p : Payload = payload_of whole in
-        let done : StepDone = its_done w c r request hand p reply in
+        let done : StepDone = its_done w v r request hand p reply in
         let got : ServedAs w r request whole back reply nodes = subst (λ (z : Lent). ServedAs w r request z back reply nodes) whole_is served in
-        let kept : it ≡ its_iteration w c r request hand p reply = it_is ∙ got.iteration in
-        let then_tables : tables ≡ tables_keeping request c hand.op reply (its_iteration w c r request hand p reply) (tables_lending request c hand.op w.tables) = kept_are ∙ (λ i. tables_keeping request c (same_op i) reply (kept i) (tables_are i)) in
-        let its : Option Snapshot = its_copy w c r request hand p reply in
+        let kept : it ≡ its_iteration w v r request hand p reply = it_is ∙ got.iteration in
+        let then_tables : tables ≡ tables_keeping request (client_by v) hand.op reply (its_iteration w v r request hand p reply) (tables_lending request (client_by v) hand.op w.tables) = kept_are ∙ (λ i. tables_keeping request (c_is i) (same_op i) reply (kept i) (its_tables i)) in
+        let its : Option Snapshot = its_copy w v r request hand p reply in
         let copied : copy ≡ its = copy_is ∙ got.snapshot in
         let takes : taken ≡ hand_taken done (hand_lending request (with_copy hand its)) = taken_is ∙ ap (λ (h : InHand). hand_taken done (with_copy h copy)) lent_is ∙ (λ i. hand_taken done (with_copy (hand_is i) (copied i))) ∙ ap (hand_taken done) (lent_copy request hand its) in
-        let ends : end ≡ its_end w c r request hand p reply = end_is ∙ ap (hand_end done reply) takes ∙ lent_end request (with_copy hand its) done reply in
-        let left_is : place ≡ left (its_end w c r request hand p reply) (hand_taken done (with_copy hand its))
-        = place_is ∙ (λ i. left (ends i) (takes i)) ∙ lent_left request (with_copy hand its) done (its_end w c r request hand p reply) (ends_its w c r request hand held next shown p reply got.may) in
-        let new_is : record w { nodes = nodes; tables = tables; hands = slice_set w.hands c place } ≡ served_world w c r request hand p reply = λ i. record w { nodes = got.nodes_are i; tables = then_tables i; hands = slice_set w.hands c (left_is i) } in
-        let told : details ≡ ended_details (its_end w c r request hand p reply) (its_details w c r request hand p reply) = details_are ∙ (λ i. ended_details (ends i) (got.details i)) in
-        subst (λ (z : World × OpWord × Verb × ℕ × StepReply × Option Outcome × Details). IsStep c w z.0 (Stepped hand.call z.1 z.2 (Some z.3) (Some r) z.4 z.5 z.6))
+        let ends : end ≡ its_end w v r request hand p reply = end_is ∙ ap (hand_end done reply) takes ∙ lent_end request (with_copy hand its) done reply in
+        let left_is : place ≡ left (its_end w v r request hand p reply) (hand_taken done (with_copy hand its))
+        = place_is ∙ (λ i. left (ends i) (takes i)) ∙ lent_left request (with_copy hand its) done (its_end w v r request hand p reply) (ends_its w v r request hand held next shown p reply got.may) in
+        let new_is : ended_at v end (record w { nodes = nodes; tables = tables; hands = set_at w.hands v place }) ≡ served_world w v r request hand p reply = λ i. ended_at v (ends i) (record w { nodes = got.nodes_are i; tables = then_tables i; hands = set_at w.hands v (left_is i) }) in
+        let told : details ≡ ended_details (its_end w v r request hand p reply) (its_details w v r request hand p reply) = details_are ∙ (λ i. ended_details (ends i) (got.details i)) in
+        subst (λ (z : World × OpWord × Verb × ℕ × StepReply × Option Outcome × Details). IsStep v w z.0 (Stepped hand.call z.1 z.2 (Some z.3) (Some r) z.4 z.5 z.6))
         (λ i. (sym new_is i, sym word_is i, sym verb_is i, sym k_is i, sym said_is i, sym ends i, sym told i))
-        (serve_is w c r request hand held next shown p reply (lent_carries request hand (kept_by w.tables c) lent is_lent) got.may valid got.there)
+        (serve_is w v r request hand held next shown p reply (lent_carries request hand (kept_by w.tables (client_by v)) lent is_lent) got.may (subst (λ d. IsValidFor request (kept_by w.tables d)) c_is valid) got.there)

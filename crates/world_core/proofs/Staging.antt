@@ -1,6 +1,6 @@
 -- The steps of an update, as the code takes them: a stage, the refusal of one, and a commit.
 use Rattle.std.proofs.Common.{◌≡◌, ℕ, ℤ, Bool, false, List, refl, sym, ap, subst, ◌∙◌}
-use Rattle.std.specs.Prelude.{Option, Some, None, Result, Ok, Err, IfSome, IsSomeAnd, slice_set}
+use Rattle.std.specs.Prelude.{Option, Some, None, Result, Ok, Err, IfSome, IsSomeAnd}
 use Rattle.ckpt_types.specs.declared.answers.Answer.{Answer}
 use Rattle.ckpt_types.specs.declared.answers.Answer.TheVariants as answers
 use Rattle.ckpt_types.specs.declared.answers.Outcome.{Outcome}
@@ -47,13 +47,16 @@ use Rattle.world_core.specs.Nodes.{node_at, nodes_after, replica_in, with_change
 use Rattle.world_core.specs.Lending.{IsValidFor, tables_lending, tables_keeping}
 use Rattle.world_core.specs.Happenings.{IsNext, IsStep}
 use Rattle.world_core.specs.HandSteps.{hand_taken, hand_end, end_by, served_done}
-use Rattle.world_core.specs.Shows.{IsShown, HasNumbersLeft, hand_at}
+use Rattle.world_core.specs.Shows.{IsShown, HasNumbersLeft}
 use Rattle.world_core.specs.TableState.{kept_by}
 use Rattle.world_core.specs.UpdateSteps.{IsUpdate, is_creation, ended_unless}
 use Rattle.world_core.proofs.Carrying.{GoesToReplica, Carries, payload_with}
 use Rattle.world_core.proofs.Serve.{its_copy, its_end, its_details, its_iteration, served_world}
 use Rattle.world_core.proofs.Held.{with_copy}
 use Rattle.snap_copy.specs.Snapshots.{Snapshot}
+use Rattle.world_core.specs.HandsState.{HandsState, hand_at, set_at}
+use Rattle.ckpt_types.specs.declared.identities.ActorName.TheVariants.{Client}
+use Rattle.ckpt_types.specs.declared.identities.Who.TheVariants.{Actor}
 use Rattle.world_core.proofs.Stepping.{its_nodes, its_own, its_ready, its_replica, its_room, its_served, its_there, answered_is}
 
 -- ---- what is answered, and told beside it
@@ -101,28 +104,28 @@ copy_kept request same (Some x) (Some s) = ap Some (same x s)
 -- ---- the steps
 
 -- what is told beside an update on its own is nothing
-module _ (w : World) (c r : ℕ) (request : Request) (hand : InHand) (held : hand_at w.hands c ≡ Some hand) (next : IsNext w c (Serve r request)) (shown : IsShown w) (goes : GoesToReplica request) (p : Payload) (carries : Carries request p (payload_with hand (kept_by w.tables c))) (valid : IsValidFor request (kept_by w.tables c)) (nodes : List (List Replica)) (word : OpWord) (word_is : word ≡ word_of_op hand.op) where
-  named_is : (reply : Reply) (hands : List (Option InHand)) (end : Option Outcome) → MayReply w.cluster (node_at w.nodes r) request p reply → beside.Nothing ≡ its_details w c r request hand p reply → nodes ≡ nodes_after w.cluster w.nodes r request p reply →
-      tables_keeping request c hand.op reply (its_iteration w c r request hand p reply) (tables_lending request c hand.op w.tables) ≡ w.tables → end ≡ its_end w c r request hand p reply → hands ≡ slice_set w.hands c (left end (hand_taken (served_done w.cluster request r reply) hand)) → its_copy w c r request hand p reply ≡ hand.snapshot →
-      IsStep c w (record w { nodes = nodes; hands = hands }) (Stepped hand.call word (verb_of request) (Some (ckpt_of request)) (Some r) (word_of reply) end beside.Nothing)
+module _ (w : World) (c : ℕ) (r : ℕ) (request : Request) (hand : InHand) (held : hand_at w.hands (Actor (Client c)) ≡ Some hand) (next : IsNext w (Actor (Client c)) (Serve r request)) (shown : IsShown w) (goes : GoesToReplica request) (p : Payload) (carries : Carries request p (payload_with hand (kept_by w.tables c))) (valid : IsValidFor request (kept_by w.tables c)) (nodes : List (List Replica)) (word : OpWord) (word_is : word ≡ word_of_op hand.op) where
+  named_is : (reply : Reply) (hands : HandsState) (end : Option Outcome) → MayReply w.cluster (node_at w.nodes r) request p reply → beside.Nothing ≡ its_details w (Actor (Client c)) r request hand p reply → nodes ≡ nodes_after w.cluster w.nodes r request p reply →
+      tables_keeping request c hand.op reply (its_iteration w (Actor (Client c)) r request hand p reply) (tables_lending request c hand.op w.tables) ≡ w.tables → end ≡ its_end w (Actor (Client c)) r request hand p reply → hands ≡ set_at w.hands (Actor (Client c)) (left end (hand_taken (served_done w.cluster request r reply) hand)) → its_copy w (Actor (Client c)) r request hand p reply ≡ hand.snapshot →
+      IsStep (Actor (Client c)) w (record w { nodes = nodes; hands = hands }) (Stepped hand.call word (verb_of request) (Some (ckpt_of request)) (Some r) (word_of reply) end beside.Nothing)
   named_is reply hands end may details nodes_are tables end_is hands_are copy =
-      let then_hands = hands_are ∙ (λ i. slice_set w.hands c (left (end_is i) (hand_taken (served_done w.cluster request r reply) (with_copy hand (sym copy i))))) in
-      let new_is : record w { nodes = nodes; hands = hands } ≡ served_world w c r request hand p reply = λ i. record w { nodes = nodes_are i; tables = sym tables i; hands = then_hands i } in
-      let told : beside.Nothing ≡ ended_details (its_end w c r request hand p reply) (its_details w c r request hand p reply) = ended_none (its_end w c r request hand p reply) ∙ ap (ended_details (its_end w c r request hand p reply)) details in
-      subst (λ (z : World × OpWord × Option Outcome × Details). IsStep c w z.0 (Stepped hand.call z.1 (verb_of request) (Some (ckpt_of request)) (Some r) (word_of reply) z.2 z.3)) (λ i. (sym new_is i, sym word_is i, sym end_is i, sym told i))
-      (answered_is w c r request hand held next shown goes p reply carries may valid)
+      let then_hands = hands_are ∙ (λ i. set_at w.hands (Actor (Client c)) (left (end_is i) (hand_taken (served_done w.cluster request r reply) (with_copy hand (sym copy i))))) in
+      let new_is : record w { nodes = nodes; hands = hands } ≡ served_world w (Actor (Client c)) r request hand p reply = λ i. record w { nodes = nodes_are i; tables = sym tables i; hands = then_hands i } in
+      let told : beside.Nothing ≡ ended_details (its_end w (Actor (Client c)) r request hand p reply) (its_details w (Actor (Client c)) r request hand p reply) = ended_none (its_end w (Actor (Client c)) r request hand p reply) ∙ ap (ended_details (its_end w (Actor (Client c)) r request hand p reply)) details in
+      subst (λ (z : World × OpWord × Option Outcome × Details). IsStep (Actor (Client c)) w z.0 (Stepped hand.call z.1 (verb_of request) (Some (ckpt_of request)) (Some r) (word_of reply) z.2 z.3)) (λ i. (sym new_is i, sym word_is i, sym end_is i, sym told i))
+      (answered_is w (Actor (Client c)) r request hand held next shown goes p reply carries may valid)
 
 -- a stage
-module _ (w : World) (c r : ℕ) (call : CallId) (k : ℕ) (t : ℤ) (hand : InHand) (held : hand_at w.hands c ≡ Some hand) (next : IsNext w c (Serve r (requests.Stage call k t))) (shown : IsShown w) where
+module _ (w : World) (c : ℕ) (r : ℕ) (call : CallId) (k : ℕ) (t : ℤ) (hand : InHand) (held : hand_at w.hands (Actor (Client c)) ≡ Some hand) (next : IsNext w (Actor (Client c)) (Serve r (requests.Stage call k t))) (shown : IsShown w) where
   abbrev stage : Request
   stage = requests.Stage call k t
 
   abbrev here : Replica
-  here = its_replica w c r stage hand held next shown tt
+  here = its_replica w (Actor (Client c)) r stage hand held next shown tt
 
   -- the replica there takes an update
   pub takes : HasNumbersLeft w → IsSomeAnd (replica_in w.nodes k r) TakesUpdate
-  takes room = subst (λ (o : Option Replica). IsSomeAnd o TakesUpdate) (sym (its_there w c r stage hand held next shown tt)) (record { unmarked = its_ready w c r stage hand held next shown tt; room = its_room w c r stage hand held next shown tt room })
+  takes room = subst (λ (o : Option Replica). IsSomeAnd o TakesUpdate) (sym (its_there w (Actor (Client c)) r stage hand held next shown tt)) (record { unmarked = its_ready w (Actor (Client c)) r stage hand held next shown tt; room = its_room w (Actor (Client c)) r stage hand held next shown tt room })
 
   -- and has answered so
   module _ (update : Update) (update_is : update ≡ update_of hand.op) (told : Result (Unit {0}) StageRefused) (is : IfSome (replica_in w.nodes k r) (λ x. told ≡ answer_unless (owner_of x.slot) (outcome_on x update t))) (nodes : List (List Replica)) (nodes_are : nodes ≡ with_changed k r (staged call update t) w.nodes) (word : OpWord)
@@ -132,62 +135,62 @@ module _ (w : World) (c r : ℕ) (call : CallId) (k : ℕ) (t : ℤ) (hand : InH
 
     answered : (reply : Reply) → reply_told answers.Nothing told ≡ reply → reply ≡ reply_at stage lent (record_seen w.cluster k r) (replica_served w.cluster (node_at w.nodes r) k)
     answered reply so =
-        let here_told : told ≡ answer_unless (owner_of here.slot) (outcome_on here update t) = subst (λ (o : Option Replica). IfSome o (λ x. told ≡ answer_unless (owner_of x.slot) (outcome_on x update t))) (its_there w c r stage hand held next shown tt) is in
-        sym so ∙ ap (reply_told answers.Nothing) here_told ∙ stage_told (outcome_on here update t) here.slot ∙ ap (reply_at stage lent (record_seen w.cluster k r)) (sym (its_served w c r stage hand held next shown tt))
+        let here_told : told ≡ answer_unless (owner_of here.slot) (outcome_on here update t) = subst (λ (o : Option Replica). IfSome o (λ x. told ≡ answer_unless (owner_of x.slot) (outcome_on x update t))) (its_there w (Actor (Client c)) r stage hand held next shown tt) is in
+        sym so ∙ ap (reply_told answers.Nothing) here_told ∙ stage_told (outcome_on here update t) here.slot ∙ ap (reply_at stage lent (record_seen w.cluster k r)) (sym (its_served w (Actor (Client c)) r stage hand held next shown tt))
 
-    nothing : (reply : Reply) → beside.Nothing ≡ its_details w c r stage hand lent reply
+    nothing : (reply : Reply) → beside.Nothing ≡ its_details w (Actor (Client c)) r stage hand lent reply
     nothing reply = stage_details call k t lent (record_seen w.cluster k r) (replica_served w.cluster (node_at w.nodes r) k)
 
-    told_so : (reply : Reply) (hands : List (Option InHand)) (end : Option Outcome) → reply_told answers.Nothing told ≡ reply → end ≡ its_end w c r stage hand lent reply → hands ≡ slice_set w.hands c (left end (hand_taken (served_done w.cluster stage r reply) hand)) →
-        IsStep c w (record w { nodes = nodes; hands = hands }) (Stepped hand.call word verbs.Stage (Some k) (Some r) (word_of reply) end beside.Nothing)
+    told_so : (reply : Reply) (hands : HandsState) (end : Option Outcome) → reply_told answers.Nothing told ≡ reply → end ≡ its_end w (Actor (Client c)) r stage hand lent reply → hands ≡ set_at w.hands (Actor (Client c)) (left end (hand_taken (served_done w.cluster stage r reply) hand)) →
+        IsStep (Actor (Client c)) w (record w { nodes = nodes; hands = hands }) (Stepped hand.call word verbs.Stage (Some k) (Some r) (word_of reply) end beside.Nothing)
     told_so reply hands end so end_is hands_are =
-        named_is w c r stage hand held next shown tt lent update_is tt nodes word word_is reply hands end (answered reply so) (nothing reply) (nodes_are ∙ its_nodes w c r stage hand held next shown tt lent reply) refl end_is hands_are (copy_kept stage (λ x s. refl) (replica_served w.cluster (node_at w.nodes r) k) hand.snapshot)
+        named_is w c r stage hand held next shown tt lent update_is tt nodes word word_is reply hands end (answered reply so) (nothing reply) (nodes_are ∙ its_nodes w (Actor (Client c)) r stage hand held next shown tt lent reply) refl end_is hands_are (copy_kept stage (λ x s. refl) (replica_served w.cluster (node_at w.nodes r) k) hand.snapshot)
 
     -- it is staged
     pub stage_is : (taken : InHand) (label : Label) → IsUpdate hand.driver → reply_told answers.Nothing told ≡ replies.Done answers.Nothing →
-        taken ≡ hand_taken (done_of w.cluster verbs.Stage (Some k) (Some r) words.Ok) hand → label ≡ Stepped hand.call word verbs.Stage (Some k) (Some r) words.Ok None beside.Nothing → IsStep c w (record w { nodes = nodes; hands = slice_set w.hands c (Some taken) }) label
+        taken ≡ hand_taken (done_of w.cluster verbs.Stage (Some k) (Some r) words.Ok) hand → label ≡ Stepped hand.call word verbs.Stage (Some k) (Some r) words.Ok None beside.Nothing → IsStep (Actor (Client c)) w (record w { nodes = nodes; hands = set_at w.hands (Actor (Client c)) (Some taken) }) label
     stage_is taken label update_driver so taken_is label_is =
-        subst (IsStep c w (record w { nodes = nodes; hands = slice_set w.hands c (Some taken) })) (sym label_is)
-        (told_so (replies.Done answers.Nothing) (slice_set w.hands c (Some taken)) None so (stage_goes_on w.cluster (Some k) (Some r) answers.Nothing hand.driver update_driver) (ap (λ (h : InHand). slice_set w.hands c (Some h)) taken_is))
+        subst (IsStep (Actor (Client c)) w (record w { nodes = nodes; hands = set_at w.hands (Actor (Client c)) (Some taken) })) (sym label_is)
+        (told_so (replies.Done answers.Nothing) (set_at w.hands (Actor (Client c)) (Some taken)) None so (stage_goes_on w.cluster (Some k) (Some r) answers.Nothing hand.driver update_driver) (ap (λ (h : InHand). set_at w.hands (Actor (Client c)) (Some h)) taken_is))
 
     -- it is refused
     pub stage_refused : (refused : StageRefused) (place : Option InHand) → told ≡ Err refused → (let d = served_done w.cluster stage r (reply_refused refused) in place ≡ left (end_by d (reply_refused refused) hand) (hand_taken d hand)) →
-        IsStep c w (record w { nodes = nodes; hands = slice_set w.hands c place }) (Stepped hand.call word verbs.Stage (Some k) (Some r) (word_of (reply_refused refused)) (end_by (served_done w.cluster stage r (reply_refused refused)) (reply_refused refused) hand) beside.Nothing)
+        IsStep (Actor (Client c)) w (record w { nodes = nodes; hands = set_at w.hands (Actor (Client c)) place }) (Stepped hand.call word verbs.Stage (Some k) (Some r) (word_of (reply_refused refused)) (end_by (served_done w.cluster stage r (reply_refused refused)) (reply_refused refused) hand) beside.Nothing)
     stage_refused refused place so place_is =
         let reply = reply_refused refused in
-        told_so reply (slice_set w.hands c place) (end_by (served_done w.cluster stage r reply) reply hand) (ap (reply_told answers.Nothing) so) refl (ap (slice_set w.hands c) place_is)
+        told_so reply (set_at w.hands (Actor (Client c)) place) (end_by (served_done w.cluster stage r reply) reply hand) (ap (reply_told answers.Nothing) so) refl (ap (set_at w.hands (Actor (Client c))) place_is)
 
 -- a commit
-module _ (w : World) (c r : ℕ) (call : CallId) (k : ℕ) (hand : InHand) (held : hand_at w.hands c ≡ Some hand) (next : IsNext w c (Serve r (requests.Commit call k))) (shown : IsShown w) where
+module _ (w : World) (c : ℕ) (r : ℕ) (call : CallId) (k : ℕ) (hand : InHand) (held : hand_at w.hands (Actor (Client c)) ≡ Some hand) (next : IsNext w (Actor (Client c)) (Serve r (requests.Commit call k))) (shown : IsShown w) where
   abbrev commit : Request
   commit = requests.Commit call k
 
   abbrev its : Replica
-  its = its_replica w c r commit hand held next shown tt
+  its = its_replica w (Actor (Client c)) r commit hand held next shown tt
 
   -- the slot of the replica there is the call's
   pub owns : IsSomeAnd (replica_in w.nodes k r) (λ x. IsOwnedBy call x.slot)
-  owns = subst (λ (o : Option Replica). IsSomeAnd o (λ x. IsOwnedBy call x.slot)) (sym (its_there w c r commit hand held next shown tt)) (its_ready w c r commit hand held next shown tt)
+  owns = subst (λ (o : Option Replica). IsSomeAnd o (λ x. IsOwnedBy call x.slot)) (sym (its_there w (Actor (Client c)) r commit hand held next shown tt)) (its_ready w (Actor (Client c)) r commit hand held next shown tt)
 
   module _ (plain : is_creation (update_of hand.op) ≡ false) (nodes : List (List Replica)) (nodes_are : nodes ≡ with_changed k r (λ x. committed x x.slot) w.nodes) (word : OpWord) (word_is : word ≡ word_of_op hand.op) where
     -- so it tells no identifier
     tells : (commit_answer its.slot ≡ answers.Nothing) × (slot_id its.sections its.slot ≡ beside.Nothing)
-    tells = by_slot (update_of hand.op) its.sections its.slot (its_own w c r commit hand held next shown tt) plain
+    tells = by_slot (update_of hand.op) its.sections its.slot (its_own w (Actor (Client c)) r commit hand held next shown tt) plain
 
     abbrev done : Reply
     done = replies.Done answers.Nothing
 
     done_by : done ≡ reply_at commit no_payload (record_seen w.cluster k r) (replica_served w.cluster (node_at w.nodes r) k)
-    done_by = sym (ap (reply_at commit no_payload (record_seen w.cluster k r)) (its_served w c r commit hand held next shown tt) ∙ ap replies.Done tells.0)
+    done_by = sym (ap (reply_at commit no_payload (record_seen w.cluster k r)) (its_served w (Actor (Client c)) r commit hand held next shown tt) ∙ ap replies.Done tells.0)
 
-    none_told : beside.Nothing ≡ its_details w c r commit hand no_payload done
-    none_told = sym (ap (details_at commit no_payload (record_seen w.cluster k r)) (its_served w c r commit hand held next shown tt) ∙ tells.1)
+    none_told : beside.Nothing ≡ its_details w (Actor (Client c)) r commit hand no_payload done
+    none_told = sym (ap (details_at commit no_payload (record_seen w.cluster k r)) (its_served w (Actor (Client c)) r commit hand held next shown tt) ∙ tells.1)
 
     -- it is committed; the call goes on while it has a slot
     pub commit_is : (goes_on : Bool) (taken : InHand) (place : Option InHand) (label : Label) → (let d = done_of w.cluster verbs.Commit (Some k) (Some r) words.Ok in (taken ≡ hand_taken d hand) × (ended_unless goes_on ≡ hand_end d (replies.Done answers.Nothing) taken)) →
-        place ≡ left (ended_unless goes_on) taken → label ≡ Stepped hand.call word verbs.Commit (Some k) (Some r) words.Ok (ended_unless goes_on) beside.Nothing → IsStep c w (record w { nodes = nodes; hands = slice_set w.hands c place }) label
+        place ≡ left (ended_unless goes_on) taken → label ≡ Stepped hand.call word verbs.Commit (Some k) (Some r) words.Ok (ended_unless goes_on) beside.Nothing → IsStep (Actor (Client c)) w (record w { nodes = nodes; hands = set_at w.hands (Actor (Client c)) place }) label
     commit_is goes_on taken place label (taken_is, end_is) place_is label_is =
         let d = done_of w.cluster verbs.Commit (Some k) (Some r) words.Ok in
-        subst (IsStep c w (record w { nodes = nodes; hands = slice_set w.hands c place })) (sym label_is)
-        (named_is w c r commit hand held next shown tt no_payload tt tt nodes word word_is done (slice_set w.hands c place) (ended_unless goes_on) done_by none_told (nodes_are ∙ its_nodes w c r commit hand held next shown tt no_payload done) refl
-        (end_is ∙ ap (hand_end d (replies.Done answers.Nothing)) taken_is) (ap (slice_set w.hands c) (place_is ∙ ap (left (ended_unless goes_on)) taken_is)) (copy_kept commit (λ x s. refl) (replica_served w.cluster (node_at w.nodes r) k) hand.snapshot))
+        subst (IsStep (Actor (Client c)) w (record w { nodes = nodes; hands = set_at w.hands (Actor (Client c)) place })) (sym label_is)
+        (named_is w c r commit hand held next shown tt no_payload tt tt nodes word word_is done (set_at w.hands (Actor (Client c)) place) (ended_unless goes_on) done_by none_told (nodes_are ∙ its_nodes w (Actor (Client c)) r commit hand held next shown tt no_payload done) refl
+        (end_is ∙ ap (hand_end d (replies.Done answers.Nothing)) taken_is) (ap (set_at w.hands (Actor (Client c))) (place_is ∙ ap (left (ended_unless goes_on)) taken_is)) (copy_kept commit (λ x s. refl) (replica_served w.cluster (node_at w.nodes r) k) hand.snapshot))

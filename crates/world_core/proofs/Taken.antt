@@ -1,10 +1,10 @@
--- A handle that a client takes, and the place that is set to it.
-use Rattle.std.proofs.Common.{◌≡◌, ℕ, ◌+◌, ◌<◌, true, cond, Option, Some, IsSome, Result, Ok, Err, sym, ap, subst, ◌∙◌, arith}
+-- A handle that a client takes.
+use Rattle.std.proofs.Common.{◌≡◌, ℕ, ◌+◌, true, cond, Option, Some, IsSome, Result, Ok, Err, sym, ap, subst, ◌∙◌}
 use Rattle.ckpt_types.specs.declared.calls.Count.{Count}
 use Rattle.ckpt_types.specs.declared.open_flags.OpenFlags.{OpenFlags}
-use Rattle.client_handles.specs.ClientState.{ClientState, handle_numbered, has_handle_room, taken_number, taken, bound, IsValid}
+use Rattle.client_handles.specs.ClientState.{ClientState, handle_numbered, has_handle_room, taken_number, taken, IsValid}
 use Rattle.client_handles.specs.declared.handle_view.HandleView.{HandleView}
-use Rattle.client_handles.proofs.ClientLaws.{IsValid-taken, IsValid-bound, handle_numbered-taken}
+use Rattle.client_handles.proofs.ClientLaws.{handle_numbered-taken}
 
 same_taken_number : (m n : ℕ) → ◌≡◌ {A = Result ℕ Count} (Ok m) (Ok n) → m ≡ n
 same_taken_number m n e = cc e
@@ -20,8 +20,3 @@ module _ (id : ℕ) (flags : OpenFlags) (creation_flags : ℕ) (s : ClientState)
       let found : handle_numbered number after.handles ≡ Some _
       = (λ i. handle_numbered (number_is i) (after_is i).handles) ∙ handle_numbered-taken id flags creation_flags s is in
       subst (λ (o : Option HandleView). IsSome o) (sym found) cc
-
-  -- with a place set to it, what always holds of a client holds still
-  pub IsValid-taken_bound : (place : ℕ) (final : ClientState) → place < 100 → final ≡ bound place number after → IsValid final
-  IsValid-taken_bound place final within final_is =
-      subst IsValid (sym (final_is ∙ ap (bound place number) after_is)) (IsValid-bound place number (taken id flags creation_flags s) within (omega (arith, number_is)) (IsValid-taken id flags creation_flags s room is))

@@ -7,6 +7,7 @@ use Rattle.ckpt_types.specs.declared.identities.ActorName.TheVariants.{Client, N
 use Rattle.node_msgs.specs.declared.next.Next.{Next}
 use Rattle.run_labels.specs.declared.labels.Label.{Label}
 use Rattle.client_handles.specs.ClientState.{ClientState}
+use Rattle.cluster_record.specs.Makings.{makings_of}
 use Rattle.ckpt_machine.specs.Driving.{driver_next}
 use Rattle.ckpt_machine.specs.Machine.{Machine}
 use Rattle.ckpt_machine.specs.Tables.{rooms_in}
@@ -14,37 +15,44 @@ use Rattle.ckpt_machine.proofs.OptionLemmas.{IsSomeAnd-at}
 use Rattle.world_core.specs.declared.world.World.{World}
 use Rattle.world_core.specs.Happenings.{IsNext, IsStep}
 use Rattle.world_core.specs.LiveRooms.{room_is_taken}
-use Rattle.world_core.specs.Shows.{Shows, IsShown, HasNumbersLeft, History, machine_of, tables_of}
-use Rattle.world_core.specs.TableState.{TableState, next_in, kept_in, with_room}
+use Rattle.world_core.specs.Shows.{Shows, IsShown, HasNumbersLeft, History, machine_of, pending_of, tables_of}
+use Rattle.world_core.specs.TableState.{TableState, next_in, kept_in, pending_in, with_room}
+use Rattle.world_core.specs.HandsState.{client_by}
+use Rattle.ckpt_types.specs.declared.identities.Who.{Who}
 use Rattle.world_core.proofs.TableFields.{field_same, nexts_same, table_at}
 
 -- what is known of the world is known of it with the room, and a step of it then is a step of the world
-pub record KeepsWithRoom (w : World) (c : ℕ) (taken : World) : Type 0 where
+pub record KeepsWithRoom (w : World) (v : Who) (taken : World) : Type 0 where
   pub shown : IsShown w → IsShown taken
-  pub next : (n : Next) → IsNext w c n → IsNext taken c n
+  pub next : (n : Next) → IsNext w v n → IsNext taken v n
   pub roomy : HasNumbersLeft w → HasNumbersLeft taken
-  pub has_room : room_is_taken (slice_get taken.tables c) ≡ true
-  pub step : (new : World) (label : Label) → IsStep c taken new label → IsStep c w new label
+  pub has_room : room_is_taken (slice_get taken.tables (client_by v)) ≡ true
+  pub step : (new : World) (label : Label) → IsStep v taken new label → IsStep v w new label
 
-module _ (w : World) (c : ℕ) (t : TableState) (table : slice_get w.tables c ≡ Some t) where
+module _ (w : World) (v : Who) (t : TableState) (table : slice_get w.tables (client_by v) ≡ Some t) where
   abbrev with_it : World
-  with_it = record w { tables = slice_set w.tables c (with_room t) }
+  with_it = record w { tables = slice_set w.tables (client_by v) (with_room t) }
 
   same : {X : Type 0} (f : Option TableState → X) → f (Some t) ≡ f (Some (with_room t)) → (d : ℕ) → f (slice_get w.tables d) ≡ f (slice_get with_it.tables d)
-  same = field_same w c t (with_room t) table
+  same = field_same w (client_by v) t (with_room t) table
 
   tables_same : (a : ActorName) → tables_of w.tables a ≡ tables_of with_it.tables a
   tables_same (Client d) = same kept_in refl d
   tables_same (Node r) = refl
 
+  pending_same : (a : ActorName) → pending_of w.tables a ≡ pending_of with_it.tables a
+  pending_same (Client d) = same pending_in refl d
+  pending_same (Node r) = refl
+
   machine_is : (h : History) → machine_of w h ≡ machine_of with_it h
   machine_is h = λ i. record (machine_of with_it h) {
-    next = λ a. nexts_same w c t (with_room t) table refl a i;
+    next = λ a. nexts_same w (client_by v) t (with_room t) table refl a i;
     tables = λ a. tables_same a i;
+    pending = λ a. pending_same a i;
   }
 
   roomy_there : (d : ℕ) → room_is_taken (slice_get w.tables d) ≡ true → room_is_taken (slice_get with_it.tables d) ≡ true
-  roomy_there d roomy = subst (λ (o : Option TableState). room_is_taken o ≡ true) (table_at w c t (with_room t) table d) (by_test (d == c)) where
+  roomy_there d roomy = subst (λ (o : Option TableState). room_is_taken o ≡ true) (table_at w (client_by v) t (with_room t) table d) (by_test (d == client_by v)) where
     by_test : (b : Bool) → room_is_taken (cond b (Some (with_room t)) (slice_get w.tables d)) ≡ true
     by_test true = refl
     by_test false = roomy
@@ -59,13 +67,13 @@ module _ (w : World) (c : ℕ) (t : TableState) (table : slice_get w.tables c �
     rooms = λ d live. roomy_there d (s.rooms d live);
   }
 
-  has_it : room_is_taken (slice_get with_it.tables c) ≡ true
-  has_it = subst (λ (o : Option TableState). room_is_taken o ≡ true) (table_at w c t (with_room t) table c) (ap (λ b. room_is_taken (cond b (Some (with_room t)) (slice_get w.tables c))) (eq-eqb c c refl))
+  has_it : room_is_taken (slice_get with_it.tables (client_by v)) ≡ true
+  has_it = subst (λ (o : Option TableState). room_is_taken o ≡ true) (table_at w (client_by v) t (with_room t) table (client_by v)) (ap (λ b. room_is_taken (cond b (Some (with_room t)) (slice_get w.tables (client_by v)))) (eq-eqb (client_by v) (client_by v) refl))
 
-  keeps : KeepsWithRoom w c with_it
+  keeps : KeepsWithRoom w v with_it
   keeps = record {
     shown = λ shown. record { state = shown.state; shows = shows_it shown.state shown.shows; facts = shown.facts };
-    next = λ n next. record { hand = next.hand; held = next.held; next_is = ap (λ (kept : ClientState). driver_next w.cluster (rooms_in kept) next.hand.driver) (sym (same kept_in refl c)) ∙ next.next_is };
+    next = λ n next. record { hand = next.hand; held = next.held; next_is = ap (λ (kept : ClientState). driver_next w.cluster (rooms_in (makings_of (client_by v) w.cluster.entries) kept) next.hand.driver) (sym (same kept_in refl (client_by v))) ∙ next.next_is };
     roomy = λ roomy. record {
       next = λ d. subst (λ n. n < 2 ^ 32 - 1) (same next_in refl d) (roomy.next d);
       handles = λ d. subst (λ n. n < 2 ^ 32 - 1) (same (λ o. (kept_in o).last_number) refl d) (roomy.handles d);
@@ -90,13 +98,14 @@ module _ (w : World) (c : ℕ) (t : TableState) (table : slice_get w.tables c �
       next = step.next;
       same_call = step.same_call;
       same_op = step.same_op;
-      hands = step.hands;
+      here = step.here;
+      others = step.others;
       does = record { due_is = λ m s f. step.does.due_is m (shows_it m s) f; shows = λ m s f. step.does.shows m (shows_it m s) f };
     };
   }
 
 -- with the tables as the code names them
-pub keeps_taken : (w : World) (c : ℕ) (tables : List TableState) → IsSomeAnd (slice_get w.tables c) (λ t. tables ≡ slice_set w.tables c (with_room t)) → KeepsWithRoom w c (record w { tables = tables })
-keeps_taken w c tables taken =
-    let (t, table, tables_are) = IsSomeAnd-at (slice_get w.tables c) _ taken in
-    subst (λ (ts : List TableState). KeepsWithRoom w c (record w { tables = ts })) (sym tables_are) (keeps w c t table)
+pub keeps_taken : (w : World) (v : Who) (c : ℕ) (tables : List TableState) → c ≡ client_by v → IsSomeAnd (slice_get w.tables c) (λ t. tables ≡ slice_set w.tables c (with_room t)) → KeepsWithRoom w v (record w { tables = tables })
+keeps_taken w v c tables its taken =
+    let (t, table, tables_are) = IsSomeAnd-at (slice_get w.tables (client_by v)) _ (subst (λ n. IsSomeAnd (slice_get w.tables n) (λ t. tables ≡ slice_set w.tables n (with_room t))) its taken) in
+    subst (λ (ts : List TableState). KeepsWithRoom w v (record w { tables = ts })) (sym tables_are) (keeps w v t table)

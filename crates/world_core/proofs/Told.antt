@@ -1,40 +1,111 @@
 -- A step that changes nothing but the call that is told of it.
-use Rattle.std.proofs.Common.{List, ◌≡◌, ℕ, ◌∷◌, ◌∙◌}
-use Rattle.std.specs.Prelude.{Option, Some, slice_set}
+use Rattle.std.proofs.Common.{List, ◌≡◌, ℕ, ◌∷◌, Bool, true, false, cond, refl, ap, ◌∙◌}
+use Rattle.std.specs.Prelude.{Option, Some, None}
 use Rattle.ckpt_types.specs.declared.answers.Outcome.{Outcome}
+use Rattle.ckpt_types.specs.declared.identities.ActorName.{ActorName}
 use Rattle.ckpt_types.specs.declared.identities.ActorName.TheVariants.{Client}
+use Rattle.ckpt_types.specs.declared.identities.CallId.{CallId}
+use Rattle.ckpt_types.specs.declared.identities.Who.TheVariants.{Actor, Call}
+use Rattle.ckpt_types.specs.OpWord.{is_async, word_of_op}
+use Rattle.call_dispatch.specs.PendingCalls.{PendingCalls, ended_in}
+use Rattle.client_handles.specs.ClientState.{ClientState}
 use Rattle.world_core.specs.declared.hands.InHand.{InHand}
 use Rattle.world_core.specs.declared.world.World.{World}
-use Rattle.cluster_record.specs.Calls.{put_actor, left}
+use Rattle.cluster_record.specs.Calls.{client_of, put_actor, left}
 use Rattle.cluster_record.specs.StepDone.{StepDone}
 use Rattle.snap_copy.specs.Snapshots as copies
-use Rattle.ckpt_machine.specs.Machine.{Machine, Effect, Snapshot}
+use Rattle.ckpt_machine.specs.Machine.{Machine, CallState, Effect, Snapshot}
+use Rattle.ckpt_machine.specs.Steps.{ended_calls, handle_opened, left_in_hand, stepped, with_pending}
+use Rattle.ckpt_machine.specs.Whose.{put_who}
+use Rattle.ckpt_machine.proofs.ReplicaSteps.{put_actor-same}
+use Rattle.world_core.specs.Alone.{ended_at, ended_hands, ended_tables}
+use Rattle.world_core.specs.TableEnds.{table_ended}
+use Rattle.world_core.specs.TableState.{kept_by, kept_in, pending_by, pending_in}
+use Rattle.world_core.proofs.TableFields.{calls_are}
 use Rattle.world_core.specs.HandSteps.{hand_taken}
-use Rattle.world_core.specs.Shows.{HistoryFits, History, machine_of, hand_at}
+use Rattle.world_core.specs.Shows.{HistoryFits, History, machine_of}
 use Rattle.world_core.proofs.Held.{state_in, with_copy, IsCopyBehind, left_shown, left_fits, hand_fits}
-use Rattle.world_core.proofs.Maps.{with_steps, put_hand, fits_hand}
+use Rattle.world_core.specs.HandsState.{HandsState, client_by, hand_at, name_of, set_at}
+use Rattle.ckpt_types.specs.declared.identities.Who.{Who}
+use Rattle.world_core.proofs.Maps.{HasUnder, hand_left, with_steps, put_hand, fits_hand}
 
--- the history with one step more of a client's call, with what its commits have created then, and with the effects that it has pulled
-abbrev pub with_step : History → ℕ → StepDone → Option (List ℕ) → Option (List Effect) → History
-with_step h c done made pulled = with_steps h c (done ∷ h.steps (Client c)) made pulled
+-- the history with one step more of the call of a name, with what its commits have created then, and with the effects that it has pulled
+abbrev pub with_step : History → Who → StepDone → Option (List ℕ) → Option (List Effect) → History
+with_step h v done made pulled = with_steps h v (done ∷ h.steps v) made pulled
 
--- the world in which the call of a client is told of a step, which left this copy in its hand
-abbrev pub told_world : World → ℕ → InHand → Option copies.Snapshot → StepDone → Option Outcome → World
-told_world w c hand copy done end = record w { hands = slice_set w.hands c (left end (hand_taken done (with_copy hand copy))) }
+-- the world in which the call of a name is told of a step, which left this copy in its hand; where it has ended an asynchronous call, its client is to be told
+abbrev pub told_world : World → Who → InHand → Option copies.Snapshot → StepDone → Option Outcome → World
+told_world w v hand copy done end = ended_at v end (record w { hands = set_at w.hands v (left end (hand_taken done (with_copy hand copy))) })
 
-module _ (w : World) (h : History) (c : ℕ) (hand : InHand) (done : StepDone) (made : Option (List ℕ)) (shown : Option Snapshot) (pulled : Option (List Effect)) (copy : Option copies.Snapshot) (end : Option Outcome) (actor : hand.call.actor ≡ Client c) (fits : HistoryFits w h) (held : hand_at w.hands c ≡ Some hand) (is : IsCopyBehind h c hand shown pulled copy) where
+-- ---- what is told of an end
+
+-- a call that is no asynchronous one is in hand under its actor's name
+plain_named : (hand : InHand) (a : ActorName) → name_of hand ≡ Actor a → is_async (word_of_op hand.op) ≡ false
+plain_named hand a name = by_word (is_async (word_of_op hand.op)) name where
+  by_word : (b : Bool) → cond b (Call hand.call) (Actor hand.call.actor) ≡ Actor a → b ≡ false
+  by_word false name = refl
+  by_word true name = absurd (cc name)
+
+-- and an asynchronous one under its own
+async_named : (hand : InHand) (call : CallId) → name_of hand ≡ Call call → (is_async (word_of_op hand.op) ≡ true) × (hand.call ≡ call)
+async_named hand call name = by_word (is_async (word_of_op hand.op)) name where
+  by_word : (b : Bool) → cond b (Call hand.call) (Actor hand.call.actor) ≡ Call call → (b ≡ true) × (hand.call ≡ call)
+  by_word true name = (refl, let same : hand.call ≡ call = cc name in same)
+  by_word false name = absurd (cc name)
+
+-- a call that goes on, or is no asynchronous one, leaves those of its client as they are
+plain_calls : (s : CallState) (end : Option Outcome) (t : ClientState) (p : PendingCalls) → is_async (word_of_op s.op) ≡ false → ended_calls s end t p ≡ p
+plain_calls s None t p plain = refl
+plain_calls s (Some end) t p plain = ap (λ b. cond b (ended_in s.call (handle_opened end t) end p) p) plain
+
+same_calls : (m : Machine) (a : ActorName) (x : PendingCalls) → x ≡ m.pending a → record m { pending = put_actor m.pending a x } ≡ m
+same_calls m a x same = λ i. record m { pending = λ b. put_actor-same m.pending a x same b i }
+
+-- what the machine makes of an end is what the world does
+module _ (w : World) (h : History) (hand : InHand) (s : CallState) (call_is : s.call ≡ hand.call) (op_is : s.op ≡ hand.op) where
+  abbrev its : Machine
+  its = machine_of w h
+
+  pub ended_is : (v : Who) (end : Option Outcome) → name_of hand ≡ v → hand.call.actor ≡ Client (client_by v) → with_pending s.call.actor (ended_calls s end (its.tables s.call.actor)) its ≡ machine_of (record w { tables = ended_tables v end w.tables }) h
+  ended_is (Actor a) end name actor = same_calls its s.call.actor (ended_calls s end (its.tables s.call.actor) (its.pending s.call.actor)) (plain_calls s end (its.tables s.call.actor) (its.pending s.call.actor) (ap (λ o. is_async (word_of_op o)) op_is ∙ plain_named hand a name))
+  ended_is (Call call) None name actor = same_calls its s.call.actor (its.pending s.call.actor) refl
+  ended_is (Call call) (Some end) name actor =
+      let (async, same) = async_named hand call name in
+      let c = client_of call in
+      let is_client : s.call.actor ≡ Client c = ap (λ (z : CallId). z.actor) call_is ∙ actor in
+      let gone : ended_calls s (Some end) (its.tables s.call.actor) (its.pending s.call.actor) ≡ ended_in call (handle_opened end (kept_by w.tables c)) end (pending_by w.tables c)
+      = ap (λ b. cond b (ended_in s.call (handle_opened end (its.tables s.call.actor)) end (its.pending s.call.actor)) (its.pending s.call.actor)) (ap (λ o. is_async (word_of_op o)) op_is ∙ async)
+      ∙ (λ i. ended_in ((call_is ∙ same) i) (handle_opened end (its.tables (is_client i))) end (its.pending (is_client i))) in
+      (λ i. record its { pending = put_actor its.pending (is_client i) (gone i) })
+      ∙ calls_are w h c (ended_in call (handle_opened end (kept_by w.tables c)) end (pending_by w.tables c)) (table_ended call end) (λ t. record { next = refl; client = refl })
+      (λ table. ap (λ o. ended_in call (handle_opened end (kept_in o)) end (pending_in o)) table) (λ t table. ap (λ o. ended_in call (handle_opened end (kept_in o)) end (pending_in o)) table)
+
+module _ (w : World) (h : History) (v : Who) (hand : InHand) (done : StepDone) (made : Option (List ℕ)) (shown : Option Snapshot) (pulled : Option (List Effect)) (copy : Option copies.Snapshot) (end : Option Outcome) (name : name_of hand ≡ v) (actor : hand.call.actor ≡ Client (client_by v)) (fits : HistoryFits w h) (held : hand_at w.hands v ≡ Some hand) (is : IsCopyBehind h v hand shown pulled copy) where
   abbrev m : Machine
   m = machine_of w h
 
-  pub told_is : record m { in_hand = put_actor m.in_hand hand.call.actor (left end (record (state_in h c hand) { steps = done ∷ h.steps (Client c); created = made; snapshot = shown })) } ≡ machine_of (told_world w c hand copy done end) (with_step h c done made pulled)
-  told_is =
-      let hands = put_hand h w.hands c hand (left end (hand_taken done (with_copy hand copy))) (done ∷ h.steps (Client c)) made pulled held in
-      (λ i. record m { in_hand = put_actor m.in_hand (actor i) (left_shown h c hand done made shown pulled copy end is.same i) })
-      ∙ (λ i. record (machine_of (told_world w c hand copy done end) (with_step h c done made pulled)) { in_hand = λ a. hands a i })
+  -- the call as the machine has it then
+  abbrev told : CallState
+  told = record (state_in h v hand) { steps = done ∷ h.steps v; created = made; snapshot = shown }
 
-  pub told_fits : HistoryFits (told_world w c hand copy done end) (with_step h c done made pulled)
+  abbrev hands_told : HandsState
+  hands_told = ended_hands v end (set_at w.hands v (left end (hand_taken done (with_copy hand copy))))
+
+  under : HasUnder w.hands v (left end (hand_taken done (with_copy hand copy))) hands_told
+  under = hand_left w.hands v hand (hand_taken done (with_copy hand copy)) end held refl
+
+  in_hand_told : left_in_hand m told end ≡ machine_of (record w { hands = hands_told }) (with_step h v done made pulled)
+  in_hand_told =
+      let hands = put_hand h w.hands hands_told v (left end (hand_taken done (with_copy hand copy))) under (done ∷ h.steps v) made pulled in
+      (λ i. record m { in_hand = put_who m.in_hand (name i) (left_shown h v hand done made shown pulled copy end is.same i) })
+      ∙ (λ i. record (machine_of (record w { hands = hands_told }) (with_step h v done made pulled)) { in_hand = λ u. hands u i })
+
+  pub told_is : stepped m told end ≡ machine_of (told_world w v hand copy done end) (with_step h v done made pulled)
+  told_is = ap (with_pending hand.call.actor (ended_calls told end (m.tables hand.call.actor))) in_hand_told ∙ ended_is (record w { hands = hands_told }) (with_step h v done made pulled) hand told refl refl v end name actor
+
+  pub told_fits : HistoryFits (told_world w v hand copy done end) (with_step h v done made pulled)
   told_fits = record {
     replicas = fits.replicas;
     copies = fits.copies;
-    hands = fits_hand h w.hands c hand (left end (hand_taken done (with_copy hand copy))) (done ∷ h.steps (Client c)) pulled held (left_fits h c hand done shown pulled copy end is (hand_fits w h c hand held fits)) fits.hands;
+    hands = fits_hand h w.hands hands_told v (left end (hand_taken done (with_copy hand copy))) under (done ∷ h.steps v) pulled (left_fits h v hand done shown pulled copy end is (hand_fits w h v hand held fits)) fits.hands;
   }

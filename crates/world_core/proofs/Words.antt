@@ -1,7 +1,6 @@
 -- The labels that answer without a call: the words in place of a call, and the first nodes coming up.
 use Rattle.std.proofs.Common.{◌≡◌, ℕ, ◌<◌, ◌≤◌, Bool, true, false, refl, sym, ap, subst, ◌∙◌}
 use Rattle.std.specs.Prelude.{◌≢◌, Option, Some, None}
-use Rattle.ckpt_types.specs.declared.identities.ActorName.TheVariants.{Client, Node}
 use Rattle.ckpt_types.specs.declared.identities.Who.{Who}
 use Rattle.ckpt_types.specs.declared.identities.Who.TheVariants.{Actor, Call}
 use Rattle.ckpt_types.specs.Limits.{nodes_max}
@@ -13,40 +12,36 @@ use Rattle.world_core.specs.declared.world.World.{World}
 use Rattle.cluster_record.specs.RecordState.{RecordState, entry_of, brought_up, empty_record}
 use Rattle.ckpt_machine.specs.Machine.{Machine}
 use Rattle.ckpt_machine.specs.Steps.{IsWord, after}
-use Rattle.world_core.specs.Shows.{Does, History, machine_of, hand_at, shown_hand, where_not_complete, reserved_in}
-use Rattle.world_core.specs.Runs.{step_word, HasNothingToStep}
-use Rattle.world_core.specs.Happenings.{IsIdle, NamesNoClient}
+use Rattle.world_core.specs.HandsState.{hand_at}
+use Rattle.world_core.specs.Shows.{Does, History, machine_of, shown_hand, where_not_complete, reserved_in}
+use Rattle.world_core.specs.Runs.{step_word}
+use Rattle.world_core.specs.Happenings.{IsIdle}
 use Rattle.world_core.proofs.HoldingLaws.{held_by_none}
 
--- a client's call in hand, as the machine has it: none where there is none
-pub none_in_hand : (w : World) (h : History) (c : ℕ) → hand_at w.hands c ≡ None → (machine_of w h).in_hand (Client c) ≡ None
-none_in_hand w h c free = ap (shown_hand (h.beginnings (Client c)) (h.steps (Client c)) (h.created (Client c)) (h.pulled (Client c))) free
+-- the call in hand under a name, as the machine has it: none where there is none
+pub none_in_hand : (w : World) (h : History) (v : Who) → hand_at w.hands v ≡ None → (machine_of w h).in_hand v ≡ None
+none_in_hand w h v free = ap (shown_hand (h.beginnings v) (h.steps v) (h.created v) (h.pulled v)) free
 
 -- and else one
-pub words_in_hand : (h : History) (c : ℕ) (o : Option InHand) → o ≢ None → shown_hand (h.beginnings (Client c)) (h.steps (Client c)) (h.created (Client c)) (h.pulled (Client c)) o ≢ None
-words_in_hand h c None held none = held refl
-words_in_hand h c (Some hand) held none = absurd (cc none)
+pub words_in_hand : (h : History) (v : Who) (o : Option InHand) → o ≢ None → shown_hand (h.beginnings v) (h.steps v) (h.created v) (h.pulled v) o ≢ None
+words_in_hand h v None held none = held refl
+words_in_hand h v (Some hand) held none = absurd (cc none)
 
--- a `step` or `finish` line of a node or an asynchronous operation
-pub idle_of_none : (w : World) (who : Who) (finish : Bool) → NamesNoClient who → Does w w (Word who (step_word finish) Idle)
-idle_of_none w who finish none = record {
-  due_is = λ m s f. subst (λ m. IsWord m who (step_word finish) Idle) (sym s.same) (said who finish none s.history);
+-- a `step` or `finish` line of a name under which nothing is in hand
+pub idle_said : (w : World) (v : Who) (finish : Bool) → hand_at w.hands v ≡ None → Does w w (Word v (step_word finish) Idle)
+idle_said w v finish none = record {
+  due_is = λ m s f. subst (λ m. IsWord m v (step_word finish) Idle) (sym s.same) (said (machine_of w s.history) v finish (none_in_hand w s.history v none));
   shows = λ m s f. s;
 } where
-  said : (who : Who) (finish : Bool) → NamesNoClient who → (h : History) → IsWord (machine_of w h) who (step_word finish) Idle
-  said (Actor (Client c)) finish none h = absurd none
-  said (Actor (Node r)) true none h = refl
-  said (Actor (Node r)) false none h = refl
-  said (Call call) true none h = refl
-  said (Call call) false none h = refl
+  said : (m : Machine) (v : Who) (finish : Bool) → m.in_hand v ≡ None → IsWord m v (step_word finish) Idle
+  said m (Actor a) true free = free
+  said m (Actor a) false free = free
+  said m (Call call) true free = free
+  said m (Call call) false free = free
 
 -- and its answer
-pub is_idle_of_none : (w : World) (who : Who) (finish : Bool) → NamesNoClient who → IsIdle who finish w w (Word who (step_word finish) Idle)
-is_idle_of_none w who finish none = record { none = nothing who none; word = (refl, refl, refl, refl); does = idle_of_none w who finish none } where
-  nothing : (who : Who) → NamesNoClient who → HasNothingToStep who w
-  nothing (Actor (Client c)) none = absurd none
-  nothing (Actor (Node r)) none = refl
-  nothing (Call call) none = tt
+pub is_idle : (w : World) (v : Who) (finish : Bool) → hand_at w.hands v ≡ None → IsIdle v finish w w (Word v (step_word finish) Idle)
+is_idle w v finish none = record { none = none; word = (refl, refl, refl, refl); does = idle_said w v finish none }
 
 -- ---- the first nodes come up
 

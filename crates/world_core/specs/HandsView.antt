@@ -1,8 +1,13 @@
--- How the calls in hand are kept: by client.
+-- How the calls in hand are kept: those of clients by client, and the asynchronous ones in the order of their beginning.
 use Rattle.std.specs.Prelude.{◌≡◌, length}
 use Rattle.ckpt_types.specs.Limits.{client_numbers}
 use Rattle.world_core.specs.declared.hands.Hands.TheInside.{Inside}
+use Rattle.world_core.specs.HandsState.{HandsState}
+
+-- the calls in hand as contracts see them
+abbrev pub hands_shown : Inside → HandsState
+hands_shown hands = record { clients = hands.clients.items; alone = hands.alone.items }
 
 -- each client has its place
 abbrev pub HasEachPlace : Inside → Type 0
-HasEachPlace hands = length hands.list.items ≡ client_numbers
+HasEachPlace hands = length hands.clients.items ≡ client_numbers

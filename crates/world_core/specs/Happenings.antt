@@ -1,10 +1,12 @@
 -- What an event does to the world, with the label that answers it.
-use Rattle.std.specs.Prelude.{◌≡◌, ◌⊎◌, ℕ, ◌<◌, ◌≤◌, [], ◌∷◌, ◌++◌, length, Option, Some, Bool, ℤ, slice_set}
+use Rattle.std.specs.Prelude.{◌≡◌, ◌≢◌, ◌⊎◌, ℕ, ◌<◌, ◌≤◌, [], ◌∷◌, ◌++◌, Option, Some, Bool, ℤ}
 use Rattle.ckpt_types.specs.declared.answers.Outcome.{Outcome}
 use Rattle.ckpt_types.specs.declared.identities.ActorName.TheVariants.{Client}
 use Rattle.ckpt_types.specs.declared.identities.CallId.{CallId}
 use Rattle.ckpt_types.specs.declared.identities.Who.{Who}
-use Rattle.ckpt_types.specs.declared.identities.Who.TheVariants as whos
+use Rattle.ckpt_types.specs.declared.identities.Who.TheVariants.{Actor}
+use Rattle.ckpt_types.specs.OpWord.{word_of_op, stepped_as}
+use Rattle.cluster_record.specs.Makings.{makings_of}
 use Rattle.ckpt_types.specs.declared.operation.Op.{Op}
 use Rattle.ckpt_types.specs.Limits.{client_numbers, nodes_max}
 use Rattle.node_msgs.specs.declared.next.Next.{Next}
@@ -26,8 +28,9 @@ use Rattle.cluster_record.specs.RecordState.{empty_record, IsMomentFrom}
 use Rattle.ckpt_machine.specs.Driving.{driver_next}
 use Rattle.ckpt_types.specs.Asks.{IsBuilt}
 use Rattle.ckpt_machine.specs.Tables.{rooms_in}
-use Rattle.world_core.specs.Shows.{Does, hand_at}
-use Rattle.world_core.specs.Runs.{AnswersBegin, MayBeStepped, HasNothingToStep, IsIdleWord, IsShownOf, IsPulledOf, IsPutOf}
+use Rattle.world_core.specs.HandsState.{client_by, hand_at}
+use Rattle.world_core.specs.Shows.{Does}
+use Rattle.world_core.specs.Runs.{AnswersBegin, GoesOn, MayBeStepped, HasNothingToStep, IsIdleWord, IsShownOf, IsPulledOf, IsPutOf}
 
 -- the log has one label more, of which this holds
 pub record Adds (old new : KeptLabels) (holds : Label → Type 0) : Type 0 where
@@ -37,18 +40,22 @@ pub record Adds (old new : KeptLabels) (holds : Label → Type 0) : Type 0 where
 
 -- what the client's tables have a free place for
 abbrev pub rooms_at : World → ℕ → Rooms
-rooms_at w c = rooms_in (kept_by w.tables c)
+rooms_at w c = rooms_in (makings_of c w.cluster.entries) (kept_by w.tables c)
 
--- this is next for the call that the client has in hand
-pub record IsNext (w : World) (c : ℕ) (next : Next) : Type 0 where
+-- this is next for the call that is in hand under a name
+pub record IsNext (w : World) (v : Who) (next : Next) : Type 0 where
   pub hand : InHand
-  pub held : hand_at w.hands c ≡ Some hand
-  pub next_is : driver_next w.cluster (rooms_at w c) hand.driver ≡ next
+  pub held : hand_at w.hands v ≡ Some hand
+  pub next_is : driver_next w.cluster (rooms_at w (client_by v)) hand.driver ≡ next
 
--- the client's call takes a step: it is in hand after it just where the step did not end it
-pub record IsStep (c : ℕ) (old new : World) (label : Label) : Type 0 where
+-- the calls for which clients wait are in hand as they were, but that of a name
+abbrev pub KeepsOther : Who → World → World → Type 0
+KeepsOther v old new = (d : ℕ) → Actor (Client d) ≢ v → hand_at new.hands (Actor (Client d)) ≡ hand_at old.hands (Actor (Client d))
+
+-- the call in hand under a name takes a step: it is in hand after it just where the step did not end it
+pub record IsStep (v : Who) (old new : World) (label : Label) : Type 0 where
   pub hand : InHand
-  pub held : hand_at old.hands c ≡ Some hand
+  pub held : hand_at old.hands v ≡ Some hand
   pub op : OpWord
   pub verb : Verb
   pub ckpt : Option ℕ
@@ -60,13 +67,9 @@ pub record IsStep (c : ℕ) (old new : World) (label : Label) : Type 0 where
   pub next : InHand
   pub same_call : next.call ≡ hand.call
   pub same_op : next.op ≡ hand.op
-  pub hands : new.hands ≡ slice_set old.hands c (left end next)
+  pub here : hand_at new.hands v ≡ left end next
+  pub others : KeepsOther v old new
   pub does : Does old new label
-
--- a node, or an asynchronous operation: neither has anything to step yet
-abbrev pub NamesNoClient : Who → Type 0
-NamesNoClient (whos.Actor (Client c)) = ⊥
-NamesNoClient who = Unit {0}
 
 -- a word says that nothing is in hand to step
 pub record IsIdle (who : Who) (finish : Bool) (old new : World) (label : Label) : Type 0 where
@@ -74,19 +77,16 @@ pub record IsIdle (who : Who) (finish : Bool) (old new : World) (label : Label) 
   pub word : IsIdleWord who finish old new label
   pub does : Does old new label
 
--- the client's call begins: it is in hand just where the beginning did not end it
+-- the client's call begins: it is in hand, under its name, just where it goes on
 pub record IsBeginning (c : ℕ) (op : Op) (old new : World) (call : CallId) (begun : Op) (end : Option Outcome) : Type 0 where
   pub actor : call.actor ≡ Client c
   pub op_is : begun ≡ op
-  pub hand : InHand
-  pub same_call : hand.call ≡ call
-  pub same_op : hand.op ≡ op
-  pub within : c < length old.hands
-  pub hands : new.hands ≡ slice_set old.hands c (left end hand)
+  pub here : GoesOn call op end (hand_at new.hands (stepped_as call (word_of_op op)))
+  pub others : KeepsOther (stepped_as call (word_of_op op)) old new
 
 -- the label is the beginning of this client's call, or a word that answers its line
 abbrev pub BeginsOrSays : ℕ → Op → World → World → Label → Type 0
-BeginsOrSays c op old new (labels.Began call begun end) = IsBeginning c op old new call begun end
+BeginsOrSays c op old new (labels.Began call begun end details) = IsBeginning c op old new call begun end
 BeginsOrSays c op old new label = AnswersBegin (Client c) op old new label
 
 -- a call begins, or a word answers its line
@@ -134,8 +134,7 @@ ComesNow w event = ⊥
 abbrev pub IsAnswered : Event → World → World → Label → Type 0
 IsAnswered (happenings.Nodes n) old new label = BringsUp n old new label
 IsAnswered (happenings.Begin (Client c) op) old new label = Begins c op old new label
-IsAnswered (happenings.Step (whos.Actor (Client c)) finish) old new label = IsStep c old new label ⊎ IsIdle (whos.Actor (Client c)) finish old new label
-IsAnswered (happenings.Step who finish) old new label = IsIdle who finish old new label
+IsAnswered (happenings.Step who finish) old new label = IsStep who old new label ⊎ IsIdle who finish old new label
 IsAnswered (happenings.Show k) old new label = TellsReplicas k old new label
 IsAnswered (happenings.At t) old new label = SetsMoment t old new label
 IsAnswered (happenings.Pull k) old new label = Propagates (IsPulledOf k) old new label

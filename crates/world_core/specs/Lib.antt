@@ -1,8 +1,10 @@
 pub mod Backgrounds
+pub mod Begun
 pub mod RecordReady
 pub mod RecordAfter
 pub mod TableState
 pub mod LiveRooms
+pub mod TableEnds
 pub mod TableView
 pub mod NewTable
 pub mod Nodes
@@ -13,6 +15,7 @@ pub mod CallStates
 pub mod IterationPlaces
 pub mod Lending
 pub mod Asking
+pub mod HandsState
 pub mod HandsView
 pub mod HandLending
 pub mod HandRooms
@@ -22,6 +25,9 @@ pub mod Propagating
 pub mod Leading
 pub mod Parts
 pub mod Settling
+pub mod Standings
+pub mod Alone
+pub mod Answering
 pub mod Runs
 pub mod StepsLeft
 pub mod Happenings

@@ -1,5 +1,5 @@
 -- Runs of the machine that the world shows.
-use Rattle.std.specs.Prelude.{◌≡◌, ◌≢◌, ℕ, ◌-◌, ◌<◌, ◌≤◌, ◌^◌, List, [], ◌∷◌, ◌++◌, length, replicate, Option, Some, None, Bool, true, false, ℤ, slice_get}
+use Rattle.std.specs.Prelude.{◌≡◌, ◌≢◌, ℕ, ◌-◌, ◌<◌, ◌≤◌, ◌^◌, List, [], ◌∷◌, ◌++◌, length, replicate, Option, Some, None, is_none, Bool, true, false, ℤ, slice_get}
 use Rattle.ckpt_types.specs.declared.answers.Outcome.{Outcome}
 use Rattle.ckpt_types.specs.declared.identities.ActorName.{ActorName}
 use Rattle.ckpt_types.specs.declared.identities.ActorName.TheVariants.{Client}
@@ -15,16 +15,19 @@ use Rattle.run_labels.specs.declared.words.LineWord.{LineWord}
 use Rattle.run_labels.specs.declared.words.LineWord.TheVariants as linewords
 use Rattle.run_labels.specs.declared.words.Said.{Said}
 use Rattle.run_labels.specs.declared.words.Said.TheVariants.{Down, Idle}
-use Rattle.ckpt_types.specs.OpWord.{word_of_op}
+use Rattle.ckpt_types.specs.OpWord.{word_of_op, stepped_as}
+use Rattle.ckpt_machine.specs.Steps.{goes_on}
 use Rattle.world_core.specs.declared.hands.InHand.{InHand}
 use Rattle.world_core.specs.declared.world.Event.{Event}
 use Rattle.world_core.specs.declared.world.Event.TheVariants as happenings
 use Rattle.world_core.specs.declared.world.World.{World}
 use Rattle.cluster_record.specs.RecordState.{empty_record, is_up, IsMomentFrom}
-use Rattle.world_core.specs.TableState.{next_in, kept_by}
+use Rattle.call_dispatch.specs.PendingCalls.{no_pending}
+use Rattle.world_core.specs.TableState.{next_in, kept_by, pending_by}
 use Rattle.ckpt_types.specs.Asks.{IsBuilt}
 use Rattle.ckpt_machine.specs.Machine.{no_tables}
-use Rattle.world_core.specs.Shows.{Shows, hand_at}
+use Rattle.world_core.specs.HandsState.{hand_at}
+use Rattle.world_core.specs.Shows.{Shows}
 use Rattle.ckpt_machine.specs.Runs.{last, IsRun}
 
 -- ---- the world after a log
@@ -41,7 +44,8 @@ pub record IsNew (w : World) : Type 0 where
   pub snapshots : w.snapshots ≡ []
   pub next : (c : ℕ) → next_in (slice_get w.tables c) ≡ 1
   pub tables : (c : ℕ) → kept_by w.tables c ≡ no_tables
-  pub hands : (c : ℕ) → hand_at w.hands c ≡ None
+  pub pending : (c : ℕ) → pending_by w.tables c ≡ no_pending
+  pub hands : (v : Who) → hand_at w.hands v ≡ None
 
 -- ---- events
 
@@ -50,7 +54,7 @@ abbrev pub IsScriptClient : ActorName → Type 0
 IsScriptClient (Client c) = c < client_numbers
 IsScriptClient a = ⊥
 
--- a client that a script may name, a node, or an asynchronous operation
+-- a client that a script may name, a node, or an asynchronous call
 abbrev pub MayBeStepped : Who → Type 0
 MayBeStepped (whos.Actor (Client c)) = c < client_numbers
 MayBeStepped who = Unit {0}
@@ -65,17 +69,23 @@ Comes w log (happenings.Show k) = Unit {0}
 Comes w log (happenings.Pull k) = Unit {0}
 Comes w log (happenings.Put k r) = r < nodes_max
 
--- a call is in hand after a label just where the label did not end it
-abbrev pub GoesOn : CallId → Op → Option Outcome → Option InHand → Type 0
-GoesOn call op (Some end) None = Unit {0}
-GoesOn call op (Some end) (Some h) = ⊥
-GoesOn call op None None = ⊥
-GoesOn call op None (Some h) = (h.call ≡ call) × (h.op ≡ op)
+-- this call is in hand
+abbrev pub IsThere : CallId → Op → Option InHand → Type 0
+IsThere call op None = ⊥
+IsThere call op (Some h) = (h.call ≡ call) × (h.op ≡ op)
 
--- an actor has this call in hand just where the label did not end it; no node has calls yet
-abbrev pub GoesOnAt : World → CallId → Op → Option Outcome → ActorName → Type 0
-GoesOnAt w call op end (Client c) = GoesOn call op end (hand_at w.hands c)
-GoesOnAt w call op end a = ⊥
+-- it is in hand where it goes on, and no call is where it does not
+abbrev pub IsThereIf : Bool → CallId → Op → Option InHand → Type 0
+IsThereIf true call op hand = IsThere call op hand
+IsThereIf false call op hand = hand ≡ None
+
+-- a call is in hand behind its beginning just where it goes on
+abbrev pub GoesOn : CallId → Op → Option Outcome → Option InHand → Type 0
+GoesOn call op end hand = IsThereIf (goes_on (word_of_op op) end) call op hand
+
+-- and behind a step just where this has not ended it
+abbrev pub IsLeft : CallId → Op → Option Outcome → Option InHand → Type 0
+IsLeft call op end hand = IsThereIf (is_none end) call op hand
 
 -- DOWN is said of a node that is not up
 abbrev pub SaysTrue : Op → Said → World → Type 0
@@ -85,14 +95,14 @@ SaysTrue op said w = Unit {0}
 
 -- the label that answers the beginning of a call: its beginning, or a word that leaves the calls in hand as they are
 abbrev pub AnswersBegin : ActorName → Op → World → World → Label → Type 0
-AnswersBegin a op old new (labels.Began call begun end) = (call.actor ≡ a) × (begun ≡ op) × GoesOnAt new call op end a
+AnswersBegin a op old new (labels.Began call begun end details) = (call.actor ≡ a) × (begun ≡ op) × GoesOn call op end (hand_at new.hands (stepped_as call (word_of_op op)))
 AnswersBegin a op old new (labels.Word who word said) = (who ≡ whos.Actor a) × (word ≡ linewords.Op (word_of_op op)) × (new.hands ≡ old.hands) × SaysTrue op said old
 AnswersBegin a op old new label = ⊥
 
--- the label that answers a step of the call in hand: its next step
-abbrev pub IsStepOf : ActorName → Option InHand → World → World → Label → Type 0
-IsStepOf a (Some h) old new (labels.Stepped call op verb k r reply end details) = (call ≡ h.call) × GoesOnAt new h.call h.op end a
-IsStepOf a hand old new label = ⊥
+-- the label that answers a step of the call in hand under a name: its next step
+abbrev pub IsStepOf : Who → Option InHand → World → World → Label → Type 0
+IsStepOf v (Some h) old new (labels.Stepped call op verb k r reply end details) = (call ≡ h.call) × IsLeft h.call h.op end (hand_at new.hands v)
+IsStepOf v hand old new label = ⊥
 
 -- the first word of the line that steps a call: `finish` to its end, else `step`
 abbrev pub step_word : Bool → LineWord
@@ -104,20 +114,14 @@ abbrev pub IsIdleWord : Who → Bool → World → World → Label → Type 0
 IsIdleWord whose finish old new (labels.Word who word said) = (who ≡ whose) × (word ≡ step_word finish) × (said ≡ Idle) × (new.hands ≡ old.hands)
 IsIdleWord whose finish old new label = ⊥
 
--- the label that answers a line which steps a call: IDLE where the actor has none in hand, else its next step
-abbrev pub AnswersStep : ActorName → Bool → Option InHand → World → World → Label → Type 0
-AnswersStep a finish None old new label = IsIdleWord (whos.Actor a) finish old new label
-AnswersStep a finish (Some h) old new label = IsStepOf a (Some h) old new label
+-- the label that answers a line which steps a call: IDLE where none is in hand under the name, else its next step
+abbrev pub AnswersStep : Who → Bool → Option InHand → World → World → Label → Type 0
+AnswersStep v finish None old new label = IsIdleWord v finish old new label
+AnswersStep v finish (Some h) old new label = IsStepOf v (Some h) old new label
 
--- no node copies yet
-abbrev pub hand_of_actor : World → ActorName → Option InHand
-hand_of_actor w (Client c) = hand_at w.hands c
-hand_of_actor w a = None
-
--- nor is there an asynchronous operation
+-- nothing is in hand under the name
 abbrev pub HasNothingToStep : Who → World → Type 0
-HasNothingToStep (whos.Actor a) w = hand_of_actor w a ≡ None
-HasNothingToStep (whos.Call call) w = Unit {0}
+HasNothingToStep v w = hand_at w.hands v ≡ None
 
 -- the label tells the replicas of this checkpoint
 abbrev pub IsShownOf : ℕ → Label → Type 0
@@ -138,17 +142,16 @@ IsPutOf k r label = ⊥
 abbrev pub Answers : Event → World → World → Label → Type 0
 Answers (happenings.Nodes n) old new label = (label ≡ labels.Nodes n) × (new.hands ≡ old.hands)
 Answers (happenings.Begin a op) old new label = AnswersBegin a op old new label
-Answers (happenings.Step (whos.Actor a) finish) old new label = AnswersStep a finish (hand_of_actor old a) old new label
-Answers (happenings.Step (whos.Call call) finish) old new label = IsIdleWord (whos.Call call) finish old new label
+Answers (happenings.Step who finish) old new label = AnswersStep who finish (hand_at old.hands who) old new label
 Answers (happenings.At t) old new label = (label ≡ labels.Moved t) × (new.hands ≡ old.hands)
 Answers (happenings.Show k) old new label = IsShownOf k label × (new.hands ≡ old.hands)
 Answers (happenings.Pull k) old new label = IsPulledOf k label × (new.hands ≡ old.hands)
 Answers (happenings.Put k r) old new label = IsPutOf k r label × (new.hands ≡ old.hands)
 
--- the calls of other clients are as they were
+-- the calls for which other clients wait are as they were
 abbrev pub KeepsOthers : Event → World → World → Type 0
-KeepsOthers (happenings.Begin (Client c) op) old new = (d : ℕ) → d ≢ c → hand_at new.hands d ≡ hand_at old.hands d
-KeepsOthers (happenings.Step (whos.Actor (Client c)) finish) old new = (d : ℕ) → d ≢ c → hand_at new.hands d ≡ hand_at old.hands d
+KeepsOthers (happenings.Begin (Client c) op) old new = (d : ℕ) → d ≢ c → hand_at new.hands (whos.Actor (Client d)) ≡ hand_at old.hands (whos.Actor (Client d))
+KeepsOthers (happenings.Step who finish) old new = (d : ℕ) → whos.Actor (Client d) ≢ who → hand_at new.hands (whos.Actor (Client d)) ≡ hand_at old.hands (whos.Actor (Client d))
 KeepsOthers event old new = Unit {0}
 
 -- the moment after an event; the first is the one before it

@@ -10,7 +10,7 @@ use Rattle.cluster_record.specs.LookUps.{creation_flags_of}
 use Rattle.cluster_record.specs.Makings.{making_undone}
 use Rattle.cluster_record.specs.RecordState.{RecordState, entry_of, swept}
 use Rattle.ckpt_types.specs.Asks.{asked, IsBuilt}
-use Rattle.ckpt_machine.specs.Tables.{handle_given, closing}
+use Rattle.ckpt_machine.specs.Tables.{handle_given, closing, registering}
 use Rattle.world_core.specs.declared.world.World.{World}
 use Rattle.world_core.specs.Freeing.{freed_world}
 use Rattle.world_core.specs.LiveRooms.{room_is_taken}
@@ -25,8 +25,9 @@ tables_given R c op (Some k) tables = at_client c (with_client (handle_given (as
 abbrev pub tables_closed : ℕ → Op → List TableState → List TableState
 tables_closed c op tables = at_client c (with_client (closing (asked op))) tables
 
--- R is the record after the step
+-- R is the record after the step; one that becomes live has registered its callbacks
 abbrev pub settled : RecordState → ℕ → Op → RecordStep → Option ℕ → List TableState → List TableState
+settled R c op events.Enter k tables = at_client c (with_client (registering (asked op))) tables
 settled R c op events.Open k tables = tables_given R c op k tables
 settled R c op events.Finish k tables = tables_given R c op k tables
 settled R c op events.Close k tables = tables_closed c op tables
@@ -52,8 +53,9 @@ pub record CanGive (c : ℕ) (op : Op) (tables : List TableState) : Type 0 where
   pub room : has_handle_room (kept_by tables c) ≡ true
   pub number : (kept_by tables c).last_number < 2 ^ 32 - 1
 
--- what a step asks of its client's table: only a step that gives a handle asks anything
+-- what a step asks of its client's table: one that becomes live has taken its room, and a step that gives a handle asks that it can
 abbrev pub CanSettle : ℕ → Op → RecordStep → List TableState → Type 0
+CanSettle c op events.Enter tables = room_is_taken (slice_get tables c) ≡ true
 CanSettle c op events.Open tables = CanGive c op tables
 CanSettle c op events.Finish tables = CanGive c op tables
 CanSettle c op step tables = Unit {0}

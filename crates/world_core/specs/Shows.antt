@@ -1,8 +1,11 @@
 -- How the world shows the machine's state.
-use Rattle.std.specs.Prelude.{◌≡◌, ℕ, ◌-◌, ◌^◌, ◌<◌, List, [], length, Option, Some, None, IsSomeAnd, true, ◌==◌, if◌then◌else◌, slice_get, slice_index}
+use Rattle.std.specs.Prelude.{◌≡◌, ℕ, ◌-◌, ◌^◌, ◌<◌, List, length, Option, Some, None, IsSomeAnd, true, ◌==◌, if◌then◌else◌, slice_get, slice_index}
 use Rattle.ckpt_types.specs.declared.identities.ActorName.{ActorName}
 use Rattle.ckpt_types.specs.declared.identities.ActorName.TheVariants.{Client, Node}
 use Rattle.ckpt_types.specs.declared.identities.CallId.{CallId}
+use Rattle.ckpt_types.specs.declared.identities.Who.{Who}
+use Rattle.call_dispatch.specs.PendingCalls.{PendingCalls, no_pending}
+use Rattle.world_core.specs.HandsState.{HandsState, hand_at}
 use Rattle.ckpt_types.specs.declared.attributes.CreationAttributes.{CreationAttributes}
 use Rattle.run_labels.specs.declared.labels.Label.{Label}
 use Rattle.client_handles.specs.ClientState.{ClientState}
@@ -14,9 +17,8 @@ use Rattle.snap_copy.specs.Snapshots.{Snapshot}
 use Rattle.stage_slot.specs.Slots.{Slot}
 use Rattle.weak_marks.specs.Marks.{Marked}
 use Rattle.world_core.specs.declared.world.World.{World}
-use Rattle.cluster_record.specs.Places.{or_none}
 use Rattle.cluster_record.specs.RecordState.{RecordState, entry_of, complete_of}
-use Rattle.world_core.specs.TableState.{TableState, next_in, kept_by}
+use Rattle.world_core.specs.TableState.{TableState, next_in, kept_by, pending_by}
 use Rattle.world_core.specs.declared.snapshots.Background.{Background}
 use Rattle.world_core.specs.Backgrounds.{pulled_in, HaveRooms}
 use Rattle.world_core.specs.Nodes.{replica_in}
@@ -46,11 +48,11 @@ pub record History : Type 0 where
   pub origins : ℕ → ℕ → CallId
   -- by checkpoint, for its snapshot
   pub copied : ℕ → List Effect
-  -- by actor, for its call in hand
-  pub beginnings : ActorName → Beginning
-  pub steps : ActorName → List StepDone
-  pub created : ActorName → Option (List ℕ)
-  pub pulled : ActorName → Option (List Effect)
+  -- by the name under which a call is in hand
+  pub beginnings : Who → Beginning
+  pub steps : Who → List StepDone
+  pub created : Who → Option (List ℕ)
+  pub pulled : Who → Option (List Effect)
 
 -- ---- the replicas
 
@@ -104,16 +106,17 @@ abbrev pub tables_of : List TableState → ActorName → ClientState
 tables_of tables (Client c) = kept_by tables c
 tables_of tables (Node r) = no_tables
 
+-- the asynchronous calls of an actor that are not dispatched; a node has none
+abbrev pub pending_of : List TableState → ActorName → PendingCalls
+pending_of tables (Client c) = pending_by tables c
+pending_of tables (Node r) = no_pending
+
 -- the number of an actor's next call; no node has begun one yet
 abbrev pub next_of : List TableState → ActorName → ℕ
 next_of tables (Client c) = next_in (slice_get tables c)
 next_of tables (Node r) = 1
 
 -- ---- the calls in hand
-
--- the call that a client has in hand, if it has one
-abbrev pub hand_at : List (Option InHand) → ℕ → Option InHand
-hand_at hands c = or_none (slice_get hands c)
 
 -- the snapshot in a hand, once something was pulled into its room
 abbrev pub shown_copy : Option (List Effect) → Option Snapshot → Option snapshots.Snapshot
@@ -125,10 +128,9 @@ abbrev pub shown_hand : Beginning → List StepDone → Option (List ℕ) → Op
 shown_hand began steps created pulled None = None
 shown_hand began steps created pulled (Some h) = Some (record { call = h.call; op = h.op; kept = began.kept; begun = began.driver; steps = steps; created = created; snapshot = shown_copy pulled h.snapshot })
 
--- the call that an actor has in hand, as the machine has it; no node has one yet
-abbrev pub hand_of : History → List (Option InHand) → ActorName → Option CallState
-hand_of h hands (Client c) = shown_hand (h.beginnings (Client c)) (h.steps (Client c)) (h.created (Client c)) (h.pulled (Client c)) (hand_at hands c)
-hand_of h hands (Node r) = None
+-- the call in hand under a name, as the machine has it
+abbrev pub hand_of : History → HandsState → Who → Option CallState
+hand_of h hands v = shown_hand (h.beginnings v) (h.steps v) (h.created v) (h.pulled v) (hand_at hands v)
 
 -- ---- the machine's state, as the world shows it with a history
 
@@ -140,10 +142,9 @@ machine_of w h = record {
   reserved = reserved_in w.cluster w.nodes;
   snapshots = λ k. snapshot_shown w.cluster w.snapshots k (h.copied k);
   tables = tables_of w.tables;
-  pending = λ a. [];
+  pending = pending_of w.tables;
   next = next_of w.tables;
   in_hand = hand_of h w.hands;
-  operations = λ call. None;
 }
 
 -- the replica has the attributes of its checkpoint, where the checkpoint is there
@@ -192,7 +193,7 @@ FitsHand began steps pulled (Some h) = IsWhereLed began steps pulled h
 pub record HistoryFits (w : World) (h : History) : Type 0 where
   pub replicas : (k r : ℕ) → FitsReplica k (entry_of k w.cluster.entries) (h.effects k r) (complete_replica w.cluster w.nodes k r)
   pub copies : (k : ℕ) → FitsSnapshot (h.copied k) (pulled_in w.snapshots k)
-  pub hands : (c : ℕ) → FitsHand (h.beginnings (Client c)) (h.steps (Client c)) (h.pulled (Client c)) (hand_at w.hands c)
+  pub hands : (v : Who) → FitsHand (h.beginnings v) (h.steps v) (h.pulled v) (hand_at w.hands v)
 
 -- the machine's state is the world's, with some history that fits; the nodes have no other replicas, and the checkpoints have the room for their snapshots, and the live clients theirs
 pub record Shows (w : World) (m : Machine) : Type 0 where

@@ -1,30 +1,49 @@
 //! What a call answers at its beginning.
-ghost use Rattle.std.specs.Prelude.{◌≡◌, None, false, not, if◌then◌else◌, pos, int_lt};
+ghost use Rattle.std.specs.Prelude.{◌≡◌, ℕ, ◌<◌, Bool, None, false, not, if◌then◌else◌, pos, int_lt};
 ghost use Rattle.ckpt_types.specs.declared.ais_error.AisError.TheVariants as errors;
 ghost use Rattle.ckpt_types.specs.Attributes.{has_flag, has_bad_open_flags, is_malformed};
 ghost use Rattle.ckpt_types.specs.Asks.{asked, takes_room};
-ghost use Rattle.ckpt_machine.specs.Beginning.{refused, if_live, version_is_bad, name_is_bad, attributes_are_bad, open_begin, vector_is_bad, update_is_bad, on_handle, may_write, may_read, may_always, choice_is_bad, end_iteration, update_begin, are_of_all, are_not_collocated, sync_begin, begin_end};
+ghost use Rattle.ckpt_machine.specs.Beginning.{refused, if_live, version_is_bad, name_is_bad, attributes_are_bad, open_begin, vector_is_bad, update_is_bad, on_handle, may_write, may_read, may_always, choice_is_bad, end_iteration, update_begin, are_of_all, are_not_collocated, timeout_is_bad, if_registered, goes_on_alone, sync_alone, dispatch_begin, sync_begin, begin_end};
+ghost use Rattle.std.specs.Option.{option_or};
+ghost use Rattle.ckpt_types.specs.Limits.{client_numbers};
+ghost use Rattle.call_dispatch.specs.PendingCalls.{PendingCalls, given_answer};
+ghost use Rattle.world_core.specs.Standings.{standing_in};
 ghost use Rattle.ckpt_machine.specs.Tables.{ckpt_of_handle, choice_of};
 ghost use Rattle.world_core.specs.IterationPlaces.{gone_on_place};
 
+use crate::tables::Tables;
 use ckpt_types::{
     AisError, Answer, Bytes, CHECKPOINT_COLLOCATED, CHECKPOINT_CREATE, Cause, Choice, CkptId,
-    CreationAttributes, MAJOR_MAX, MAJOR_MIN, Moment, NAME_MAX, OPEN_FLAGS_ALL, Op, Outcome,
-    RELEASE, SECTIONS_ANY, Update, VECTOR_MAX, Version, WR_ALL_REPLICAS,
+    CreationAttributes, Given, MAJOR_MAX, MAJOR_MIN, Moment, NAME_MAX, OPEN_FLAGS_ALL, Op, Outcome,
+    PENDING_MAX, RELEASE, SECTIONS_ANY, Update, VECTOR_MAX, Version, WR_ALL_REPLICAS,
 };
 use client_handles::HandleView;
 
-/// What a call answers at once, where its client is live or not, and its place stands for this handle; nothing
+/// What a call of a client answers at once, where this is live or not, and its place stands for this handle; nothing
 /// where the call goes on.
-pub fn begin_end(live: bool, handle: &Option<HandleView>, op: &Op) -> Option<Outcome>
-    ensures { result ≡ begin_end live handle.now (asked op.now) }
+pub(crate) fn begin_end(
+    live: bool,
+    handle: &Option<HandleView>,
+    op: &Op,
+    tables: &Tables,
+    c: u8,
+) -> Option<Outcome>
+    requires { c < client_numbers }
+    ensures { result ≡ begin_end (standing_in live handle.now c tables.now) (asked op.now) }
 {
     match op {
         Op::Client(_, version, _) => client_begin(version),
         Op::Open(_, name, flags, timeout, attributes) => {
             if_live(
                 live,
-                open_begin(name.value(), *flags, *timeout, attributes.value()),
+                open_begin(name.value(), *flags, Some(*timeout), attributes.value()),
+            )
+        }
+        Op::OpenAsync(_, _, name, flags, attributes) => {
+            let refusal = open_begin(name.value(), *flags, None, attributes.value());
+            if_live(
+                live,
+                alone(tables.callbacks(c).opens, refusal, tables.pending_count(c)),
             )
         }
         Op::Create(_, update)
@@ -42,8 +61,10 @@ pub fn begin_end(live: bool, handle: &Option<HandleView>, op: &Op) -> Option<Out
         Op::Retain(_, duration) => if_live(live, retain_begin(handle, *duration)),
         Op::Unlink(_) | Op::Finalize => if_live(live, None),
         Op::Sync(_, timeout) => if_live(live, synchronize_begin(handle, *timeout)),
+        Op::SyncAsync(_, _) => if_live(live, sync_alone(handle, tables, c)),
         Op::Active(_) => if_live(live, set_active_begin(handle)),
-        _ => None,
+        Op::Dispatch(flags) => if_live(live, dispatch_begin(tables.given(c, *flags))),
+        Op::Copy => None,
     }
 }
 
@@ -55,6 +76,46 @@ fn if_live(live: bool, answer: Option<Outcome>) -> Option<Outcome>
         answer
     } else {
         refused(AisError::BadHandle)
+    }
+}
+
+// An asynchronous call whose callback is registered goes on by itself where no refusal comes first, and fewer than may be
+// are not dispatched.
+fn alone(registered: bool, refusal: Option<Outcome>, pending: usize) -> Option<Outcome>
+    ensures { result ≡ if_registered registered (option_or refusal (goes_on_alone pending)) }
+{
+    if !registered {
+        return refused(AisError::Init);
+    }
+    if refusal.is_some() {
+        return refusal;
+    }
+    if pending >= PENDING_MAX {
+        let count = PENDING_MAX as u32;
+        return Some(Outcome::Refused(AisError::NoResources, Cause::Count(count)));
+    }
+    Some(Outcome::Done(Answer::Nothing))
+}
+
+// A synchronisation that goes on by itself.
+fn sync_alone(handle: &Option<HandleView>, tables: &Tables, c: u8) -> Option<Outcome>
+    requires { c < client_numbers }
+    ensures { (live : Bool) → result ≡ sync_alone (standing_in live handle.now c tables.now) handle.now }
+{
+    if handle.is_none() {
+        return refused(AisError::BadHandle);
+    }
+    let refusal = synchronize_begin(handle, 0);
+    alone(tables.callbacks(c).syncs, refusal, tables.pending_count(c))
+}
+
+// A dispatch answers what it gives and leaves.
+fn dispatch_begin(given: Result<Given, AisError>) -> Option<Outcome>
+    ensures { (flags : ℕ) → (p : PendingCalls) → given ≡ given_answer flags p → result ≡ dispatch_begin flags p }
+{
+    match given {
+        Ok(given) => Some(Outcome::Done(Answer::Dispatched(given))),
+        Err(error) => refused(error),
     }
 }
 
@@ -73,7 +134,7 @@ pub fn takes_room(op: &Op) -> bool
     ensures { result ≡ takes_room (asked op.now) }
 {
     match op {
-        Op::Iter(_, _, _, _) | Op::Sync(_, _) | Op::Active(_) => true,
+        Op::Iter(_, _, _, _) | Op::Sync(_, _) | Op::SyncAsync(_, _) | Op::Active(_) => true,
         _ => false,
     }
 }
@@ -125,17 +186,29 @@ fn version_is_bad(version: &Version) -> bool
 fn open_begin(
     name: &Bytes,
     flags: u32,
-    timeout: Moment,
+    timeout: Option<Moment>,
     attributes: &Option<CreationAttributes>,
 ) -> Option<Outcome>
     ensures { result ≡ open_begin name.now flags timeout attributes.now }
 {
     if has_bad_open_flags(flags) {
         refused(AisError::BadFlags)
-    } else if name_is_bad(name) || timeout < 0 || attributes_are_bad(flags, attributes) {
+    } else if name_is_bad(name)
+        || timeout_is_bad(timeout)
+        || attributes_are_bad(flags, attributes)
+    {
         refused(AisError::InvalidParam)
     } else {
         None
+    }
+}
+
+fn timeout_is_bad(timeout: Option<Moment>) -> bool
+    ensures { result ≡ timeout_is_bad timeout }
+{
+    match timeout {
+        None => false,
+        Some(timeout) => timeout < 0,
     }
 }
 

@@ -1,5 +1,14 @@
 //! The events by which the nodes come up and a call begins.
-ghost use Rattle.std.specs.Prelude.{◌≡◌, ◌<◌, ◌≤◌, None, Some, IfOk, IsSome, OnOk, OnErr};
+ghost use Rattle.ckpt_types.specs.declared.answers.Answer.TheVariants as answers;
+ghost use Rattle.ckpt_types.specs.declared.answers.Outcome.TheVariants as outcomes;
+ghost use Rattle.node_msgs.specs.declared.details.Details.TheVariants as beside;
+ghost use Rattle.ckpt_types.specs.OpWord.{is_async, word_of_op};
+ghost use Rattle.call_dispatch.specs.PendingCalls.{callback_of, given_by};
+ghost use Rattle.world_core.specs.TableState.{at_client, begun_with, next_in, pending_by, CanBegin};
+ghost use Rattle.world_core.specs.Answering.{IsAnsweredAtOnce};
+ghost use Rattle.world_core.specs.Begun.{IsPutAlone};
+ghost use Rattle.world_core.specs.HandsState.{hand_at};
+ghost use Rattle.std.specs.Prelude.{◌≡◌, ◌<◌, ◌≤◌, None, Some, IfOk, IsSome, OnOk, OnErr, ◌-◌, ◌^◌, ◌++◌, ◌∷◌, [], IfSome, IsTrue, map, slice_get, true};
 ghost use Rattle.ckpt_types.specs.declared.identities.ActorName.TheVariants.{Client};
 ghost use Rattle.ckpt_types.specs.declared.identities.Who.TheVariants.{Actor};
 ghost use Rattle.ckpt_types.specs.Limits.{client_numbers, nodes_max};
@@ -12,17 +21,18 @@ ghost use Rattle.ckpt_machine.specs.Driving.{driver_start};
 ghost use Rattle.ckpt_machine.specs.Steps.{MayBegin, IsBeginEnd, kept_at_beginning, declared_at, room_at};
 ghost use Rattle.ckpt_machine.specs.Tables.{ckpt_of_handle};
 ghost use Rattle.world_core.specs.HandRooms.{room_for, copy_room_for};
-ghost use Rattle.world_core.specs.Shows.{IsShown, HasNumbersLeft, hand_at};
+ghost use Rattle.world_core.specs.Shows.{IsShown, HasNumbersLeft};
 ghost use Rattle.world_core.specs.Happenings.{Adds, BringsUp, Begins};
 
 use crate::beginning::{begin_end, ckpt_of_handle, takes_room};
 use crate::drivers::Driver;
 use crate::hand_rooms::HandRooms;
-use crate::hands::InHand;
+use crate::hands::{Hands, InHand};
 use crate::world::World;
-use ckpt_types::{ActorName, CallId, Op, Outcome, Who};
+use ckpt_types::{ActorName, Answer, Apart, CallId, Op, Outcome, Vector, Who};
 use client_handles::HandleView;
 use cluster_record::Record;
+use node_msgs::Details;
 use run_labels::{Label, LineWord, OpWord, RunLog, Said};
 use std::alloc::{AllocError, Global};
 
@@ -56,7 +66,7 @@ impl World {
         ensures ok { OnOk result (Adds log.old log.new (Begins c op self.old self.new)) }
         ensures err { OnErr result ((self.new ≡ self.old) × (log.new.labels ≡ log.old.labels)) }
     {
-        if self.in_hand(c) {
+        if self.in_hand(Who::Actor(ActorName::Client(c))) {
             log.push(said(c, OpWord::of(&op), Said::Busy));
             return Ok(());
         }
@@ -82,7 +92,7 @@ impl World {
     ) -> Result<(), AllocError>
         requires client { c < client_numbers }
         requires built { IsBuilt op }
-        requires none { hand_at self.old.hands c ≡ None }
+        requires none { hand_at self.old.hands (Actor (Client c)) ≡ None }
         requires may { MayBegin self.old.cluster c (asked op) }
         requires shown { IsShown self.old }
         requires roomy { HasNumbersLeft self.old }
@@ -90,33 +100,183 @@ impl World {
         ensures ok { OnOk result (Adds log.old log.new (Begins c op self.old self.new)) }
         ensures err { OnErr result ((self.new ≡ self.old) × (log.new.labels ≡ log.old.labels)) }
     {
-        let slot = self.hands.at(c);
         let call = CallId {
             actor: ActorName::Client(c),
             number: self.tables.number(c),
         };
         let handle = self.tables.handle_asked(c, &op);
-        let due = begin_end(self.cluster.is_live_client(c), &handle, &op);
+        let live = self.cluster.is_live_client(c);
+        let due = begin_end(live, &handle, &op, &self.tables, c);
         let (end, rooms) = take_room(alloc, &op, &self.cluster, &handle, due);
-        if end.is_some() {
-            self.tables.begin(c, &op, &end);
-            log.push(Label::Began { call, op, end });
-            return Ok(());
+        if let Some(end) = end {
+            return self.begin_answered(alloc, c, call, op, &handle, end, log);
         }
+        let slot = self.hands.at_client(c);
         let hand = in_hand(call, &op, &handle, &self.cluster, rooms)?;
-        self.tables.begin(c, &op, &None);
+        self.tables.begin(c, call, &op, &handle, &None);
         *slot = Some(hand);
         log.push(Label::Began {
             call,
             op,
             end: None,
+            details: Details::Nothing,
         });
         Ok(())
     }
+
+    // A call that is answered at its beginning: it is refused or lacks its memory, or it is done: then an iteration ends, a
+    // dispatch gives callbacks, or an asynchronous call goes on by itself.
+    #[inline(never)]
+    fn begin_answered(
+        &mut self,
+        alloc: Global,
+        c: u8,
+        call: CallId,
+        op: Op,
+        handle: &Option<HandleView>,
+        end: Outcome,
+        log: &mut RunLog,
+    ) -> Result<(), AllocError>
+        requires begins { IsAnsweredAtOnce self.old c call op handle.now end }
+        requires shown { IsShown self.old }
+        requires roomy { HasNumbersLeft self.old }
+        requires spare { 1 ≤ log.old.spare }
+        ensures ok { OnOk result (Adds log.old log.new (Begins c op self.old self.new)) }
+        ensures err { OnErr result ((self.new ≡ self.old) × (log.new.labels ≡ log.old.labels)) }
+    {
+        let Outcome::Done(answer) = end else {
+            self.begin_ended(c, call, op, handle, end, Details::Nothing, log);
+            return Ok(());
+        };
+        match &op {
+            Op::OpenAsync(..) | Op::SyncAsync(..) => {
+                self.begin_alone(alloc, c, call, op, handle, log);
+                Ok(())
+            }
+            Op::Dispatch(flags) => {
+                let details = self.callbacks_told(alloc, c, *flags)?;
+                self.begin_ended(c, call, op, handle, end, details, log);
+                Ok(())
+            }
+            _ => {
+                self.begin_ended(c, call, op, handle, end, Details::Nothing, log);
+                Ok(())
+            }
+        }
+    }
+
+    // A call begins, and is answered by that.
+    fn begin_ended(
+        &mut self,
+        c: u8,
+        call: CallId,
+        op: Op,
+        handle: &Option<HandleView>,
+        end: Outcome,
+        details: Details,
+        log: &mut RunLog,
+    )
+        requires client { c < client_numbers }
+        requires number { next_in (slice_get self.old.tables c) < 2 ^ 32 - 1 }
+        requires can { IfSome (slice_get self.old.tables c) (CanBegin (Some end) call op) }
+        requires spare { 1 ≤ log.old.spare }
+        ensures world { self.new ≡ record self.old { tables = at_client c (begun_with (Some end) call op handle.now) self.old.tables } }
+        ensures label { log.new.labels ≡ log.old.labels ++ labels.Began call op (Some end) details ∷ [] }
+    {
+        let end = Some(end);
+        self.tables.begin(c, call, &op, handle, &end);
+        log.push(Label::Began {
+            call,
+            op,
+            end,
+            details,
+        });
+    }
+
+    // An asynchronous call goes on by itself; where the memory for that is refused, it ends.
+    fn begin_alone(
+        &mut self,
+        alloc: Global,
+        c: u8,
+        call: CallId,
+        op: Op,
+        handle: &Option<HandleView>,
+        log: &mut RunLog,
+    )
+        requires begins { IsAnsweredAtOnce self.old c call op handle.now (outcomes.Done answers.Nothing) }
+        requires alone { is_async (word_of_op op) ≡ true }
+        requires shown { IsShown self.old }
+        requires roomy { HasNumbersLeft self.old }
+        requires spare { 1 ≤ log.old.spare }
+        ensures { Adds log.old log.new (Begins c op self.old self.new) }
+    {
+        let Ok(()) = put_alone(alloc, &mut self.hands, call, &op, handle, &self.cluster) else {
+            self.begin_ended(
+                c,
+                call,
+                op,
+                handle,
+                Outcome::NoMemory,
+                Details::Nothing,
+                log,
+            );
+            return;
+        };
+        let end = Outcome::Done(Answer::Nothing);
+        self.begin_ended(c, call, op, handle, end, Details::Nothing, log);
+    }
+
+    // The callbacks that a dispatch of a client gives.
+    fn callbacks_told(&self, alloc: Global, c: u8, flags: u32) -> Result<Details, AllocError>
+        requires client { c < client_numbers }
+        ensures { IfOk result (λ details. details ≡ beside.Callbacks (map callback_of (given_by flags (pending_by self.now.tables c)))) }
+    {
+        let count = match self.tables.given(c, flags) {
+            Ok(given) => given.given as usize,
+            Err(_) => 0,
+        };
+        let callbacks = self.tables.callbacks_given(alloc, c, count)?;
+        Ok(Details::Callbacks(Apart::new(alloc, Vector::from_vec(callbacks))?))
+    }
+}
+
+// An asynchronous call is in hand under its own name, with the room that it takes.
+fn put_alone(
+    alloc: Global,
+    hands: &mut Hands,
+    call: CallId,
+    op: &Op,
+    handle: &Option<HandleView>,
+    cluster: &Record,
+) -> Result<(), AllocError>
+    requires goes_on { IsSome (driver_start call (asked op.now) (kept_at_beginning cluster.now (client_of call) handle.now)) }
+    ensures ok { OnOk result (IsPutAlone call op.now (kept_at_beginning cluster.now (client_of call) handle.now) hands.old hands.new) }
+    ensures err { OnErr result (hands.new ≡ hands.old) }
+{
+    let rooms = rooms_of(alloc, op, cluster, handle)?;
+    let hand = in_hand(call, op, handle, cluster, rooms)?;
+    hands.add(hand)
+}
+
+// The room that an asynchronous call takes.
+fn rooms_of(
+    alloc: Global,
+    op: &Op,
+    cluster: &Record,
+    handle: &Option<HandleView>,
+) -> Result<HandRooms, AllocError>
+    ensures iteration { IfOk result (λ rooms. rooms.iteration ≡ room_for (asked op.now) (room_at cluster.now (ckpt_of_handle handle.now))) }
+    ensures snapshot { IfOk result (λ rooms. rooms.snapshot ≡ copy_room_for (asked op.now) (declared_at cluster.now (ckpt_of_handle handle.now))) }
+{
+    if !takes_room(op) {
+        return Ok(HandRooms::none());
+    }
+    HandRooms::reserve(alloc, op, cluster, ckpt_of_handle(handle))
 }
 
 // An operation that starts an iteration, or copies what the active has, takes the room for it where it goes on; where
 // the memory is refused, it ends.
+#[inline(always)]
 fn take_room(
     alloc: Global,
     op: &Op,
@@ -144,6 +304,7 @@ fn said(c: u8, op: OpWord, said: Said) -> Label
 }
 
 // A call that goes on, as it is in hand from its beginning.
+#[inline(always)]
 fn in_hand(
     call: CallId,
     op: &Op,

@@ -1,4 +1,5 @@
 //! What drives a call: what it does next, and how it ends.
+ghost use Rattle.cluster_record.specs.Makings.{makings_of};
 ghost use Rattle.std.specs.Prelude.{◌≡◌, ℕ, ◌-◌, ◌^◌, ◌<◌, Some, IfOk, IsSome};
 ghost use Rattle.ckpt_types.specs.Limits.{client_numbers, nodes_max};
 ghost use Rattle.node_msgs.specs.Requests.{ckpt_of};
@@ -91,6 +92,7 @@ impl Driver {
 
     /// The driver of a call that begins now and goes on, on this handle if it names one that is there. The two share
     /// the operation's name, if it has one.
+    #[inline(always)]
     pub fn start(
         call: CallId,
         op: &Op,
@@ -106,6 +108,10 @@ impl Driver {
                 let ask = open_ask(name, attributes, number_of(&call.actor), cluster)?;
                 let deadline = cluster.moment_after(*timeout);
                 Ok(Driver::by(DriverKind::Open(OpenCall::begin(call, ask, Some(deadline)))))
+            }
+            Op::OpenAsync(_, _, name, _, attributes) => {
+                let ask = open_ask(name, attributes, number_of(&call.actor), cluster)?;
+                Ok(Driver::by(DriverKind::Open(OpenCall::begin(call, ask, None))))
             }
             Op::Create(_, update)
             | Op::Delete(_, update)
@@ -130,6 +136,9 @@ impl Driver {
                 let deadline = cluster.moment_after(*timeout);
                 let kind = SyncKind::Synchronize(Some(deadline));
                 Ok(sync_start(call, kind, ckpt_of_handle(handle)))
+            }
+            Op::SyncAsync(_, _) => {
+                Ok(sync_start(call, SyncKind::Synchronize(None), ckpt_of_handle(handle)))
             }
             Op::Active(_) => {
                 let node = node_of(cluster, number_of(&call.actor));
@@ -161,13 +170,16 @@ impl Driver {
     }
 
     /// What the call does next, by the record and by what its client's tables have a free place for.
+    #[inline(always)]
     pub fn next(&self, cluster: &Record, tables: &Tables, c: u8) -> Next
         requires { c < client_numbers }
-        ensures { result ≡ driver_next cluster.now (rooms_in (kept_by tables.now c)) self.now }
+        ensures { result ≡ driver_next cluster.now (rooms_in (makings_of c cluster.now.entries) (kept_by tables.now c)) self.now }
     {
         match &self.kind {
             DriverKind::Once(step) => step.next(cluster),
-            DriverKind::Open(open_call) => open_call.next(cluster, tables.has_room(c)),
+            DriverKind::Open(open_call) => {
+                open_call.next(cluster, tables.has_place(c, cluster.makings(c)))
+            }
             DriverKind::Update(update) => update.next(cluster),
             DriverKind::Active(active) => active.next(cluster, tables.has_iteration_room(c)),
             DriverKind::Sync(sync) => sync.next(cluster),

@@ -1,5 +1,5 @@
 //! The calls in hand.
-ghost use Rattle.std.specs.Prelude.{◌≡◌, ◌<◌, length, replicate, Some, None, is_some, IfOk, IfSome, IsSome, IsSomeAnd, MatchOption};
+ghost use Rattle.std.specs.Prelude.{◌≡◌, ◌<◌, length, replicate, Some, None, is_some, [], IfNone, IfOk, IfSome, OnOk, OnErr, slice_get, IsSome, IsSomeAnd, MatchOption};
 ghost use Rattle.std.specs.Borrow.{sem};
 ghost use Rattle.std.specs.Option.{option_and_then, option_map};
 ghost use Rattle.ckpt_types.specs.OpWord.{word_of_op};
@@ -18,12 +18,22 @@ ghost use Rattle.weak_marks.specs.Marks.{call_of};
 ghost use Rattle.world_core.specs.HandLending.{LendsHand};
 ghost use Rattle.world_core.specs.Leading.{synchronized_by};
 ghost use Rattle.world_core.specs.Nodes.{replica_in};
-ghost use Rattle.world_core.specs.Shows.{hand_at};
+ghost use Rattle.ckpt_types.specs.declared.identities.ActorName.TheVariants.{Client};
+ghost use Rattle.ckpt_types.specs.declared.identities.Who.TheVariants.{Actor};
+ghost use Rattle.call_dispatch.specs.PendingCalls.{find_async};
+ghost use Rattle.cluster_record.specs.Calls.{same_actor};
+ghost use Rattle.cluster_record.specs.Places.{or_none};
+ghost use Rattle.ckpt_machine.specs.Steps.{goes_with, is_over};
+ghost use Rattle.ckpt_machine.specs.Whose.{is_of};
+ghost use Rattle.world_core.specs.HandsState.{client_by, found_alone, hand_at, has_call, has_other, meets, with_alone, without_call, without_those, IsPlaceOf};
 
 use crate::drivers::Driver;
 use crate::nodes::Nodes;
-use ckpt_types::{CLIENT_NUMBERS, CallId, CkptId, Held, NodeId, Op, Outcome};
-use cluster_record::Record;
+use call_dispatch::Pending;
+use ckpt_types::{
+    ActorName, AsyncKind, CLIENT_NUMBERS, CallId, CkptId, Held, NodeId, Op, Outcome, Who,
+};
+use cluster_record::{Record, number_of};
 use node_msgs::{RecordStep, Reply, Request, StepReply};
 use run_labels::OpWord;
 use section_iter::Iteration;
@@ -46,22 +56,23 @@ pub struct InHand {
     pub snapshot: Option<Snap>,
 }
 
-/// The call in hand of each client, c0 to c99.
+/// The call in hand of each client, c0 to c99, and the asynchronous calls that go on by themselves.
 #[derive(Drop)]
 pub struct Hands {
     /// By client, a place for each.
-    list: Vec<Option<InHand>>,
+    clients: Vec<Option<InHand>>,
+    /// The asynchronous calls, in the order of their beginning.
+    alone: Vec<Option<InHand>>,
 }
 
 impl Model for Hands {
-    ghost use Rattle.std.specs.Prelude.{List, Option};
-    ghost use Rattle.world_core.specs.declared.hands.InHand.{InHand};
+    ghost use Rattle.world_core.specs.HandsState.{HandsState};
 
-    ghost Value = { List (Option InHand) };
+    ghost Value = { HandsState };
 
-    ghost use Rattle.world_core.specs.HandsView.{HasEachPlace};
+    ghost use Rattle.world_core.specs.HandsView.{hands_shown, HasEachPlace};
 
-    ghost view = { λ hands. hands.list.items };
+    ghost view = { hands_shown };
 
     ghost invariant = { HasEachPlace };
 }
@@ -166,36 +177,159 @@ impl InHand {
 impl Hands {
     /// No call is in hand. The places of all clients are there from here on.
     pub fn new(alloc: Global) -> Result<Hands, AllocError>
-        ensures { IfOk result (λ hands. hands ≡ replicate client_numbers None) }
+        ensures clients { IfOk result (λ hands. hands.clients ≡ replicate client_numbers None) }
+        ensures alone { IfOk result (λ hands. hands.alone ≡ []) }
     {
         Ok(Hands {
-            list: new_places(alloc)?,
+            clients: new_places(alloc)?,
+            alone: Vec::new(alloc),
         })
     }
 
-    /// The call in hand of a client.
-    pub fn find(&self, c: u8) -> Option<&InHand>
-        ensures { MatchOption result (hand_at self.now c ≡ None) (λ hand. hand_at self.now c ≡ Some hand.now) }
+    /// The call in hand under a name.
+    #[inline(always)]
+    pub fn find(&self, who: Who) -> Option<&InHand>
+        ensures { MatchOption result (hand_at self.now who ≡ None) (λ hand. hand_at self.now who ≡ Some hand.now) }
     {
-        find(self.list.as_slice(), c as usize)
+        match who {
+            Who::Actor(ActorName::Client(c)) => find(self.clients.as_slice(), c as usize),
+            Who::Actor(ActorName::Node(_)) => None,
+            Who::Call(call) => find_alone(self.alone.as_slice(), call),
+        }
     }
 
-    /// Whether a client has a call in hand.
-    pub fn has(&self, c: u8) -> bool
-        ensures { result ≡ is_some (hand_at self.now c) }
+    /// Whether a call is in hand under a name.
+    pub fn has(&self, who: Who) -> bool
+        ensures { result ≡ is_some (hand_at self.now who) }
     {
-        self.find(c).is_some()
+        self.find(who).is_some()
     }
 
     /// The place of a client, for its call in hand.
     #[inline(always)]
-    pub fn at(&mut self, c: u8) -> &mut Option<InHand>
+    pub fn at_client(&mut self, c: u8) -> &mut Option<InHand>
         requires { c < client_numbers }
-        ensures* lends { sem 𝓛 (LendsHand self.entry c result) }
-        ensures value { hand_at self.old c ≡ result.now }
-        ensures there { c < length self.old }
+        ensures* lends { sem 𝓛 (LendsHand self.entry (Actor (Client c)) result) }
+        ensures value { hand_at self.old (Actor (Client c)) ≡ result.now }
+        ensures there { c < length self.old.clients }
     {
-        &mut self.list[c as usize]
+        &mut self.clients[c as usize]
+    }
+
+    /// The place of a call that is in hand.
+    #[inline(always)]
+    pub fn at(&mut self, who: Who) -> &mut Option<InHand>
+        requires { IsSome (hand_at self.old who) }
+        ensures* lends { sem 𝓛 (LendsHand self.entry who result) }
+        ensures value { hand_at self.old who ≡ result.now }
+    {
+        match who {
+            Who::Actor(ActorName::Client(c)) => &mut self.clients[c as usize],
+            Who::Actor(ActorName::Node(_)) => unreachable!(),
+            Who::Call(call) => {
+                let Some(place) = place_alone(self.alone.as_slice(), call) else {
+                    unreachable!()
+                };
+                &mut self.alone[place]
+            }
+        }
+    }
+
+    /// An asynchronous call goes on by itself.
+    pub fn add(&mut self, hand: InHand) -> Result<(), AllocError>
+        ensures ok { OnOk result (self.new ≡ with_alone hand self.old) }
+        ensures err { OnErr result (self.new ≡ self.old) }
+    {
+        self.alone.push(Some(hand))?;
+        Ok(())
+    }
+
+    /// An asynchronous call is in hand no more.
+    pub fn forget(&mut self, call: CallId)
+        ensures { self.new ≡ without_call call self.old }
+    {
+        self.alone.retain(|place| has_other(place, call));
+    }
+
+    /// All asynchronous calls of a client are in hand no more.
+    pub fn forget_of(&mut self, c: u8)
+        ensures { self.new ≡ without_those (λ v. is_of (Client c) v) self.old }
+    {
+        self.alone.retain(|place| !is_of(place, c));
+    }
+
+    /// The asynchronous synchronisations of a client over a handle that is closed, if one is, are in hand no more.
+    pub fn forget_over(&mut self, c: u8, handle: Option<u32>, pending: &Pending)
+        ensures { self.new ≡ without_those (λ v. goes_with handle (Client c) pending.now v) self.old }
+    {
+        self.alone
+            .retain(|place| !goes_with(place, c, handle, pending));
+    }
+}
+
+// Whether a place has this call.
+fn has_call(place: &Option<InHand>, call: CallId) -> bool
+    ensures { result ≡ has_call call place.now }
+{
+    match place {
+        None => false,
+        Some(hand) => hand.call == call,
+    }
+}
+
+// Whether a place has another call.
+fn has_other(place: &Option<InHand>, call: CallId) -> bool
+    ensures { result ≡ has_other call place.now }
+{
+    match place {
+        None => false,
+        Some(hand) => hand.call != call,
+    }
+}
+
+// Whether a place has a call of this client.
+fn is_of(place: &Option<InHand>, c: u8) -> bool
+    ensures { result ≡ meets (λ v. is_of (Client c) v) place.now }
+{
+    match place {
+        None => false,
+        Some(hand) => is_client(hand.call.actor, c),
+    }
+}
+
+// Whether a place has an asynchronous synchronisation of this client over the handle that is closed, if one is.
+fn goes_with(place: &Option<InHand>, c: u8, handle: Option<u32>, pending: &Pending) -> bool
+    ensures { result ≡ meets (λ v. goes_with handle (Client c) pending.now v) place.now }
+{
+    let Some(handle) = handle else {
+        return false;
+    };
+    let Some(hand) = place else {
+        return false;
+    };
+    is_client(hand.call.actor, c) && is_over(pending, hand.call, handle)
+}
+
+// Whether the actor is this client.
+fn is_client(actor: ActorName, c: u8) -> bool
+    ensures { result ≡ same_actor actor (Client c) }
+{
+    match actor {
+        ActorName::Client(client) => client == c,
+        ActorName::Node(_) => false,
+    }
+}
+
+// Whether a call is kept as a synchronisation under way over the handle of that number.
+fn is_over(pending: &Pending, call: CallId, handle: u32) -> bool
+    ensures { result ≡ is_over handle (find_async call pending.now.unfinished) }
+{
+    match pending.find(call) {
+        None => false,
+        Some(kept) => match kept.kind {
+            AsyncKind::Sync => kept.handle == handle,
+            AsyncKind::Open(_) => false,
+        },
     }
 }
 
@@ -206,6 +340,16 @@ pub fn hand_over(from: &mut Option<Snap>, to: &mut Option<Snap>)
 {
     if from.is_some() || to.is_some() {
         *to = from.take();
+    }
+}
+
+/// The number of the client whose call is stepped by this name.
+pub(crate) fn client_by(who: Who) -> u8
+    ensures { result ≡ client_by who }
+{
+    match who {
+        Who::Actor(actor) => number_of(&actor),
+        Who::Call(call) => number_of(&call.actor),
     }
 }
 
@@ -229,10 +373,35 @@ fn new_places(alloc: Global) -> Result<Vec<Option<InHand>>, AllocError>
 }
 
 fn find(list: &[Option<InHand>], c: usize) -> Option<&InHand>
-    ensures { MatchOption result (hand_at list.now c ≡ None) (λ hand. hand_at list.now c ≡ Some hand.now) }
+    ensures { MatchOption result (or_none (slice_get list.now c) ≡ None) (λ hand. or_none (slice_get list.now c) ≡ Some hand.now) }
 {
     match list.get(c) {
         None => None,
         Some(hand) => hand.as_ref(),
     }
+}
+
+// The asynchronous call of that name.
+fn find_alone(list: &[Option<InHand>], call: CallId) -> Option<&InHand>
+    ensures { MatchOption result (found_alone call list.now ≡ None) (λ hand. found_alone call list.now ≡ Some hand.now) }
+{
+    for place in list {
+        if has_call(place, call) {
+            return place.as_ref();
+        }
+    }
+    None
+}
+
+// The place of the asynchronous call of that name.
+fn place_alone(list: &[Option<InHand>], call: CallId) -> Option<usize>
+    ensures found { IfSome result (IsPlaceOf call list.now) }
+    ensures absent { IfNone result (found_alone call list.now ≡ None) }
+{
+    for (place, hand) in list.iter().enumerate() {
+        if has_call(hand, call) {
+            return Some(place);
+        }
+    }
+    None
 }

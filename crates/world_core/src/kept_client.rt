@@ -1,13 +1,14 @@
 //! What becomes of the tables of one client that has its room.
-ghost use Rattle.std.specs.Prelude.{◌≡◌, ◌-◌, ◌^◌, ◌<◌, true, IfOk, IsSome};
+ghost use Rattle.std.specs.Prelude.{◌≡◌, ◌+◌, ◌-◌, ◌^◌, ◌<◌, true, false, IfOk, IsSome};
 ghost use Rattle.ckpt_types.specs.Limits.{places_max};
-ghost use Rattle.client_handles.specs.ClientState.{has_handle_room, has_iteration_room, iteration_at, kept_at, lent, returned, dropped, emptied, ended, IsLent, IsNotLent, IsValid};
+ghost use Rattle.client_handles.specs.ClientState.{handle_numbered, taken, has_handle_room, has_iteration_room, iteration_at, kept_at, lent, returned, dropped, emptied, ended, IsLent, IsNotLent, IsValid};
 ghost use Rattle.ckpt_types.specs.Asks.{asked, IsBuilt};
 ghost use Rattle.ckpt_machine.specs.Machine.{no_tables};
-ghost use Rattle.ckpt_machine.specs.Tables.{no_flags, flags_or_none, handle_given, started};
+ghost use Rattle.ckpt_machine.specs.Steps.{handle_opened};
+ghost use Rattle.ckpt_machine.specs.Tables.{no_flags, flags_or_none, handle_given, registering, started};
 ghost use Rattle.ckpt_types.specs.Attributes.{open_flags_of};
 
-use ckpt_types::{CallbackSet, CkptId, Op, OpenFlags};
+use ckpt_types::{Answer, CallbackSet, CkptId, Op, OpenFlags, Outcome};
 use client_handles::Client;
 use section_iter::Iteration;
 use std::alloc::{AllocError, Global};
@@ -16,11 +17,39 @@ use std::alloc::{AllocError, Global};
 pub(crate) fn new_client(alloc: Global) -> Result<Box<Client>, AllocError>
     ensures { IfOk result (λ client. client.value ≡ no_tables) }
 {
-    let none = CallbackSet {
+    Ok(Box::new(alloc, Client::new(alloc, no_callbacks())?)?)
+}
+
+/// No callback is registered.
+pub(crate) fn no_callbacks() -> CallbackSet
+    ensures { result ≡ record { opens = false; syncs = false } }
+{
+    CallbackSet {
         opens: false,
         syncs: false,
-    };
-    Ok(Box::new(alloc, Client::new(alloc, none)?)?)
+    }
+}
+
+/// The handle that an open has opened which ends so; it is the one that was taken last.
+pub(crate) fn handle_opened(client: &Client, end: &Outcome) -> Option<u32>
+    ensures { result ≡ handle_opened end.now client.now }
+{
+    match end {
+        Outcome::Done(Answer::Opened(_)) => Some(client.last_handle()),
+        _ => None,
+    }
+}
+
+/// The callbacks with which the client becomes live are registered; an operation of another kind registers none.
+pub(crate) fn register(client: &mut Client, op: &Op)
+    requires { IsValid client.old }
+    ensures kept { IsValid client.new }
+    ensures new { client.new ≡ registering (asked op.now) client.old }
+{
+    match op {
+        Op::Client(_, _, callbacks) => client.register(*callbacks),
+        _ => {}
+    }
 }
 
 /// The iteration that an operation starts, over the handle of its place; nothing where that stands for none.
@@ -76,7 +105,8 @@ pub(crate) fn end(client: &mut Client, place: u8)
     let _ended = client.end_iteration(place);
 }
 
-/// The handle of a checkpoint that an open gives, for which its place stands; none where the operation is no open.
+/// The handle of a checkpoint that an open gives, for which its place stands, that of an asynchronous one from its
+/// callback on; none where the operation is no open.
 pub(crate) fn give(client: &mut Client, op: &Op, ckpt: CkptId, creation_flags: u32)
     requires kept { IsValid client.old }
     requires built { IsBuilt op.now }
@@ -85,13 +115,32 @@ pub(crate) fn give(client: &mut Client, op: &Op, ckpt: CkptId, creation_flags: u
     ensures kept { IsValid client.new }
     ensures new { client.new ≡ handle_given (asked op.now) ckpt creation_flags client.old }
 {
-    let Op::Open(place, _, flags, _, _) = op else {
-        return;
-    };
-    let Ok(number) = client.take_handle(ckpt, opened_for(*flags), creation_flags) else {
+    match op {
+        Op::Open(place, _, flags, _, _) => {
+            let number = take(client, ckpt, *flags, creation_flags);
+            client.bind(*place, number);
+        }
+        Op::OpenAsync(_, _, _, flags, _) => {
+            let _number = take(client, ckpt, *flags, creation_flags);
+        }
+        _ => {}
+    }
+}
+
+// A handle more of a checkpoint, opened by these flags; its number.
+fn take(client: &mut Client, ckpt: CkptId, flags: u32, creation_flags: u32) -> u32
+    requires kept { IsValid client.old }
+    requires room { has_handle_room client.old ≡ true }
+    requires number { client.old.last_number < 2 ^ 32 - 1 }
+    ensures kept { IsValid client.new }
+    ensures there { IsSome (handle_numbered result client.new.handles) }
+    ensures number { result ≡ client.old.last_number + 1 }
+    ensures new { client.new ≡ taken ckpt (flags_or_none (open_flags_of flags)) creation_flags client.old }
+{
+    let Ok(number) = client.take_handle(ckpt, opened_for(flags), creation_flags) else {
         unreachable!()
     };
-    client.bind(*place, number);
+    number
 }
 
 // What flags open for; nothing where they are none.

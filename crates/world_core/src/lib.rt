@@ -10,6 +10,7 @@ mod gone;
 mod hand_rooms;
 mod hands;
 mod iterating;
+mod kept_calls;
 mod kept_client;
 mod lending;
 mod messages;

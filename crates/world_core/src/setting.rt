@@ -4,6 +4,7 @@ ghost use Rattle.ckpt_types.specs.Limits.{client_numbers, nodes_max};
 ghost use Rattle.cluster_record.specs.RecordState.{entry_of, hold_set, swept};
 ghost use Rattle.node_msgs.specs.declared.next.Next.TheVariants as nexts;
 ghost use Rattle.node_msgs.specs.declared.next.RecordStep.TheVariants as events;
+ghost use Rattle.world_core.specs.HandsState.{IsClientName};
 ghost use Rattle.world_core.specs.Happenings.{Adds, IsNext, IsStep};
 ghost use Rattle.world_core.specs.Leading.{copy_held, nodes_led, CanLead, HasFreeHold};
 ghost use Rattle.world_core.specs.Nodes.{replica_in};
@@ -12,7 +13,7 @@ ghost use Rattle.world_core.specs.Shows.{HasNumbersLeft, IsShown};
 use crate::messages::stepped;
 use crate::nodes::Nodes;
 use crate::world::World;
-use ckpt_types::{AisError, Answer, CallId, Cause, CkptId, NodeId, Outcome};
+use ckpt_types::{AisError, Answer, CallId, Cause, CkptId, NodeId, Outcome, Who};
 use cluster_record::{Entry, Record};
 use node_msgs::{RecordStep, StepReply, Verb};
 use run_labels::RunLog;
@@ -22,14 +23,14 @@ impl World {
     /// The call holds its checkpoint, of which it has copied what the active has; the marks of a weak write there keep
     /// it off, and end it.
     #[inline(never)]
-    pub(crate) fn hold_step(&mut self, c: u8, r: NodeId, log: &mut RunLog)
-        requires next { IsNext self.old c (nexts.Event (events.Hold r)) }
-        requires client { c < client_numbers }
+    pub(crate) fn hold_step(&mut self, who: Who, r: NodeId, log: &mut RunLog)
+        requires next { IsNext self.old who (nexts.Event (events.Hold r)) }
+        requires client { IsClientName who }
         requires shown { IsShown self.old }
         requires spare { 1 ≤ log.old.spare }
-        ensures { Adds log.old log.new (IsStep c self.old self.new) }
+        ensures { Adds log.old log.new (IsStep who self.old self.new) }
     {
-        let slot = self.hands.at(c);
+        let slot = self.hands.at(who);
         let Some(hand) = slot else { unreachable!() };
         let call = hand.call;
         let op = hand.word();
@@ -39,6 +40,7 @@ impl World {
                 *slot = None;
                 let reply = StepReply::Held(held.by);
                 let end = Some(Outcome::Refused(AisError::TryAgain, Cause::Holder(held.by)));
+                self.end_alone(who, &end);
                 log.push(stepped(call, op, Verb::Hold, Some(ckpt), Some(r), reply, end));
             }
             Ok(()) => {
@@ -62,15 +64,15 @@ impl World {
     /// A node is the active of the call's checkpoint from now on, and leads it with what the call holds, where it holds
     /// it. The call ends.
     #[inline(never)]
-    pub(crate) fn activate_step(&mut self, c: u8, r: NodeId, log: &mut RunLog)
-        requires next { IsNext self.old c (nexts.Event (events.Activate r)) }
-        requires client { c < client_numbers }
+    pub(crate) fn activate_step(&mut self, who: Who, r: NodeId, log: &mut RunLog)
+        requires next { IsNext self.old who (nexts.Event (events.Activate r)) }
+        requires client { IsClientName who }
         requires shown { IsShown self.old }
         requires roomy { HasNumbersLeft self.old }
         requires spare { 1 ≤ log.old.spare }
-        ensures { Adds log.old log.new (IsStep c self.old self.new) }
+        ensures { Adds log.old log.new (IsStep who self.old self.new) }
     {
-        let slot = self.hands.at(c);
+        let slot = self.hands.at(who);
         let Some(hand) = slot else { unreachable!() };
         let call = hand.call;
         let op = hand.word();
@@ -82,6 +84,7 @@ impl World {
         self.free_gone();
         lead(&self.cluster, &mut self.nodes, ckpt, r, &held);
         let end = Some(Outcome::Done(Answer::Nothing));
+        self.end_alone(who, &end);
         log.push(stepped(
             call,
             op,

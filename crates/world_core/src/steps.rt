@@ -16,8 +16,12 @@ ghost use Rattle.world_core.specs.RecordReady.{IsPlain, IsRefusedWith};
 ghost use Rattle.world_core.specs.declared.hands.InHand.{InHand};
 ghost use Rattle.world_core.specs.LiveRooms.{room_is_taken};
 ghost use Rattle.world_core.specs.Runs.{step_word};
-ghost use Rattle.world_core.specs.Shows.{IsShown, HasNumbersLeft, hand_at};
-ghost use Rattle.world_core.specs.Happenings.{Adds, IsNext, IsStep, IsIdle, NamesNoClient};
+ghost use Rattle.world_core.specs.Alone.{calls_gone, ended_at, gone_with, gone_with_look, syncs_gone};
+ghost use Rattle.ckpt_machine.specs.Steps.{goes_with};
+ghost use Rattle.world_core.specs.TableState.{pending_by};
+ghost use Rattle.world_core.specs.HandsState.{client_by, hand_at, without_those, IsClientName};
+ghost use Rattle.world_core.specs.Shows.{IsShown, HasNumbersLeft};
+ghost use Rattle.world_core.specs.Happenings.{Adds, IsNext, IsStep, IsIdle};
 ghost use Rattle.ckpt_types.specs.declared.identities.CallId.{CallId};
 ghost use Rattle.ckpt_types.specs.declared.sections.Choice.{Choice};
 ghost use Rattle.ckpt_types.specs.Limits.{client_numbers, nodes_max};
@@ -25,7 +29,7 @@ ghost use Rattle.ckpt_types.specs.Limits.{client_numbers, nodes_max};
 use crate::applying::apply;
 use crate::details::told_details;
 use crate::drivers::{DriverKind, event_ckpt, event_end, event_node, event_refusal};
-use crate::hands::{hand_over, let_go};
+use crate::hands::{Hands, client_by, hand_over, let_go};
 use crate::iterating::{keep_iteration, lend_iteration};
 use crate::lending::lent_by;
 use crate::messages::{look_word, served, stepped};
@@ -51,37 +55,76 @@ impl World {
         requires shown { IsShown self.old }
         requires roomy { HasNumbersLeft self.old }
         requires spare { 1 ≤ log.old.spare }
-        ensures ok { OnOk result (Adds log.old log.new (λ label. IsStep c self.old self.new label ⊎ IsIdle (whos.Actor (Client c)) finish self.old self.new label)) }
+        ensures ok { OnOk result (Adds log.old log.new (λ label. IsStep (whos.Actor (Client c)) self.old self.new label ⊎ IsIdle (whos.Actor (Client c)) finish self.old self.new label)) }
         ensures err { OnErr result ((self.new ≡ self.old) × (log.new.labels ≡ log.old.labels)) }
     {
-        let Some(hand) = self.hands.find(c) else {
-            log.push(idle_label(Who::Actor(ActorName::Client(c)), finish));
+        let who = Who::Actor(ActorName::Client(c));
+        let Some(hand) = self.hands.find(who) else {
+            log.push(idle_label(who, finish));
             return Ok(());
         };
         if let DriverKind::Update(update) = &hand.driver.kind {
             let next = update.next(&self.cluster);
             return self.update_step(alloc, c, next, log);
         }
-        match hand.driver.next(&self.cluster, &self.tables, c) {
-            Next::Serve(r, request) => self.serve_step(alloc, c, r, &request, log),
+        let next = hand.driver.next(&self.cluster, &self.tables, c);
+        self.take_next(alloc, who, next, log)
+    }
+
+    /// An asynchronous call takes its next step, or a word says that none of this name is under way. Want of memory leaves
+    /// the world as it was.
+    #[inline(never)]
+    pub(crate) fn step_alone(
+        &mut self,
+        alloc: Global,
+        who: Who,
+        finish: bool,
+        log: &mut RunLog,
+    ) -> Result<(), AllocError>
+        requires shown { IsShown self.old }
+        requires roomy { HasNumbersLeft self.old }
+        requires spare { 1 ≤ log.old.spare }
+        ensures ok { OnOk result (Adds log.old log.new (λ label. IsStep who self.old self.new label ⊎ IsIdle who finish self.old self.new label)) }
+        ensures err { OnErr result ((self.new ≡ self.old) × (log.new.labels ≡ log.old.labels)) }
+    {
+        let Some(hand) = self.hands.find(who) else {
+            log.push(idle_label(who, finish));
+            return Ok(());
+        };
+        let next = hand
+            .driver
+            .next(&self.cluster, &self.tables, client_by(who));
+        self.take_next(alloc, who, next, log)
+    }
+
+    // The call takes the step that is next for it.
+    #[inline(always)]
+    fn take_next(
+        &mut self,
+        alloc: Global,
+        who: Who,
+        next: Next,
+        log: &mut RunLog,
+    ) -> Result<(), AllocError>
+        requires next { IsNext self.old who next }
+        requires client { IsClientName who }
+        requires shown { IsShown self.old }
+        requires roomy { HasNumbersLeft self.old }
+        requires spare { 1 ≤ log.old.spare }
+        ensures ok { OnOk result (Adds log.old log.new (IsStep who self.old self.new)) }
+        ensures err { OnErr result ((self.new ≡ self.old) × (log.new.labels ≡ log.old.labels)) }
+    {
+        match next {
+            Next::Serve(r, request) => self.serve_step(alloc, who, r, &request, log),
             Next::Event(step) => {
-                self.take_event(alloc, c, step, log);
+                self.take_event(alloc, who, step, log);
                 Ok(())
             }
             Next::End(end) => {
-                self.look_step(c, end, log);
+                self.look_step(who, end, log);
                 Ok(())
             }
         }
-    }
-
-    /// A word says that nothing is in hand to step.
-    pub(crate) fn idle(&self, who: Who, finish: bool, log: &mut RunLog)
-        requires no_client { NamesNoClient who }
-        requires spare { 1 ≤ log.old.spare }
-        ensures { Adds log.old log.new (IsIdle who finish self.now self.now) }
-    {
-        log.push(idle_label(who, finish));
     }
 
     /// A node answers a request of the call.
@@ -89,23 +132,24 @@ impl World {
     pub(crate) fn serve_step(
         &mut self,
         alloc: Global,
-        c: u8,
+        who: Who,
         r: NodeId,
         request: &Request,
         log: &mut RunLog,
     ) -> Result<(), AllocError>
-        requires next { IsNext self.old c (nexts.Serve r request.now) }
-        requires client { c < client_numbers }
+        requires next { IsNext self.old who (nexts.Serve r request.now) }
+        requires client { IsClientName who }
         requires shown { IsShown self.old }
         requires roomy { HasNumbersLeft self.old }
         requires spare { 1 ≤ log.old.spare }
-        ensures ok { OnOk result (Adds log.old log.new (IsStep c self.old self.new)) }
+        ensures ok { OnOk result (Adds log.old log.new (IsStep who self.old self.new)) }
         ensures err { OnErr result ((self.new ≡ self.old) × (log.new.labels ≡ log.old.labels)) }
     {
-        let slot = self.hands.at(c);
+        let slot = self.hands.at(who);
         let Some(hand) = slot else { unreachable!() };
         let call = hand.call;
         let op = hand.word();
+        let c = client_by(who);
         let mut lent = lent_by(alloc, &hand.op, request)?;
         lent.iteration = lend_iteration(&mut self.tables, c, hand, request);
         hand_over(&mut hand.snapshot, &mut lent.snap);
@@ -123,41 +167,42 @@ impl World {
         hand_over(&mut lent.snap, &mut hand.snapshot);
         let end = hand.take(&self.cluster, r, request, &reply);
         let_go(slot, &end);
+        self.end_alone(who, &end);
         let details = told_details(&end, &reply, lent);
         log.push(served(call, op, request, r, &reply, end, details));
         Ok(())
     }
 
     // The call takes a step of the record.
-    fn take_event(&mut self, alloc: Global, c: u8, step: RecordStep, log: &mut RunLog)
-        requires next { IsNext self.old c (nexts.Event step) }
-        requires client { c < client_numbers }
+    fn take_event(&mut self, alloc: Global, who: Who, step: RecordStep, log: &mut RunLog)
+        requires next { IsNext self.old who (nexts.Event step) }
+        requires client { IsClientName who }
         requires shown { IsShown self.old }
         requires roomy { HasNumbersLeft self.old }
         requires spare { 1 ≤ log.old.spare }
-        ensures { Adds log.old log.new (IsStep c self.old self.new) }
+        ensures { Adds log.old log.new (IsStep who self.old self.new) }
     {
         match step {
-            RecordStep::Enter => self.enter_step(alloc, c, log),
-            RecordStep::Hold(r) => self.hold_step(c, r, log),
-            RecordStep::Activate(r) => self.activate_step(c, r, log),
-            _ => self.event_step(alloc, c, step, log),
+            RecordStep::Enter => self.enter_step(alloc, who, log),
+            RecordStep::Hold(r) => self.hold_step(who, r, log),
+            RecordStep::Activate(r) => self.activate_step(who, r, log),
+            _ => self.event_step(alloc, who, step, log),
         }
     }
 
     // A client becomes live, with room for its handles and iterations; where that is refused, the call ends.
-    fn enter_step(&mut self, alloc: Global, c: u8, log: &mut RunLog)
-        requires next { IsNext self.old c (nexts.Event events.Enter) }
-        requires client { c < client_numbers }
+    fn enter_step(&mut self, alloc: Global, who: Who, log: &mut RunLog)
+        requires next { IsNext self.old who (nexts.Event events.Enter) }
+        requires client { IsClientName who }
         requires shown { IsShown self.old }
         requires roomy { HasNumbersLeft self.old }
         requires spare { 1 ≤ log.old.spare }
-        ensures { Adds log.old log.new (IsStep c self.old self.new) }
+        ensures { Adds log.old log.new (IsStep who self.old self.new) }
     {
-        match self.tables.take_room(alloc, c) {
-            Ok(()) => self.record_step(alloc, c, RecordStep::Enter, log),
+        match self.tables.take_room(alloc, client_by(who)) {
+            Ok(()) => self.record_step(alloc, who, RecordStep::Enter, log),
             Err(AllocError) => self.refuse_step(
-                c,
+                who,
                 RecordStep::Enter,
                 StepReply::Memory,
                 Outcome::NoMemory,
@@ -167,29 +212,29 @@ impl World {
     }
 
     // A step of the record, which it may refuse.
-    fn event_step(&mut self, alloc: Global, c: u8, step: RecordStep, log: &mut RunLog)
-        requires next { IsNext self.old c (nexts.Event step) }
+    fn event_step(&mut self, alloc: Global, who: Who, step: RecordStep, log: &mut RunLog)
+        requires next { IsNext self.old who (nexts.Event step) }
         requires not_enter { step ≢ events.Enter }
         requires plain { IsPlain step }
-        requires client { c < client_numbers }
+        requires client { IsClientName who }
         requires shown { IsShown self.old }
         requires roomy { HasNumbersLeft self.old }
         requires spare { 1 ≤ log.old.spare }
-        ensures { Adds log.old log.new (IsStep c self.old self.new) }
+        ensures { Adds log.old log.new (IsStep who self.old self.new) }
     {
-        match self.refusal(c, &step) {
-            Some(end) => self.refuse_step(c, step, StepReply::Refused, end, log),
-            None => self.record_step(alloc, c, step, log),
+        match self.refusal(who, &step) {
+            Some(end) => self.refuse_step(who, step, StepReply::Refused, end, log),
+            None => self.record_step(alloc, who, step, log),
         }
     }
 
     // How the client's call ends by the step, where the record refuses it.
-    fn refusal(&self, c: u8, step: &RecordStep) -> Option<Outcome>
-        requires next { IsNext self.now c (nexts.Event step.now) }
+    fn refusal(&self, who: Who, step: &RecordStep) -> Option<Outcome>
+        requires next { IsNext self.now who (nexts.Event step.now) }
         requires roomy { HasNumbersLeft self.now }
-        ensures { (hand : InHand) → hand_at self.now.hands c ≡ Some hand → result ≡ event_refusal self.now.cluster step.now hand.driver }
+        ensures { (hand : InHand) → hand_at self.now.hands who ≡ Some hand → result ≡ event_refusal self.now.cluster step.now hand.driver }
     {
-        let Some(hand) = self.hands.find(c) else {
+        let Some(hand) = self.hands.find(who) else {
             unreachable!()
         };
         event_refusal(&self.cluster, &hand.driver, step)
@@ -198,45 +243,47 @@ impl World {
     // A step is refused by the record, or the memory that it takes, and the call ends.
     fn refuse_step(
         &mut self,
-        c: u8,
+        who: Who,
         step: RecordStep,
         reply: StepReply,
         end: Outcome,
         log: &mut RunLog,
     )
-        requires next { IsNext self.old c (nexts.Event step) }
+        requires next { IsNext self.old who (nexts.Event step) }
         requires plain { IsPlain step }
-        requires refused { (hand : InHand) → hand_at self.old.hands c ≡ Some hand → IsRefusedWith (event_refusal self.old.cluster step hand.driver) step reply end }
-        requires client { c < client_numbers }
+        requires refused { (hand : InHand) → hand_at self.old.hands who ≡ Some hand → IsRefusedWith (event_refusal self.old.cluster step hand.driver) step reply end }
+        requires client { IsClientName who }
         requires shown { IsShown self.old }
         requires roomy { HasNumbersLeft self.old }
         requires spare { 1 ≤ log.old.spare }
-        ensures { Adds log.old log.new (IsStep c self.old self.new) }
+        ensures { Adds log.old log.new (IsStep who self.old self.new) }
     {
-        let slot = self.hands.at(c);
+        let slot = self.hands.at(who);
         let Some(hand) = slot else { unreachable!() };
         let call = hand.call;
         let op = hand.word();
         let ckpt = event_ckpt(&self.cluster, &hand.driver, &step);
         let node = event_node(&hand.driver, &step);
         *slot = None;
-        log.push(stepped(call, op, step.verb(), ckpt, node, reply, Some(end)));
+        let end = Some(end);
+        self.end_alone(who, &end);
+        log.push(stepped(call, op, step.verb(), ckpt, node, reply, end));
     }
 
     // The call takes a step that the record does not refuse; where its memory is refused, the call ends. A client
     // that becomes live has its room. An open may add a replica.
-    fn record_step(&mut self, alloc: Global, c: u8, step: RecordStep, log: &mut RunLog)
-        requires next { IsNext self.old c (nexts.Event step) }
-        requires granted { (hand : InHand) → hand_at self.old.hands c ≡ Some hand → event_refusal self.old.cluster step hand.driver ≡ None }
+    fn record_step(&mut self, alloc: Global, who: Who, step: RecordStep, log: &mut RunLog)
+        requires next { IsNext self.old who (nexts.Event step) }
+        requires granted { (hand : InHand) → hand_at self.old.hands who ≡ Some hand → event_refusal self.old.cluster step hand.driver ≡ None }
         requires plain { IsPlain step }
-        requires has_room { step ≡ events.Enter → room_is_taken (slice_get self.old.tables c) ≡ true }
-        requires client { c < client_numbers }
+        requires has_room { step ≡ events.Enter → room_is_taken (slice_get self.old.tables (client_by who)) ≡ true }
+        requires client { IsClientName who }
         requires shown { IsShown self.old }
         requires roomy { HasNumbersLeft self.old }
         requires spare { 1 ≤ log.old.spare }
-        ensures { Adds log.old log.new (IsStep c self.old self.new) }
+        ensures { Adds log.old log.new (IsStep who self.old self.new) }
     {
-        let slot = self.hands.at(c);
+        let slot = self.hands.at(who);
         let Some(hand) = slot else { unreachable!() };
         let call = hand.call;
         let op = hand.word();
@@ -255,35 +302,99 @@ impl World {
         if applied.is_err() {
             *slot = None;
             let end = Some(Outcome::NoMemory);
+            self.end_alone(who, &end);
             log.push(stepped(call, op, verb, ckpt, node, StepReply::Memory, end));
             return;
         }
+        let c = client_by(who);
+        let closed = self.tables.handle_closed(c, &hand.op);
         settle(&mut self.tables, &self.cluster, c, &hand.op, &step, ckpt);
         let end = event_end(&step, ckpt);
         hand.told(&self.cluster, &step, ckpt, node, StepReply::Ok);
         let_go(slot, &end);
+        self.let_go_with(c, &step, closed);
         self.free_gone();
+        self.end_alone(who, &end);
         log.push(stepped(call, op, verb, ckpt, node, StepReply::Ok, end));
     }
 
     /// The record alone decides how the call ends; what it is making is undone.
-    pub(crate) fn look_step(&mut self, c: u8, end: Outcome, log: &mut RunLog)
-        requires next { IsNext self.old c (nexts.End end) }
-        requires client { c < client_numbers }
+    pub(crate) fn look_step(&mut self, who: Who, end: Outcome, log: &mut RunLog)
+        requires next { IsNext self.old who (nexts.End end) }
+        requires client { IsClientName who }
         requires shown { IsShown self.old }
         requires spare { 1 ≤ log.old.spare }
-        ensures { Adds log.old log.new (IsStep c self.old self.new) }
+        ensures { Adds log.old log.new (IsStep who self.old self.new) }
     {
-        let slot = self.hands.at(c);
+        let slot = self.hands.at(who);
         let Some(hand) = slot else { unreachable!() };
         let call = hand.call;
         let op = hand.word();
         let reply = look_word(&end);
         let making = hand.driver.making();
+        let c = client_by(who);
+        let closed = self.tables.handle_closed(c, &hand.op);
         settle_look(&mut self.tables, c, &hand.op, &end);
         *slot = None;
+        self.let_go_with_look(c, &end, closed);
         self.unmake(making);
-        log.push(stepped(call, op, Verb::Look, None, None, reply, Some(end)));
+        let end = Some(end);
+        self.end_alone(who, &end);
+        log.push(stepped(call, op, Verb::Look, None, None, reply, end));
+    }
+
+    // An asynchronous call that has ended is in hand no more, and its client is to be told.
+    #[inline(always)]
+    pub(crate) fn end_alone(&mut self, who: Who, end: &Option<Outcome>)
+        requires { IsClientName who }
+        ensures { self.new ≡ ended_at who end.now self.old }
+    {
+        if let (Who::Call(call), Some(end)) = (who, end) {
+            self.hands.forget(call);
+            self.tables.finish(client_by(who), call, *end);
+        }
+    }
+
+    // What goes with the handle that a close has closed, and with a client that has left: asynchronous calls.
+    #[inline(always)]
+    fn let_go_with(&mut self, c: u8, step: &RecordStep, closed: Option<u32>)
+        requires { c < client_numbers }
+        ensures { self.new ≡ gone_with step.now c closed self.old }
+    {
+        match step {
+            RecordStep::Close => self.syncs_gone(c, closed),
+            RecordStep::Leave => self.calls_gone(c),
+            _ => {}
+        }
+    }
+
+    // What goes with the handle that a look has closed: asynchronous synchronisations.
+    fn let_go_with_look(&mut self, c: u8, end: &Outcome, closed: Option<u32>)
+        requires { c < client_numbers }
+        ensures { self.new ≡ gone_with_look end.now c closed self.old }
+    {
+        match end {
+            Outcome::Done(_) => self.syncs_gone(c, closed),
+            _ => {}
+        }
+    }
+
+    // The asynchronous synchronisations of a client over a handle that is closed go, if one is.
+    fn syncs_gone(&mut self, c: u8, closed: Option<u32>)
+        requires { c < client_numbers }
+        ensures { self.new ≡ syncs_gone c closed self.old }
+    {
+        forget_syncs(&mut self.hands, &self.tables, c, closed);
+        self.tables.forget_over(c, closed);
+    }
+
+    // All asynchronous calls of a client go.
+    fn calls_gone(&mut self, c: u8)
+        requires { c < client_numbers }
+        ensures { self.new ≡ calls_gone c self.old }
+    {
+        self.hands.forget_of(c);
+        self.tables.forget_all(c);
     }
 
     // What a call is making is undone, if it is making something; what is over goes too, and what was kept for it.
@@ -296,6 +407,17 @@ impl World {
             self.free_gone();
         }
     }
+}
+
+// Those that go are in hand no more.
+fn forget_syncs(hands: &mut Hands, tables: &Tables, c: u8, closed: Option<u32>)
+    requires { c < client_numbers }
+    ensures { hands.new ≡ without_those (λ v. goes_with closed (Client c) (pending_by tables.now c) v) hands.old }
+{
+    let Some(pending) = tables.pending(c) else {
+        return;
+    };
+    hands.forget_over(c, closed, pending);
 }
 
 fn idle_label(who: Who, finish: bool) -> Label
@@ -323,6 +445,7 @@ fn settle(
     ensures { tables.new ≡ settled cluster.now c op.now step.now ckpt tables.old }
 {
     match step {
+        RecordStep::Enter => tables.register(c, op),
         RecordStep::Open | RecordStep::Finish => give(tables, cluster, c, op, ckpt),
         RecordStep::Close => tables.close(c, op),
         RecordStep::Leave => tables.leave(c),

@@ -1,15 +1,30 @@
 //! What all clients keep: numbers, handles, iterations and places.
-ghost use Rattle.std.specs.Prelude.{◌≡◌, ◌-◌, ◌^◌, ◌<◌, true, IfOk, IsSome, IsSomeAnd, OnErr, OnOk, length, slice_get, slice_set, replicate};
-ghost use Rattle.ckpt_types.specs.Limits.{places_max, client_numbers};
+ghost use Rattle.world_core.specs.TableEnds.{table_ended};
+ghost use Rattle.ckpt_machine.specs.Steps.{async_call, left_over};
+ghost use Rattle.call_dispatch.specs.PendingCalls.{callback_of, dispatched, given_answer, given_by, given_number, no_pending, pending_count, with_begun};
+ghost use Rattle.ckpt_types.specs.declared.answers.Answer.{Answer};
+ghost use Rattle.std.specs.Prelude.{◌≡◌, ◌-◌, ◌^◌, ◌<◌, true, IfOk, IsSome, IsSomeAnd, OnErr, OnOk, length, slice_get, slice_set, replicate, ◌≤◌, IfSome, map, take, MatchOption, ◌+◌};
+ghost use Rattle.ckpt_types.specs.Limits.{places_max, client_numbers, checkpoints_max};
 ghost use Rattle.client_handles.specs.ClientState.{handle_at, has_handle_room, has_iteration_room, iterated_at, iteration_at, kept_at, lent, returned, emptied, ended, IsLent, IsNotLent, IsValid};
 ghost use Rattle.ckpt_types.specs.Asks.{asked, IsBuilt};
-ghost use Rattle.ckpt_machine.specs.Tables.{handle_asked, handle_given, started, closing, ended_at_once};
-ghost use Rattle.world_core.specs.TableState.{next_in, kept_by, with_room, with_client, begun_with, at_client};
+ghost use Rattle.ckpt_machine.specs.Tables.{handle_asked, handle_given, started, closing, ended_at_once, handle_closed, has_place, places_set, registering};
+ghost use Rattle.world_core.specs.TableState.{next_in, kept_by, with_room, with_client, begun_with, at_client, with_calls, begun_done, pending_by, CanBegin, CanBeginDone, CanGoOnAlone};
+ghost use Rattle.world_core.specs.LiveRooms.{room_is_taken};
 ghost use Rattle.world_core.specs.NewTable.{new_table};
 ghost use Rattle.world_core.specs.Settling.{CanGive};
 
-use crate::kept_client::{close, end, give, leave, lend, new_client, start, take_back};
-use ckpt_types::{CLIENT_NUMBERS, CkptId, Op, Outcome};
+use crate::kept_calls::{
+    async_call, begin_alone, callbacks_of, dispatch, given_of_none, new_pending,
+};
+use crate::kept_client::{
+    close, end, give, handle_opened, leave, lend, new_client, no_callbacks, register, start,
+    take_back,
+};
+use call_dispatch::Pending;
+use ckpt_types::{
+    AisError, CLIENT_NUMBERS, CallId, Callback, CallbackSet, CkptId, Given, HANDLES_MAX, Op,
+    Outcome,
+};
 use client_handles::{Client, HandleView};
 use section_iter::Iteration;
 use std::alloc::{AllocError, Global};
@@ -22,6 +37,8 @@ pub struct Table {
     next: u32,
     /// Its handles, and the places that stand for them; nothing before their room was taken.
     client: Option<Box<Client>>,
+    /// Its asynchronous calls that are not dispatched; nothing before their room was taken.
+    pending: Option<Box<Pending>>,
 }
 
 impl Model for Table {
@@ -61,6 +78,7 @@ impl Table {
         Table {
             next: 1,
             client: None,
+            pending: None,
         }
     }
 
@@ -72,7 +90,9 @@ impl Table {
         if self.client.is_some() {
             return Ok(());
         }
-        self.client = Some(new_client(alloc)?);
+        let client = new_client(alloc)?;
+        self.pending = Some(new_pending(alloc)?);
+        self.client = Some(client);
         Ok(())
     }
 
@@ -82,12 +102,55 @@ impl Table {
         self.next
     }
 
-    fn has_room(&self) -> bool
-        ensures { result ≡ has_handle_room self.now.client }
+    // Whether there is a place for one handle more, where each of so many that are in the making has one.
+    fn has_place(&self, making: usize) -> bool
+        requires { making ≤ checkpoints_max }
+        ensures { result ≡ has_place making self.now.client }
     {
         match &self.client {
-            None => true,
-            Some(client) => client.handle_room(),
+            None => making < HANDLES_MAX,
+            Some(client) => client.handles_open() + making < HANDLES_MAX,
+        }
+    }
+
+    // The callbacks that the client has registered.
+    fn callbacks(&self) -> CallbackSet
+        ensures { result ≡ self.now.client.callbacks }
+    {
+        match &self.client {
+            None => no_callbacks(),
+            Some(client) => client.callbacks(),
+        }
+    }
+
+    // How many asynchronous calls are not dispatched.
+    fn pending_count(&self) -> usize
+        ensures { result ≡ pending_count self.now.pending }
+    {
+        match &self.pending {
+            None => 0,
+            Some(pending) => pending.len(),
+        }
+    }
+
+    // How many callbacks a dispatch gives, and how many calls it leaves that have ended.
+    fn given(&self, flags: u32) -> Result<Given, AisError>
+        ensures { result ≡ given_answer flags self.now.pending }
+    {
+        match &self.pending {
+            None => given_of_none(flags),
+            Some(pending) => pending.given(flags),
+        }
+    }
+
+    // The callbacks that a dispatch gives, in the order in which their calls have ended.
+    fn callbacks_given(&self, alloc: Global, count: usize) -> Result<Vec<Callback>, AllocError>
+        requires { count ≤ length self.now.pending.finished }
+        ensures { IfOk result (λ callbacks. callbacks.items ≡ map callback_of (take count self.now.pending.finished)) }
+    {
+        match &self.pending {
+            None => Ok(Vec::new(alloc)),
+            Some(pending) => callbacks_of(alloc, &pending.finished()[..count]),
         }
     }
 
@@ -136,6 +199,7 @@ impl Table {
             | Op::Close(place)
             | Op::Retain(place, _)
             | Op::Sync(place, _)
+            | Op::SyncAsync(place, _)
             | Op::Active(place) => self.handle(*place),
             Op::Next(iteration) | Op::EndIter(iteration) => self.iteration_handle(*iteration),
             _ => None,
@@ -181,23 +245,52 @@ impl Table {
         take_back(client, place, iteration);
     }
 
-    // One call more, which has ended its iteration where it was to end one.
-    fn begin(&mut self, op: &Op, end: &Option<Outcome>)
-        requires { self.old.next < 2 ^ 32 - 1 }
-        ensures { self.new ≡ begun_with end.now (asked op.now) self.old }
+    // One call more: where it is answered OK, it has ended its iteration, is one that is not dispatched, or has given
+    // callbacks.
+    fn begin(&mut self, call: CallId, op: &Op, handle: &Option<HandleView>, end: &Option<Outcome>)
+        requires number { self.old.next < 2 ^ 32 - 1 }
+        requires can { CanBegin end.now call op.now self.old }
+        ensures { self.new ≡ begun_with end.now call op.now handle.now self.old }
     {
-        self.end_at_once(op, end);
         self.next += 1;
+        if let Some(Outcome::Done(_)) = end {
+            self.begin_done(call, op, handle);
+        }
     }
 
-    // What an operation ends that is answered OK at its beginning: its iteration.
-    fn end_at_once(&mut self, op: &Op, end: &Option<Outcome>)
-        ensures { self.new ≡ with_client (ended_at_once end.now (asked op.now)) self.old }
+    // What an operation changes that is answered OK at its beginning.
+    #[inline(never)]
+    fn begin_done(&mut self, call: CallId, op: &Op, handle: &Option<HandleView>)
+        requires { CanBeginDone call op.now self.old }
+        ensures { (answer : Answer) → self.new ≡ begun_done answer call op.now handle.now self.old }
     {
-        match (op, end) {
-            (Op::EndIter(place), Some(Outcome::Done(_))) => self.end(*place),
+        match op {
+            Op::EndIter(place) => self.end(*place),
+            Op::OpenAsync(..) | Op::SyncAsync(..) => self.go_on_alone(call, op, handle),
+            Op::Dispatch(flags) => self.dispatch(*flags),
             _ => {}
         }
+    }
+
+    // An asynchronous call goes on by itself.
+    fn go_on_alone(&mut self, call: CallId, op: &Op, handle: &Option<HandleView>)
+        requires { CanGoOnAlone call self.old }
+        ensures { self.new ≡ with_calls (with_begun (async_call call op.now handle.now)) self.old }
+    {
+        let Some(pending) = &mut self.pending else {
+            unreachable!()
+        };
+        begin_alone(pending, async_call(call, op, handle));
+    }
+
+    // Callbacks are given: the places of the opens that they tell are set, and the calls are dispatched.
+    fn dispatch(&mut self, flags: u32)
+        ensures { self.new ≡ record self.old { client = places_set (given_by flags self.old.pending) self.old.client; pending = dispatched (given_number flags self.old.pending) self.old.pending } }
+    {
+        let (Some(client), Some(pending)) = (&mut self.client, &mut self.pending) else {
+            return;
+        };
+        dispatch(client, pending, flags);
     }
 
     // The iteration of a place ends, if it stands for one.
@@ -206,6 +299,59 @@ impl Table {
     {
         if let Some(client) = &mut self.client {
             end(client, place);
+        }
+    }
+
+    // The client has registered the callbacks with which it becomes live.
+    fn register(&mut self, op: &Op)
+        requires { self.old.roomy ≡ true }
+        ensures { self.new ≡ with_client (registering (asked op.now)) self.old }
+    {
+        let Some(client) = &mut self.client else {
+            unreachable!()
+        };
+        register(client, op);
+    }
+
+    // The number of the handle that an operation closes, if it closes one.
+    fn handle_closed(&self, op: &Op) -> Option<u32>
+        ensures { result ≡ handle_closed (asked op.now) self.now.client }
+    {
+        let Op::Close(place) = op else {
+            return None;
+        };
+        match self.handle(*place) {
+            None => None,
+            Some(handle) => Some(handle.handle),
+        }
+    }
+
+    // An asynchronous call has ended, and waits for its dispatch.
+    fn finish(&mut self, call: CallId, end: Outcome)
+        ensures { self.new ≡ table_ended call end self.old }
+    {
+        let (Some(client), Some(pending)) = (&self.client, &mut self.pending) else {
+            return;
+        };
+        pending.finish(call, handle_opened(client, &end), end);
+    }
+
+    // The asynchronous synchronisations over a handle that is closed go, if one is.
+    fn forget_over(&mut self, handle: Option<u32>)
+        ensures { self.new ≡ with_calls (left_over handle) self.old }
+    {
+        let (Some(pending), Some(handle)) = (&mut self.pending, handle) else {
+            return;
+        };
+        pending.forget_over(handle);
+    }
+
+    // All asynchronous calls go.
+    fn forget_all(&mut self)
+        ensures { self.new ≡ with_calls (λ p. no_pending) self.old }
+    {
+        if let Some(pending) = &mut self.pending {
+            pending.clear();
         }
     }
 
@@ -281,12 +427,68 @@ impl Tables {
         self.list[c as usize].handle_asked(op)
     }
 
-    /// Whether a client has a free place for a handle.
-    pub fn has_room(&self, c: u8) -> bool
-        requires { c < client_numbers }
-        ensures { result ≡ has_handle_room (kept_by self.now c) }
+    /// Whether a client has a place for one handle more, where each of so many that are in the making has one.
+    pub fn has_place(&self, c: u8, making: usize) -> bool
+        requires client { c < client_numbers }
+        requires few { making ≤ checkpoints_max }
+        ensures { result ≡ has_place making (kept_by self.now c) }
     {
-        self.list[c as usize].has_room()
+        self.list[c as usize].has_place(making)
+    }
+
+    /// The callbacks that a client has registered.
+    pub fn callbacks(&self, c: u8) -> CallbackSet
+        requires { c < client_numbers }
+        ensures { result ≡ (kept_by self.now c).callbacks }
+    {
+        self.list[c as usize].callbacks()
+    }
+
+    /// How many asynchronous calls of a client are not dispatched.
+    pub fn pending_count(&self, c: u8) -> usize
+        requires { c < client_numbers }
+        ensures { result ≡ pending_count (pending_by self.now c) }
+    {
+        self.list[c as usize].pending_count()
+    }
+
+    /// How many callbacks a dispatch of a client gives, and how many calls it leaves that have ended. `InvalidParam`
+    /// where it has other flags than there are.
+    pub fn given(&self, c: u8, flags: u32) -> Result<Given, AisError>
+        requires { c < client_numbers }
+        ensures { result ≡ given_answer flags (pending_by self.now c) }
+    {
+        self.list[c as usize].given(flags)
+    }
+
+    /// The callbacks of the asynchronous calls of a client that have ended first, so many.
+    pub fn callbacks_given(
+        &self,
+        alloc: Global,
+        c: u8,
+        count: usize,
+    ) -> Result<Vec<Callback>, AllocError>
+        requires client { c < client_numbers }
+        requires few { count ≤ length (pending_by self.now c).finished }
+        ensures { IfOk result (λ callbacks. callbacks.items ≡ map callback_of (take count (pending_by self.now c).finished)) }
+    {
+        self.list[c as usize].callbacks_given(alloc, count)
+    }
+
+    /// The asynchronous calls of a client that are not dispatched; nothing before their room was taken.
+    pub fn pending(&self, c: u8) -> Option<&Pending>
+        requires { c < client_numbers }
+        ensures { MatchOption result (pending_by self.now c ≡ no_pending) (λ pending. pending_by self.now c ≡ pending.now) }
+    {
+        pending_of(&self.list[c as usize])
+    }
+
+    /// The number of the handle that an operation of a client closes, if it closes one.
+    pub fn handle_closed(&self, c: u8, op: &Op) -> Option<u32>
+        requires { c < client_numbers }
+        ensures { result ≡ handle_closed (asked op.now) (kept_by self.now c) }
+    {
+        self.list[c as usize].handle_closed(op)
     }
 
     /// Whether a client has a free place for an iteration.
@@ -332,13 +534,55 @@ impl Tables {
         return_at(self.list.as_mut_slice(), c as usize, place, iteration);
     }
 
-    /// A client begins one call more, which has ended its iteration where it was to end one.
-    pub fn begin(&mut self, c: u8, op: &Op, end: &Option<Outcome>)
+    /// A client begins one call more. Where it is answered OK, it has ended its iteration, is one that is not
+    /// dispatched, or has given callbacks. It takes no memory.
+    pub fn begin(
+        &mut self,
+        c: u8,
+        call: CallId,
+        op: &Op,
+        handle: &Option<HandleView>,
+        end: &Option<Outcome>,
+    )
         requires client { c < client_numbers }
         requires number { next_in (slice_get self.old c) < 2 ^ 32 - 1 }
-        ensures { self.new ≡ at_client c (begun_with end.now (asked op.now)) self.old }
+        requires can { IfSome (slice_get self.old c) (CanBegin end.now call op.now) }
+        ensures { self.new ≡ at_client c (begun_with end.now call op.now handle.now) self.old }
     {
-        begin_at(self.list.as_mut_slice(), c as usize, op, end);
+        begin_at(self.list.as_mut_slice(), c as usize, call, op, handle, end);
+    }
+
+    /// A client that becomes live has registered its callbacks.
+    pub fn register(&mut self, c: u8, op: &Op)
+        requires client { c < client_numbers }
+        requires roomy { room_is_taken (slice_get self.old c) ≡ true }
+        ensures { self.new ≡ at_client c (with_client (registering (asked op.now))) self.old }
+    {
+        register_at(self.list.as_mut_slice(), c as usize, op);
+    }
+
+    /// An asynchronous call of a client has ended, and waits for its dispatch. It takes no memory.
+    pub fn finish(&mut self, c: u8, call: CallId, end: Outcome)
+        requires { c < client_numbers }
+        ensures { self.new ≡ at_client c (table_ended call end) self.old }
+    {
+        finish_at(self.list.as_mut_slice(), c as usize, call, end);
+    }
+
+    /// The asynchronous synchronisations of a client over a handle that is closed go, if one is.
+    pub fn forget_over(&mut self, c: u8, handle: Option<u32>)
+        requires { c < client_numbers }
+        ensures { self.new ≡ at_client c (with_calls (left_over handle)) self.old }
+    {
+        forget_over_at(self.list.as_mut_slice(), c as usize, handle);
+    }
+
+    /// All asynchronous calls of a client go.
+    pub fn forget_all(&mut self, c: u8)
+        requires { c < client_numbers }
+        ensures { self.new ≡ at_client c (with_calls (λ p. no_pending)) self.old }
+    {
+        forget_all_at(self.list.as_mut_slice(), c as usize);
     }
 
     /// A client gets the handle of a checkpoint that an open gives, of the number after its last one, and the
@@ -395,13 +639,63 @@ fn take_room_at(tables: &mut [Table], alloc: Global, c: usize) -> Result<(), All
     table.take_room(alloc)
 }
 
-fn begin_at(tables: &mut [Table], c: usize, op: &Op, end: &Option<Outcome>)
+fn begin_at(
+    tables: &mut [Table],
+    c: usize,
+    call: CallId,
+    op: &Op,
+    handle: &Option<HandleView>,
+    end: &Option<Outcome>,
+)
     requires client { c < length tables.old }
     requires number { next_in (slice_get tables.old c) < 2 ^ 32 - 1 }
-    ensures { tables.new ≡ at_client c (begun_with end.now (asked op.now)) tables.old }
+    requires can { IfSome (slice_get tables.old c) (CanBegin end.now call op.now) }
+    ensures { tables.new ≡ at_client c (begun_with end.now call op.now handle.now) tables.old }
 {
     let table = &mut tables[c];
-    table.begin(op, end);
+    table.begin(call, op, handle, end);
+}
+
+fn pending_of(table: &Table) -> Option<&Pending>
+    ensures { MatchOption result (table.now.pending ≡ no_pending) (λ pending. table.now.pending ≡ pending.now) }
+{
+    match &table.pending {
+        None => None,
+        Some(pending) => Some(pending),
+    }
+}
+
+fn register_at(tables: &mut [Table], c: usize, op: &Op)
+    requires client { c < length tables.old }
+    requires roomy { room_is_taken (slice_get tables.old c) ≡ true }
+    ensures { tables.new ≡ at_client c (with_client (registering (asked op.now))) tables.old }
+{
+    let table = &mut tables[c];
+    table.register(op);
+}
+
+fn finish_at(tables: &mut [Table], c: usize, call: CallId, end: Outcome)
+    requires { c < length tables.old }
+    ensures { tables.new ≡ at_client c (table_ended call end) tables.old }
+{
+    let table = &mut tables[c];
+    table.finish(call, end);
+}
+
+fn forget_over_at(tables: &mut [Table], c: usize, handle: Option<u32>)
+    requires { c < length tables.old }
+    ensures { tables.new ≡ at_client c (with_calls (left_over handle)) tables.old }
+{
+    let table = &mut tables[c];
+    table.forget_over(handle);
+}
+
+fn forget_all_at(tables: &mut [Table], c: usize)
+    requires { c < length tables.old }
+    ensures { tables.new ≡ at_client c (with_calls (λ p. no_pending)) tables.old }
+{
+    let table = &mut tables[c];
+    table.forget_all();
 }
 
 fn start_at(tables: &mut [Table], c: usize, op: &Op, iteration: Iteration)

@@ -13,14 +13,17 @@ ghost use Rattle.ckpt_types.specs.OpWord.{word_of_op};
 ghost use Rattle.node_core.specs.StageReplies.{reply_refused};
 ghost use Rattle.world_core.specs.HandSteps.{end_by, hand_taken, served_done};
 ghost use Rattle.world_core.specs.Happenings.{Adds, IsNext, IsStep};
-ghost use Rattle.world_core.specs.Shows.{IsShown, HasNumbersLeft, hand_at};
+ghost use Rattle.ckpt_types.specs.declared.identities.ActorName.TheVariants.{Client};
+ghost use Rattle.ckpt_types.specs.declared.identities.Who.TheVariants.{Actor};
+ghost use Rattle.world_core.specs.HandsState.{hand_at};
+ghost use Rattle.world_core.specs.Shows.{IsShown, HasNumbersLeft};
 ghost use Rattle.world_core.specs.UpdateSteps.{IsUpdate};
 
 use crate::hands::{InHand, let_go};
 use crate::lending::{creates, share_update};
 use crate::messages::{done, goes_on, served};
 use crate::world::World;
-use ckpt_types::{CallId, CkptId, Moment, NodeId};
+use ckpt_types::{ActorName, CallId, CkptId, Moment, NodeId, Who};
 use cluster_record::Record;
 use node_core::reply_refused;
 use node_msgs::{Details, Next, Request, Verb};
@@ -38,14 +41,14 @@ impl World {
         next: Next,
         log: &mut RunLog,
     ) -> Result<(), AllocError>
-        requires next { IsNext self.old c next }
-        requires update { (h : InHand) → hand_at self.old.hands c ≡ Some h → IsUpdate h.driver }
+        requires next { IsNext self.old (Actor (Client c)) next }
+        requires update { (h : InHand) → hand_at self.old.hands (Actor (Client c)) ≡ Some h → IsUpdate h.driver }
         requires is { IsOfUpdate next }
         requires client { c < client_numbers }
         requires shown { IsShown self.old }
         requires roomy { HasNumbersLeft self.old }
         requires spare { 1 ≤ log.old.spare }
-        ensures ok { OnOk result (Adds log.old log.new (IsStep c self.old self.new)) }
+        ensures ok { OnOk result (Adds log.old log.new (IsStep (Actor (Client c)) self.old self.new)) }
         ensures err { OnErr result ((self.new ≡ self.old) × (log.new.labels ≡ log.old.labels)) }
     {
         match next {
@@ -56,7 +59,7 @@ impl World {
                 self.commit_step(alloc, c, r, call, ckpt, log)
             }
             Next::End(end) => {
-                self.look_step(c, end, log);
+                self.look_step(Who::Actor(ActorName::Client(c)), end, log);
                 Ok(())
             }
             _ => unreachable!(),
@@ -75,16 +78,16 @@ impl World {
         moment: Moment,
         log: &mut RunLog,
     ) -> Result<(), AllocError>
-        requires next { IsNext self.old c (nexts.Serve r (requests.Stage asked ckpt moment)) }
-        requires update { (h : InHand) → hand_at self.old.hands c ≡ Some h → IsUpdate h.driver }
+        requires next { IsNext self.old (Actor (Client c)) (nexts.Serve r (requests.Stage asked ckpt moment)) }
+        requires update { (h : InHand) → hand_at self.old.hands (Actor (Client c)) ≡ Some h → IsUpdate h.driver }
         requires client { c < client_numbers }
         requires shown { IsShown self.old }
         requires roomy { HasNumbersLeft self.old }
         requires spare { 1 ≤ log.old.spare }
-        ensures ok { OnOk result (Adds log.old log.new (IsStep c self.old self.new)) }
+        ensures ok { OnOk result (Adds log.old log.new (IsStep (Actor (Client c)) self.old self.new)) }
         ensures err { OnErr result ((self.new ≡ self.old) × (log.new.labels ≡ log.old.labels)) }
     {
-        let slot = self.hands.at(c);
+        let slot = self.hands.at_client(c);
         let Some(hand) = slot else { unreachable!() };
         let call = hand.call;
         let op = hand.word();
@@ -110,19 +113,25 @@ impl World {
         ckpt: CkptId,
         log: &mut RunLog,
     ) -> Result<(), AllocError>
-        requires next { IsNext self.old c (nexts.Serve r (requests.Commit asked ckpt)) }
-        requires update { (h : InHand) → hand_at self.old.hands c ≡ Some h → IsUpdate h.driver }
+        requires next { IsNext self.old (Actor (Client c)) (nexts.Serve r (requests.Commit asked ckpt)) }
+        requires update { (h : InHand) → hand_at self.old.hands (Actor (Client c)) ≡ Some h → IsUpdate h.driver }
         requires client { c < client_numbers }
         requires shown { IsShown self.old }
         requires roomy { HasNumbersLeft self.old }
         requires spare { 1 ≤ log.old.spare }
-        ensures ok { OnOk result (Adds log.old log.new (IsStep c self.old self.new)) }
+        ensures ok { OnOk result (Adds log.old log.new (IsStep (Actor (Client c)) self.old self.new)) }
         ensures err { OnErr result ((self.new ≡ self.old) × (log.new.labels ≡ log.old.labels)) }
     {
-        let slot = self.hands.at(c);
+        let slot = self.hands.at_client(c);
         let Some(hand) = slot else { unreachable!() };
         if creates(&hand.op) {
-            return self.serve_step(alloc, c, r, &Request::Commit(asked, ckpt), log);
+            return self.serve_step(
+                alloc,
+                Who::Actor(ActorName::Client(c)),
+                r,
+                &Request::Commit(asked, ckpt),
+                log,
+            );
         }
         let call = hand.call;
         let op = hand.word();

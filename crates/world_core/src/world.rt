@@ -7,6 +7,10 @@ ghost use Rattle.world_core.specs.Runs.{IsNew, IsRunTo, MayHappen, Happens};
 ghost use Rattle.ckpt_machine.specs.Acknowledged.{AcknowledgedStay};
 ghost use Rattle.ckpt_machine.specs.Replays.{EffectsTellThroughout};
 ghost use Rattle.ckpt_machine.specs.Synchronized.{SynchronizedTell};
+ghost use Rattle.ckpt_machine.specs.WasAsked.{OnlyAskedThroughout};
+ghost use Rattle.ckpt_machine.specs.Owners.{OwnersInHandThroughout};
+ghost use Rattle.ckpt_machine.specs.ActivesSet.{ActivesAreSet};
+ghost use Rattle.ckpt_machine.specs.Causes.{EachEndIsAllowed};
 ghost use Rattle.ckpt_machine.specs.AllOrNone.{IsAllOrNoneThroughout};
 ghost use Rattle.ckpt_machine.specs.Refusals.{EachRefusalLeaves};
 ghost use Rattle.world_core.specs.StepsLeft.{ComesNearer};
@@ -76,11 +80,11 @@ impl World {
         &self.cluster
     }
 
-    /// Whether the client has a call in hand.
-    pub fn in_hand(&self, client: u8) -> bool
-        ensures { result ≡ is_some (call_in_hand self.now client) }
+    /// Whether a call is in hand under a name: that of a client, or that of an asynchronous call.
+    pub fn in_hand(&self, who: Who) -> bool
+        ensures { result ≡ is_some (call_in_hand self.now who) }
     {
-        self.hands.has(client)
+        self.hands.has(who)
     }
 
     /// One event, and one label more, which answers it. Want of memory leaves the world and the log as
@@ -110,6 +114,20 @@ impl World {
         // Behind a synchronisation that was answered OK each complete replica has the checkpoint's generation, and first what
         // the active had when it was pulled.
         ensures synchronized { SynchronizedTell log.new.labels }
+
+        // Only what was asked for is done: each effect of each replica, and what is staged or marked there, is of a call that
+        // began in the log with this very update, of this very checkpoint.
+        ensures asked { OnlyAskedThroughout log.new.labels }
+
+        // Slots, marks, makings and holds are of calls in hand alone, so a call that has ended leaves none.
+        ensures owners { OwnersInHandThroughout log.new.labels }
+
+        // Behind the setting of an active that was answered OK, the client's node is the active, and has what the one before it
+        // had.
+        ensures actives { ActivesAreSet log.new.labels }
+
+        // Each end of a call is allowed where it comes, so its cause is there.
+        ensures causes { EachEndIsAllowed log.new.labels }
         ensures err { OnErr result ((self.new ≡ self.old) × (log.new.labels ≡ log.old.labels)) }
 
         // For whoever steps a call to its end.
@@ -140,10 +158,7 @@ impl World {
             Event::Step(Who::Actor(ActorName::Client(c)), finish) => {
                 self.step(alloc, c, finish, log)
             }
-            Event::Step(who, finish) => {
-                self.idle(who, finish, log);
-                Ok(())
-            }
+            Event::Step(who, finish) => self.step_alone(alloc, who, finish, log),
             Event::Show(ckpt) => self.show(alloc, ckpt, log),
             Event::At(t) => {
                 self.at(t, log);

@@ -5,7 +5,7 @@ use Rattle.run_labels.specs.declared.labels.Label.{Label}
 use Rattle.cluster_record.specs.RecordState.{entry_of, swept}
 use Rattle.world_core.specs.Happenings.{IsStep}
 use Rattle.world_core.specs.Leading.{copy_held}
-use Rattle.world_core.specs.Shows.{hand_at}
+use Rattle.world_core.specs.HandsState.{hand_at}
 use Rattle.world_core.proofs.LeadSteps.{activates_one, lead_can, lead_node, lead_step}
 use Rattle.world_core.proofs.Held.{next_for}
 use Rattle.world_core.proofs.world.World.activate_step.Goals as goal
@@ -14,34 +14,34 @@ pub synchronized-ckpt-requires : goal.synchronized-ckpt-requires
 synchronized-ckpt-requires c =
     let w = c.args.self.now in
     let hand = c.in-Some.hand in
-    let held : hand_at w.hands c.args.c ≡ Some hand = c.at-slot.ensures.value ∙ c.in-Some.is in
-    activates_one w c.args.c c.args.r hand held (next_for w c.args.c (Event (Activate c.args.r)) hand held c.requires.next) c.requires.shown
+    let held : hand_at w.hands c.args.who ≡ Some hand = c.at-slot.ensures.value ∙ c.in-Some.is in
+    activates_one w c.args.who c.args.r hand held (next_for w c.args.who (Event (Activate c.args.r)) hand held c.requires.next) c.requires.shown
 
 pub lead-requires-clause-node : goal.lead-requires-clause-node
 lead-requires-clause-node c =
     let w = c.args.self.now in
     let hand = c.in-Some.hand in
-    let held : hand_at w.hands c.args.c ≡ Some hand = c.at-slot.ensures.value ∙ c.in-Some.is in
-    lead_node w c.args.c c.args.r hand held (next_for w c.args.c (Event (Activate c.args.r)) hand held c.requires.next) c.synchronized-ckpt.result c.synchronized-ckpt.ensures c.requires.shown
+    let held : hand_at w.hands c.args.who ≡ Some hand = c.at-slot.ensures.value ∙ c.in-Some.is in
+    lead_node w c.args.who c.args.r hand held (next_for w c.args.who (Event (Activate c.args.r)) hand held c.requires.next) c.synchronized-ckpt.result c.synchronized-ckpt.ensures c.requires.shown
 
 pub lead-requires-clause-can : goal.lead-requires-clause-can
 lead-requires-clause-can c =
     let w = c.args.self.now in
     let hand = c.in-Some.hand in
-    let held : hand_at w.hands c.args.c ≡ Some hand = c.at-slot.ensures.value ∙ c.in-Some.is in
-    lead_can w c.args.c c.args.r hand held (next_for w c.args.c (Event (Activate c.args.r)) hand held c.requires.next) c.synchronized-ckpt.result c.synchronized-ckpt.ensures c.requires.shown c.free_gone.ensures.eight c.free_gone.new.self c.sweep.new.self c.copy_held-held.result
+    let held : hand_at w.hands c.args.who ≡ Some hand = c.at-slot.ensures.value ∙ c.in-Some.is in
+    lead_can w c.args.who c.args.r hand held (next_for w c.args.who (Event (Activate c.args.r)) hand held c.requires.next) c.synchronized-ckpt.result c.synchronized-ckpt.ensures c.requires.shown c.free_gone.ensures.eight c.free_gone.new.self c.sweep.new.self c.copy_held-held.result
     (c.sweep.ensures ∙ ap swept c.set_active.ensures) (c.copy_held-held.ensures ∙ ap (copy_held (entry_of c.synchronized-ckpt.result w.cluster.entries)) c.lend_snapshot.ensures.lent) c.free_gone.ensures.new
 
 pub returns : goal.returns
 returns c =
     let w = c.args.self.now in
     let hand = c.in-Some.hand in
-    let held : hand_at w.hands c.args.c ≡ Some hand = c.at-slot.ensures.value ∙ c.in-Some.is in
+    let held : hand_at w.hands c.args.who ≡ Some hand = c.at-slot.ensures.value ∙ c.in-Some.is in
     record {
       label = _;
       labels = c.push.ensures.labels;
-      is = subst (λ (label : Label). IsStep c.args.c w (record c.free_gone.new.self { nodes = c.lead.new.nodes }) label) (sym c.stepped.ensures)
-          (lead_step w c.args.c c.args.r hand held (next_for w c.args.c (Event (Activate c.args.r)) hand held c.requires.next) c.synchronized-ckpt.result c.synchronized-ckpt.ensures c.requires.shown c.free_gone.ensures.eight c.free_gone.new.self c.sweep.new.self c.copy_held-held.result
+      is = subst (λ (label : Label). IsStep c.args.who w c.end_alone.new.self label) (sym c.stepped.ensures)
+          (lead_step w c.args.who c.args.r hand held (next_for w c.args.who (Event (Activate c.args.r)) hand held c.requires.next) c.synchronized-ckpt.result c.synchronized-ckpt.ensures c.requires.shown c.free_gone.ensures.eight c.free_gone.new.self c.sweep.new.self c.copy_held-held.result
           (c.sweep.ensures ∙ ap swept c.set_active.ensures) (c.copy_held-held.ensures ∙ ap (copy_held (entry_of c.synchronized-ckpt.result w.cluster.entries)) c.lend_snapshot.ensures.lent) c.free_gone.ensures.new
-          c.lead.new.nodes c.word-op.result c.lead.ensures c.word-op.ensures);
+          c.end_alone.new.self c.lead.new.nodes c.word-op.result c.lead.ensures c.end_alone.ensures c.word-op.ensures);
     }

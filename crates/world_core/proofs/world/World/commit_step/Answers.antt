@@ -4,6 +4,8 @@ use Rattle.node_msgs.specs.declared.steps.StepReply.TheVariants as words
 use Rattle.node_msgs.specs.declared.steps.Verb.TheVariants as verbs
 use Rattle.node_msgs.specs.declared.details.Details.TheVariants as beside
 use Rattle.run_labels.specs.declared.labels.Label.TheVariants.{Stepped}
+use Rattle.ckpt_types.specs.declared.identities.ActorName.TheVariants.{Client}
+use Rattle.ckpt_types.specs.declared.identities.Who.TheVariants.{Actor}
 use Rattle.cluster_record.specs.Calls.{left}
 use Rattle.world_core.specs.declared.world.World.{World}
 use Rattle.world_core.specs.Happenings.{Adds, IsStep}
@@ -16,31 +18,31 @@ use Rattle.world_core.proofs.world.World.commit_step.Goals as goal
 
 -- a creation goes on as it was
 pub serve_step-requires-clause-shown : goal.serve_step-requires-clause-shown
-serve_step-requires-clause-shown c = subst IsShown (sym (same_world c.args.self.now c.args.c (Some c.in-Some.hand) (c.at-slot.ensures.value ∙ c.in-Some.is))) c.requires.shown
+serve_step-requires-clause-shown c = subst IsShown (sym (same_world c.args.self.now (Actor (Client c.args.c)) (Some c.in-Some.hand) (c.at_client-slot.ensures.value ∙ c.in-Some.is))) c.requires.shown
 
 pub returns-then-creates-clause-ok : goal.returns-then-creates-clause-ok
 returns-then-creates-clause-ok c =
-    subst (λ (w : World). OnOk c.serve_step.result (Adds c.args.log.now c.serve_step.new.log (IsStep c.args.c w c.serve_step.new.self))) (same_world c.args.self.now c.args.c (Some c.in-Some.hand) (c.at-slot.ensures.value ∙ c.in-Some.is)) c.serve_step.ensures.ok
+    subst (λ (w : World). OnOk c.serve_step.result (Adds c.args.log.now c.serve_step.new.log (IsStep (Actor (Client c.args.c)) w c.serve_step.new.self))) (same_world c.args.self.now (Actor (Client c.args.c)) (Some c.in-Some.hand) (c.at_client-slot.ensures.value ∙ c.in-Some.is)) c.serve_step.ensures.ok
 
 pub returns-then-creates-clause-err : goal.returns-then-creates-clause-err
 returns-then-creates-clause-err c =
-    subst (λ (w : World). OnErr c.serve_step.result ((c.serve_step.new.self ≡ w) × (c.serve_step.new.log.labels ≡ c.args.log.now.labels))) (same_world c.args.self.now c.args.c (Some c.in-Some.hand) (c.at-slot.ensures.value ∙ c.in-Some.is)) c.serve_step.ensures.err
+    subst (λ (w : World). OnErr c.serve_step.result ((c.serve_step.new.self ≡ w) × (c.serve_step.new.log.labels ≡ c.args.log.now.labels))) (same_world c.args.self.now (Actor (Client c.args.c)) (Some c.in-Some.hand) (c.at_client-slot.ensures.value ∙ c.in-Some.is)) c.serve_step.ensures.err
 
 pub commit-requires-clause-node : goal.commit-requires-clause-node
-commit-requires-clause-node c = node_there c.args.self.now c.args.c c.args.r _ c.in-Some.hand (c.at-slot.ensures.value ∙ c.in-Some.is) c.requires.next c.requires.shown
+commit-requires-clause-node c = node_there c.args.self.now (Actor (Client c.args.c)) c.args.r _ c.in-Some.hand (c.at_client-slot.ensures.value ∙ c.in-Some.is) c.requires.next c.requires.shown
 
 pub commit-requires-clause-own : goal.commit-requires-clause-own
-commit-requires-clause-own c = owns c.args.self.now c.args.c c.args.r c.args.asked c.args.ckpt c.in-Some.hand (c.at-slot.ensures.value ∙ c.in-Some.is) c.requires.next c.requires.shown
+commit-requires-clause-own c = owns c.args.self.now c.args.c c.args.r c.args.asked c.args.ckpt c.in-Some.hand (c.at_client-slot.ensures.value ∙ c.in-Some.is) c.requires.next c.requires.shown
 
 pub committed-requires-clause-node : goal.committed-requires-clause-node
-committed-requires-clause-node c = node_there c.args.self.now c.args.c c.args.r _ c.in-Some.hand (c.at-slot.ensures.value ∙ c.in-Some.is) c.requires.next c.requires.shown
+committed-requires-clause-node c = node_there c.args.self.now (Actor (Client c.args.c)) c.args.r _ c.in-Some.hand (c.at_client-slot.ensures.value ∙ c.in-Some.is) c.requires.next c.requires.shown
 
 pub returns-then-committed-clause-ok : goal.returns-then-committed-clause-ok
 returns-then-committed-clause-ok c =
     record {
       label = _;
       labels = c.push.ensures.labels;
-      is = commit_is c.args.self.now c.args.c c.args.r c.args.asked c.args.ckpt c.in-Some.hand (c.at-slot.ensures.value ∙ c.in-Some.is) c.requires.next c.requires.shown (sym c.creates.ensures ∙ c.if-creates.false) c.commit.new.self c.commit.ensures c.word-op.result c.word-op.ensures
+      is = commit_is c.args.self.now c.args.c c.args.r c.args.asked c.args.ckpt c.in-Some.hand (c.at_client-slot.ensures.value ∙ c.in-Some.is) c.requires.next c.requires.shown (sym c.creates.ensures ∙ c.if-creates.false) c.commit.new.self c.commit.ensures c.word-op.result c.word-op.ensures
           c.committed.result c.committed.new.self (Some c.committed.new.self) _ (c.committed.ensures.new, c.committed.ensures.end) (ap (λ (b : Bool). left (ended_unless b) c.committed.new.self) (sym c.if-committed.true))
           (c.goes_on.ensures ∙ ap (λ (b : Bool). Stepped c.in-Some.hand.call c.word-op.result verbs.Commit (Some c.args.ckpt) (Some c.args.r) words.Ok (ended_unless b) beside.Nothing) (sym c.if-committed.true));
     }
@@ -50,7 +52,7 @@ returns-else-committed-clause-ok c =
     record {
       label = _;
       labels = c.push-else-committed.ensures.labels;
-      is = commit_is c.args.self.now c.args.c c.args.r c.args.asked c.args.ckpt c.in-Some.hand (c.at-slot.ensures.value ∙ c.in-Some.is) c.requires.next c.requires.shown (sym c.creates.ensures ∙ c.if-creates.false) c.commit.new.self c.commit.ensures c.word-op.result c.word-op.ensures
+      is = commit_is c.args.self.now c.args.c c.args.r c.args.asked c.args.ckpt c.in-Some.hand (c.at_client-slot.ensures.value ∙ c.in-Some.is) c.requires.next c.requires.shown (sym c.creates.ensures ∙ c.if-creates.false) c.commit.new.self c.commit.ensures c.word-op.result c.word-op.ensures
           c.committed.result c.committed.new.self None _ (c.committed.ensures.new, c.committed.ensures.end) (ap (λ (b : Bool). left (ended_unless b) c.committed.new.self) (sym c.if-committed.false))
           (c.done.ensures ∙ ap (λ (b : Bool). Stepped c.in-Some.hand.call c.word-op.result verbs.Commit (Some c.args.ckpt) (Some c.args.r) words.Ok (ended_unless b) beside.Nothing) (sym c.if-committed.false));
     }

@@ -4,11 +4,19 @@ use Rattle.ckpt_machine.specs.AllOrNone.{IsAllOrNoneThroughout}
 use Rattle.ckpt_machine.specs.Refusals.{EachRefusalLeaves}
 use Rattle.ckpt_machine.specs.Replays.{EffectsTellThroughout}
 use Rattle.ckpt_machine.specs.Synchronized.{SynchronizedTell}
+use Rattle.ckpt_machine.specs.WasAsked.{OnlyAskedThroughout}
+use Rattle.ckpt_machine.specs.Owners.{OwnersInHandThroughout}
+use Rattle.ckpt_machine.specs.ActivesSet.{ActivesAreSet}
+use Rattle.ckpt_machine.specs.Causes.{EachEndIsAllowed}
 use Rattle.world_core.proofs.Events.{run_with, happens_with, nearer_with}
 use Rattle.ckpt_machine.proofs.Acknowledged.{acknowledged_stay}
 use Rattle.ckpt_machine.proofs.AllOrNone.{on_all_or_none}
 use Rattle.ckpt_machine.proofs.EffectsTell.{effects_tell}
 use Rattle.ckpt_machine.proofs.Synchronized.{synchronisations_tell}
+use Rattle.ckpt_machine.proofs.OnlyAsked.{only_asked}
+use Rattle.ckpt_machine.proofs.OwnersInHand.{owners_in_hand}
+use Rattle.ckpt_machine.proofs.ActivesSet.{actives_are_set}
+use Rattle.ckpt_machine.proofs.Causes.{ends_allowed}
 use Rattle.ckpt_machine.proofs.RefusedRuns.{run_leaves}
 use Rattle.world_core.proofs.Running.{shown, roomy}
 use Rattle.world_core.proofs.world.World.event.Goals as goal
@@ -83,3 +91,39 @@ pub returns-clause-nearer : goal.returns-clause-nearer
 returns-clause-nearer c =
     let added = c.in_ok-happen.ensures.ok in
     nearer_with c.args.event c.args.log.now.labels c.args.self.now c.happen.new.self added.label c.requires.run added.is
+
+pub returns-clause-asked : goal.returns-clause-asked
+returns-clause-asked c = only_asked c.happen.new.log.labels (returns-clause-run c).run
+
+pub returns-in_err-reserve-clause-asked : goal.returns-in_err-reserve-clause-asked
+returns-in_err-reserve-clause-asked c = subst OnlyAskedThroughout (sym c.reserve.ensures.labels) (only_asked c.args.log.now.labels c.requires.run.run)
+
+pub returns-in_err-happen-clause-asked : goal.returns-in_err-happen-clause-asked
+returns-in_err-happen-clause-asked c = subst OnlyAskedThroughout (sym (c.in_err-happen.ensures.err.1 ∙ c.reserve.ensures.labels)) (only_asked c.args.log.now.labels c.requires.run.run)
+
+pub returns-clause-owners : goal.returns-clause-owners
+returns-clause-owners c = owners_in_hand c.happen.new.log.labels (returns-clause-run c).run
+
+pub returns-in_err-reserve-clause-owners : goal.returns-in_err-reserve-clause-owners
+returns-in_err-reserve-clause-owners c = subst OwnersInHandThroughout (sym c.reserve.ensures.labels) (owners_in_hand c.args.log.now.labels c.requires.run.run)
+
+pub returns-in_err-happen-clause-owners : goal.returns-in_err-happen-clause-owners
+returns-in_err-happen-clause-owners c = subst OwnersInHandThroughout (sym (c.in_err-happen.ensures.err.1 ∙ c.reserve.ensures.labels)) (owners_in_hand c.args.log.now.labels c.requires.run.run)
+
+pub returns-clause-actives : goal.returns-clause-actives
+returns-clause-actives c = actives_are_set c.happen.new.log.labels (returns-clause-run c).run
+
+pub returns-in_err-reserve-clause-actives : goal.returns-in_err-reserve-clause-actives
+returns-in_err-reserve-clause-actives c = subst ActivesAreSet (sym c.reserve.ensures.labels) (actives_are_set c.args.log.now.labels c.requires.run.run)
+
+pub returns-in_err-happen-clause-actives : goal.returns-in_err-happen-clause-actives
+returns-in_err-happen-clause-actives c = subst ActivesAreSet (sym (c.in_err-happen.ensures.err.1 ∙ c.reserve.ensures.labels)) (actives_are_set c.args.log.now.labels c.requires.run.run)
+
+pub returns-clause-causes : goal.returns-clause-causes
+returns-clause-causes c = ends_allowed c.happen.new.log.labels (returns-clause-run c).run
+
+pub returns-in_err-reserve-clause-causes : goal.returns-in_err-reserve-clause-causes
+returns-in_err-reserve-clause-causes c = subst EachEndIsAllowed (sym c.reserve.ensures.labels) (ends_allowed c.args.log.now.labels c.requires.run.run)
+
+pub returns-in_err-happen-clause-causes : goal.returns-in_err-happen-clause-causes
+returns-in_err-happen-clause-causes c = subst EachEndIsAllowed (sym (c.in_err-happen.ensures.err.1 ∙ c.reserve.ensures.labels)) (ends_allowed c.args.log.now.labels c.requires.run.run)

@@ -1,20 +1,24 @@
-use Rattle.std.proofs.Common.{refl, sym, subst, ◌∙◌}
-use Rattle.std.specs.Prelude.{None, slice_set}
+use Rattle.std.proofs.Common.{sym, subst, ap, ◌∙◌}
+use Rattle.std.specs.Prelude.{Some}
+use Rattle.node_msgs.specs.declared.next.Next.TheVariants.{End}
 use Rattle.run_labels.specs.declared.labels.Label.{Label}
-use Rattle.world_core.specs.declared.world.World.{World}
+use Rattle.world_core.specs.Alone.{ended_at}
 use Rattle.world_core.specs.Happenings.{IsStep}
 use Rattle.world_core.specs.Settling.{without_making_of}
-use Rattle.world_core.proofs.Stepping.{look_is}
+use Rattle.world_core.proofs.Held.{next_for}
+use Rattle.world_core.proofs.Look.{look_is}
 use Rattle.world_core.proofs.world.World.look_step.Goals as goal
 
 pub returns : goal.returns
 returns c =
-    let behind : World = without_making_of c.making-making.result (record c.args.self.now { tables = c.settle_look.new.tables; hands = slice_set c.args.self.now.hands c.args.c None }) in
+    let w = c.args.self.now in
+    let hand = c.in-Some.hand in
+    let held = c.at-slot.ensures.value ∙ c.in-Some.is in
     record {
       label = _;
       labels = c.push.ensures.labels;
-      is = subst (λ (w : World). IsStep c.args.c c.args.self.now w c.stepped.result) (sym c.unmake.ensures)
-          (subst (λ (label : Label). IsStep c.args.c c.args.self.now behind label) (sym c.stepped.ensures)
-          (look_is c.args.self.now c.args.c c.args.end c.in-Some.hand c.making-making.result c.settle_look.new.tables (slice_set c.args.self.now.hands c.args.c None) c.word-op.result c.look_word-reply.result
-          c.requires.shown (c.at-slot.ensures.value ∙ c.in-Some.is) c.requires.next c.making-making.ensures c.settle_look.ensures refl c.word-op.ensures c.look_word-reply.ensures));
+      is = subst (λ (label : Label). IsStep c.args.who w c.end_alone.new.self label) (sym c.stepped.ensures)
+          (look_is w c.args.who c.args.end hand held (next_for w c.args.who (End c.args.end) hand held c.requires.next) c.end_alone.new.self c.making-making.result c.settle_look.new.tables c.client_by-c.result c.handle_closed-closed.result c.word-op.result c.look_word-reply.result
+          c.requires.shown c.making-making.ensures c.client_by-c.ensures c.handle_closed-closed.ensures c.settle_look.ensures c.word-op.ensures c.look_word-reply.ensures
+          (c.end_alone.ensures ∙ ap (ended_at c.args.who (Some c.args.end)) (c.unmake.ensures ∙ ap (without_making_of c.making-making.result) c.let_go_with_look.ensures)));
     }

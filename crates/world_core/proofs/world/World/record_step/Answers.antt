@@ -1,18 +1,19 @@
-use Rattle.std.proofs.Common.{◌≡◌, List, length, Some, refl, sym, ap, subst, ◌∙◌}
-use Rattle.std.specs.Prelude.{Option, None, IsTrue, slice_set}
+use Rattle.std.proofs.Common.{◌≡◌, length, Some, refl, sym, ap, subst, ◌∙◌}
+use Rattle.std.specs.Prelude.{Option, None, IsTrue}
 use Rattle.ckpt_types.specs.declared.answers.Outcome.{Outcome}
 use Rattle.ckpt_types.specs.declared.answers.Outcome.TheVariants.{NoMemory}
 use Rattle.node_msgs.specs.declared.steps.StepReply.TheVariants.{Memory}
 use Rattle.run_labels.specs.declared.labels.Label.{Label}
+use Rattle.world_core.specs.declared.world.World.{World}
 use Rattle.world_core.specs.Happenings.{IsStep}
+use Rattle.world_core.specs.Settling.{CanSettle}
 use Rattle.world_core.specs.RecordReady.{IsRefusedWith}
 use Rattle.node_msgs.specs.declared.next.Next.TheVariants.{Event}
 use Rattle.ckpt_machine.specs.Driving.{takes_memory}
 use Rattle.world_core.specs.RecordAfter.{event_after, nodes_behind, snapshots_behind}
-use Rattle.cluster_record.specs.RecordState.{RecordState}
-use Rattle.world_core.specs.Shows.{hand_at}
-use Rattle.replica.specs.Replicas.{Replica}
-use Rattle.world_core.specs.declared.snapshots.Background.{Background}
+use Rattle.world_core.specs.HandsState.{hand_at, set_at}
+use Rattle.world_core.specs.Alone.{ended_at}
+use Rattle.world_core.specs.Freeing.{freed_world}
 use Rattle.world_core.proofs.Going.{length-behind}
 use Rattle.world_core.proofs.Held.{next_for}
 use Rattle.world_core.proofs.RecordSteps.{can_add, can_settle, is_ready, when_ok, when_err, event_step, refused_step}
@@ -22,55 +23,57 @@ pub apply-applied-requires-clause-ready : goal.apply-applied-requires-clause-rea
 apply-applied-requires-clause-ready c =
     let w = c.args.self.now in
     let hand = c.in-Some.hand in
-    let held : hand_at w.hands c.args.c ≡ Some hand = c.at-slot.ensures.value ∙ c.in-Some.is in
-    is_ready w c.args.c c.args.step hand held (next_for w c.args.c (Event c.args.step) hand held c.requires.next) c.requires.shown (c.requires.granted hand held) c.requires.roomy
+    let held : hand_at w.hands c.args.who ≡ Some hand = c.at-slot.ensures.value ∙ c.in-Some.is in
+    is_ready w c.args.who c.args.step hand held (next_for w c.args.who (Event c.args.step) hand held c.requires.next) c.requires.shown (c.requires.granted hand held) c.requires.roomy
 
 pub apply-applied-requires-clause-free : goal.apply-applied-requires-clause-free
 apply-applied-requires-clause-free c =
     let w = c.args.self.now in
     let hand = c.in-Some.hand in
-    let held : hand_at w.hands c.args.c ≡ Some hand = c.at-slot.ensures.value ∙ c.in-Some.is in
-    can_add w c.args.c c.args.step hand held (next_for w c.args.c (Event c.args.step) hand held c.requires.next) c.requires.shown (c.requires.granted hand held)
+    let held : hand_at w.hands c.args.who ≡ Some hand = c.at-slot.ensures.value ∙ c.in-Some.is in
+    can_add w c.args.who c.args.step hand held (next_for w c.args.who (Event c.args.step) hand held c.requires.next) c.requires.shown (c.requires.granted hand held)
 
 pub settle-requires-clause-can : goal.settle-requires-clause-can
 settle-requires-clause-can c =
     let w = c.args.self.now in
     let hand = c.in-Some.hand in
-    let held : hand_at w.hands c.args.c ≡ Some hand = c.at-slot.ensures.value ∙ c.in-Some.is in
-    can_settle w c.args.c c.args.step hand held (next_for w c.args.c (Event c.args.step) hand held c.requires.next) c.requires.shown (c.requires.granted hand held) c.requires.roomy
+    let held : hand_at w.hands c.args.who ≡ Some hand = c.at-slot.ensures.value ∙ c.in-Some.is in
+    subst (λ n. CanSettle n hand.op c.args.step w.tables) (sym c.client_by-c.ensures) (can_settle w c.args.who c.args.step hand held (next_for w c.args.who (Event c.args.step) hand held c.requires.next) c.requires.shown (c.requires.granted hand held) c.requires.roomy c.requires.has_room)
 
 pub returns-then-is_err : goal.returns-then-is_err
 returns-then-is_err c =
     let w = c.args.self.now in
     let hand = c.in-Some.hand in
-    let held : hand_at w.hands c.args.c ≡ Some hand = c.at-slot.ensures.value ∙ c.in-Some.is in
-    let hands = slice_set w.hands c.args.c None in
+    let held : hand_at w.hands c.args.who ≡ Some hand = c.at-slot.ensures.value ∙ c.in-Some.is in
+    let hands = set_at w.hands c.args.who None in
     let err = sym c.is_err.ensures.value ∙ c.if-is_err.true in
     let same : (c.apply-applied.new.cluster ≡ w.cluster) × (c.apply-applied.new.nodes ≡ w.nodes) × (c.apply-applied.new.snapshots ≡ w.snapshots) = when_err ((c.apply-applied.new.cluster ≡ w.cluster) × (c.apply-applied.new.nodes ≡ w.nodes) × (c.apply-applied.new.snapshots ≡ w.snapshots)) c.apply-applied.result err c.apply-applied.ensures.err in
     let takes : IsTrue (takes_memory c.args.step) = when_err (IsTrue (takes_memory c.args.step)) c.apply-applied.result err c.apply-applied.ensures.memory in
     record {
       label = _;
       labels = c.push.ensures.labels;
-      is = subst (λ (z : RecordState × List (List Replica) × List Background × Label). IsStep c.args.c w (record w { cluster = z.0; nodes = z.1; snapshots = z.2; hands = hands }) z.3) (λ i. (sym same.0 i, sym same.1 i, sym same.2 i, sym c.stepped.ensures i))
-          (refused_step w c.args.c c.args.step hand held (next_for w c.args.c (Event c.args.step) hand held c.requires.next) c.requires.shown hands c.word-op.result c.verb-verb.result c.event_ckpt-ckpt.result c.event_node-node.result Memory NoMemory c.requires.plain
-          (subst (λ (o : Option Outcome). IsRefusedWith o c.args.step Memory NoMemory) (sym (c.requires.granted hand held)) (takes, refl)) refl c.event_ckpt-ckpt.ensures c.event_node-node.ensures c.word-op.ensures c.verb-verb.ensures);
+      is = subst (λ (label : Label). IsStep c.args.who w c.end_alone.new.self label) (sym c.stepped.ensures)
+          (refused_step w c.args.who c.args.step hand held (next_for w c.args.who (Event c.args.step) hand held c.requires.next) c.requires.shown c.end_alone.new.self c.word-op.result c.verb-verb.result c.event_ckpt-ckpt.result c.event_node-node.result Memory NoMemory c.requires.plain
+          (subst (λ (o : Option Outcome). IsRefusedWith o c.args.step Memory NoMemory) (sym (c.requires.granted hand held)) (takes, refl))
+          (c.end_alone.ensures ∙ (λ i. ended_at c.args.who (Some NoMemory) (record w { cluster = same.0 i; nodes = same.1 i; snapshots = same.2 i; hands = hands }))) c.event_ckpt-ckpt.ensures c.event_node-node.ensures c.word-op.ensures c.verb-verb.ensures);
     }
 
 pub returns : goal.returns
 returns c =
     let w = c.args.self.now in
     let hand = c.in-Some.hand in
-    let held : hand_at w.hands c.args.c ≡ Some hand = c.at-slot.ensures.value ∙ c.in-Some.is in
-    let next = next_for w c.args.c (Event c.args.step) hand held c.requires.next in
+    let held : hand_at w.hands c.args.who ≡ Some hand = c.at-slot.ensures.value ∙ c.in-Some.is in
+    let next = next_for w c.args.who (Event c.args.step) hand held c.requires.next in
     let ok = sym c.is_err.ensures.value ∙ c.if-is_err.false in
     let record_is : c.apply-applied.new.cluster ≡ event_after hand.call hand.driver c.args.step w.cluster = when_ok (c.apply-applied.new.cluster ≡ event_after hand.call hand.driver c.args.step w.cluster) c.apply-applied.result ok c.apply-applied.ensures.ok in
     let nodes_are : c.apply-applied.new.nodes ≡ nodes_behind hand.driver c.args.step w.cluster w.nodes = when_ok (c.apply-applied.new.nodes ≡ nodes_behind hand.driver c.args.step w.cluster w.nodes) c.apply-applied.result ok c.apply-applied.ensures.nodes in
     let snapshots_are : c.apply-applied.new.snapshots ≡ snapshots_behind hand.driver c.args.step w.cluster w.snapshots = when_ok (c.apply-applied.new.snapshots ≡ snapshots_behind hand.driver c.args.step w.cluster w.snapshots) c.apply-applied.result ok c.apply-applied.ensures.snapshots in
-    let eight : length w.nodes ≡ 8 = sym (ap length nodes_are ∙ length-behind hand.driver c.args.step w.cluster w.nodes) ∙ c.free_gone.ensures.eight in
+    let eight : length w.nodes ≡ 8 = sym (ap length nodes_are ∙ length-behind hand.driver c.args.step w.cluster w.nodes) ∙ sym (ap (λ (x : World). length x.nodes) c.let_go_with.ensures) ∙ c.free_gone.ensures.eight in
+    let new_is = c.end_alone-2.ensures ∙ ap (ended_at c.args.who c.event_end-end.result) (c.free_gone.ensures.new ∙ ap freed_world c.let_go_with.ensures) in
     record {
       label = _;
       labels = c.push-2.ensures.labels;
-      is = subst (λ (label : Label). IsStep c.args.c w c.free_gone.new.self label) (sym c.stepped-2.ensures)
-          (event_step w c.args.c c.args.step hand held next c.requires.shown c.free_gone.new.self c.apply-applied.new.cluster c.apply-applied.new.nodes c.apply-applied.new.snapshots c.settle.new.tables c.told.new.self c.let_go.new.slot c.word-op.result c.verb-verb.result c.event_ckpt-ckpt.result c.event_node-node.result c.event_end-end.result
-          (c.requires.granted hand held) c.requires.plain c.requires.roomy c.requires.has_room eight record_is c.event_ckpt-ckpt.ensures c.event_node-node.ensures c.event_end-end.ensures c.settle.ensures c.told.ensures c.let_go.ensures nodes_are snapshots_are c.free_gone.ensures.new c.word-op.ensures c.verb-verb.ensures);
+      is = subst (λ (label : Label). IsStep c.args.who w c.end_alone-2.new.self label) (sym c.stepped-2.ensures)
+          (event_step w c.args.who c.args.step hand held next c.requires.shown c.end_alone-2.new.self c.apply-applied.new.cluster c.apply-applied.new.nodes c.apply-applied.new.snapshots c.settle.new.tables c.told.new.self c.let_go.new.slot c.client_by-c.result c.handle_closed-closed.result c.word-op.result c.verb-verb.result c.event_ckpt-ckpt.result c.event_node-node.result c.event_end-end.result
+          (c.requires.granted hand held) c.requires.plain c.requires.roomy c.requires.has_room eight record_is c.event_ckpt-ckpt.ensures c.event_node-node.ensures c.event_end-end.ensures c.settle.ensures c.told.ensures c.let_go.ensures nodes_are snapshots_are c.client_by-c.ensures c.handle_closed-closed.ensures new_is c.word-op.ensures c.verb-verb.ensures);
     }

@@ -1,9 +1,8 @@
-use Rattle.std.proofs.Common.{◌≡◌, Some, refl, sym, subst, ◌∙◌}
-use Rattle.std.specs.Prelude.{None, slice_set}
+use Rattle.std.proofs.Common.{◌≡◌, Some, sym, subst, ◌∙◌}
 use Rattle.node_msgs.specs.declared.next.Next.TheVariants.{Event}
 use Rattle.run_labels.specs.declared.labels.Label.{Label}
 use Rattle.world_core.specs.Happenings.{IsStep}
-use Rattle.world_core.specs.Shows.{hand_at}
+use Rattle.world_core.specs.HandsState.{hand_at}
 use Rattle.world_core.proofs.Held.{next_for}
 use Rattle.world_core.proofs.RecordSteps.{refused_step}
 use Rattle.world_core.proofs.world.World.refuse_step.Goals as goal
@@ -12,12 +11,12 @@ pub returns : goal.returns
 returns c =
     let w = c.args.self.now in
     let hand = c.in-Some.hand in
-    let held : hand_at w.hands c.args.c ≡ Some hand = c.at-slot.ensures.value ∙ c.in-Some.is in
-    let next = next_for w c.args.c (Event c.args.step) hand held c.requires.next in
+    let held : hand_at w.hands c.args.who ≡ Some hand = c.at-slot.ensures.value ∙ c.in-Some.is in
+    let next = next_for w c.args.who (Event c.args.step) hand held c.requires.next in
     record {
       label = _;
       labels = c.push.ensures.labels;
-      is = subst (λ (label : Label). IsStep c.args.c w (record w { hands = slice_set w.hands c.args.c None }) label) (sym c.stepped.ensures)
-          (refused_step w c.args.c c.args.step hand held next c.requires.shown (slice_set w.hands c.args.c None) c.word-op.result c.verb.result c.event_ckpt-ckpt.result c.event_node-node.result c.args.reply c.args.end c.requires.plain (c.requires.refused hand held) refl c.event_ckpt-ckpt.ensures
+      is = subst (λ (label : Label). IsStep c.args.who w c.end_alone.new.self label) (sym c.stepped.ensures)
+          (refused_step w c.args.who c.args.step hand held next c.requires.shown c.end_alone.new.self c.word-op.result c.verb.result c.event_ckpt-ckpt.result c.event_node-node.result c.args.reply c.args.end c.requires.plain (c.requires.refused hand held) c.end_alone.ensures c.event_ckpt-ckpt.ensures
           c.event_node-node.ensures c.word-op.ensures c.verb.ensures);
     }

@@ -2,6 +2,8 @@ use Rattle.std.proofs.Common.{◌≡◌, ℤ, Some, w64, to_z, of_z, refl, ap, s
 use Rattle.std.proofs.lemmas.Int.{to_z-of_z}
 use Rattle.std.specs.Prelude.{IfSome}
 use Rattle.ckpt_types.specs.declared.answers.Answer.TheVariants as answers
+use Rattle.ckpt_types.specs.declared.identities.ActorName.TheVariants.{Client}
+use Rattle.ckpt_types.specs.declared.identities.Who.TheVariants.{Actor}
 use Rattle.node_core.specs.StageReplies.{reply_told}
 use Rattle.replica.specs.Replicas.{answer_unless, outcome_on, staged}
 use Rattle.stage_slot.specs.Slots.{owner_of}
@@ -13,19 +15,19 @@ use Rattle.world_core.proofs.Stepping.{node_there}
 use Rattle.world_core.proofs.world.World.stage_step.Goals as goal
 
 pub returns-in_err-update-clause-err : goal.returns-in_err-update-clause-err
-returns-in_err-update-clause-err c = left_alone c.from_residual.result c.args.self.now c.args.c (Some c.in-Some.hand) c.args.log.now.labels (c.at-slot.ensures.value ∙ c.in-Some.is)
+returns-in_err-update-clause-err c = left_alone c.from_residual.result c.args.self.now (Actor (Client c.args.c)) (Some c.in-Some.hand) c.args.log.now.labels (c.at_client-slot.ensures.value ∙ c.in-Some.is)
 
 pub stage-requires-clause-node : goal.stage-requires-clause-node
-stage-requires-clause-node c = node_there c.args.self.now c.args.c c.args.r _ c.in-Some.hand (c.at-slot.ensures.value ∙ c.in-Some.is) c.requires.next c.requires.shown
+stage-requires-clause-node c = node_there c.args.self.now (Actor (Client c.args.c)) c.args.r _ c.in-Some.hand (c.at_client-slot.ensures.value ∙ c.in-Some.is) c.requires.next c.requires.shown
 
 pub stage-requires-clause-there : goal.stage-requires-clause-there
-stage-requires-clause-there c = takes c.args.self.now c.args.c c.args.r c.args.asked c.args.ckpt c.args.moment c.in-Some.hand (c.at-slot.ensures.value ∙ c.in-Some.is) c.requires.next c.requires.shown c.requires.roomy
+stage-requires-clause-there c = takes c.args.self.now c.args.c c.args.r c.args.asked c.args.ckpt c.args.moment c.in-Some.hand (c.at_client-slot.ensures.value ∙ c.in-Some.is) c.requires.next c.requires.shown c.requires.roomy
 
 pub refuse_stage-requires-clause-node : goal.refuse_stage-requires-clause-node
-refuse_stage-requires-clause-node c = node_there c.args.self.now c.args.c c.args.r _ c.in-Some.hand (c.at-slot.ensures.value ∙ c.in-Some.is) c.requires.next c.requires.shown
+refuse_stage-requires-clause-node c = node_there c.args.self.now (Actor (Client c.args.c)) c.args.r _ c.in-Some.hand (c.at_client-slot.ensures.value ∙ c.in-Some.is) c.requires.next c.requires.shown
 
 pub staged-requires-clause-node : goal.staged-requires-clause-node
-staged-requires-clause-node c = node_there c.args.self.now c.args.c c.args.r _ c.in-Some.hand (c.at-slot.ensures.value ∙ c.in-Some.is) c.requires.next c.requires.shown
+staged-requires-clause-node c = node_there c.args.self.now (Actor (Client c.args.c)) c.args.r _ c.in-Some.hand (c.at_client-slot.ensures.value ∙ c.in-Some.is) c.requires.next c.requires.shown
 
 pub returns-in-Err-clause-ok : goal.returns-in-Err-clause-ok
 returns-in-Err-clause-ok c =
@@ -38,7 +40,7 @@ returns-in-Err-clause-ok c =
     record {
       label = _;
       labels = c.refuse_stage.ensures.label hand refl;
-      is = stage_refused w c.args.c c.args.r c.args.asked c.args.ckpt c.args.moment hand (c.at-slot.ensures.value ∙ c.in-Some.is) c.requires.next c.requires.shown update c.in_ok-update.ensures c.stage.result answer c.stage.new.self nodes (word_of_op hand.op) refl
+      is = stage_refused w c.args.c c.args.r c.args.asked c.args.ckpt c.args.moment hand (c.at_client-slot.ensures.value ∙ c.in-Some.is) c.requires.next c.requires.shown update c.in_ok-update.ensures c.stage.result answer c.stage.new.self nodes (word_of_op hand.op) refl
           c.in-Err.refused c.refuse_stage.new.slot c.in-Err.is (c.refuse_stage.ensures.slot hand refl);
     }
 
@@ -53,6 +55,6 @@ returns-clause-ok c =
     record {
       label = _;
       labels = c.push.ensures.labels;
-      is = stage_is w c.args.c c.args.r c.args.asked c.args.ckpt c.args.moment hand (c.at-slot.ensures.value ∙ c.in-Some.is) c.requires.next c.requires.shown update c.in_ok-update.ensures c.stage.result answer c.stage.new.self nodes c.word-op.result c.word-op.ensures
-          c.staged.new.self _ (c.requires.update hand (c.at-slot.ensures.value ∙ c.in-Some.is)) (ap (reply_told answers.Nothing) c.in_default-stage.is) c.staged.ensures c.goes_on.ensures;
+      is = stage_is w c.args.c c.args.r c.args.asked c.args.ckpt c.args.moment hand (c.at_client-slot.ensures.value ∙ c.in-Some.is) c.requires.next c.requires.shown update c.in_ok-update.ensures c.stage.result answer c.stage.new.self nodes c.word-op.result c.word-op.ensures
+          c.staged.new.self _ (c.requires.update hand (c.at_client-slot.ensures.value ∙ c.in-Some.is)) (ap (reply_told answers.Nothing) c.in_default-stage.is) c.staged.ensures c.goes_on.ensures;
     }

@@ -1,0 +1,289 @@
+-- The calls in hand, by name, behind each change of them.
+use Rattle.std.proofs.Common.{◌≡◌, ℕ, zero, suc, ◌+◌, ◌<◌, Bool, true, false, List, [], ◌∷◌, ◌++◌, length, refl, sym, ap, subst, ◌∙◌, cond, arith}
+use Rattle.std.specs.Prelude.{Option, Some, None, IfSome, not, filter, take, ◌&&◌, ◌==◌, slice_get}
+use Rattle.ckpt_types.specs.declared.answers.Outcome.{Outcome}
+use Rattle.ckpt_types.specs.declared.identities.ActorName.{ActorName}
+use Rattle.ckpt_types.specs.declared.identities.ActorName.TheVariants.{Client, Node}
+use Rattle.ckpt_types.specs.declared.identities.CallId.{CallId}
+use Rattle.ckpt_types.specs.declared.identities.Who.{Who}
+use Rattle.ckpt_types.specs.declared.identities.Who.TheVariants.{Actor, Call}
+use Rattle.cluster_record.specs.Calls.{left, same_actor, same_call}
+use Rattle.cluster_record.specs.Places.{or_none}
+use Rattle.cluster_record.proofs.Places.{get_set, there_is}
+use Rattle.call_dispatch.specs.PendingCalls.{PendingCalls, no_pending}
+use Rattle.ckpt_machine.specs.Steps.{goes_with}
+use Rattle.ckpt_machine.specs.Whose.{is_of, put_who}
+use Rattle.ckpt_machine.proofs.Actors.{same_call-refl, same_call-true}
+use Rattle.world_core.specs.declared.hands.InHand.{InHand}
+use Rattle.world_core.specs.declared.world.World.{World}
+use Rattle.world_core.specs.Alone.{calls_gone, ended_at, syncs_gone}
+use Rattle.world_core.specs.TableState.{pending_by}
+use Rattle.world_core.specs.HandsState.{HandsState, IsPlaceOf, changed_alone, found_alone, hand_at, has_call, has_other, left_at, meets, set_at, with_alone, without_call, without_those}
+
+-- ---- two calls
+
+-- tests that say the same are one
+bools_agree : (a b : Bool) → (a ≡ true → b ≡ true) → (b ≡ true → a ≡ true) → a ≡ b
+bools_agree true b f g = sym (f refl)
+bools_agree false true f g = g refl
+bools_agree false false f g = refl
+
+-- whether two calls are one is asked of both alike
+pub same_call-sym : (a b : CallId) → same_call a b ≡ same_call b a
+same_call-sym a b = bools_agree (same_call a b) (same_call b a)
+    (λ e. ap (λ z. same_call b z) (same_call-true a b e) ∙ same_call-refl b)
+    (λ e. ap (λ z. same_call a z) (same_call-true b a e) ∙ same_call-refl a)
+
+-- a call that is one of two is the other just where both are one
+pub same_call-shared : (a b c : CallId) → same_call a c ≡ true → same_call a b ≡ same_call c b
+same_call-shared a b c e = ap (λ z. same_call z b) (same_call-true a c e)
+
+-- ---- what is found among the asynchronous calls
+
+-- what is found is of the name
+pub found-call : (call : CallId) (xs : List (Option InHand)) (h : InHand) → found_alone call xs ≡ Some h → same_call h.call call ≡ true
+found-call call [] h e = absurd (cc e)
+found-call call (None ∷ xs) h e = found-call call xs h e
+found-call call (Some x ∷ xs) h e = by_test (same_call x.call call) refl (found-call call xs h) e
+  where
+    by_test : (b : Bool) → same_call x.call call ≡ b → (found_alone call xs ≡ Some h → same_call h.call call ≡ true) → cond b (Some x) (found_alone call xs) ≡ Some h → same_call h.call call ≡ true
+    by_test true same more e = let is : x ≡ h = cc e in subst (λ (z : InHand). same_call z.call call ≡ true) is same
+    by_test false other more e = more e
+
+-- what is before another is found first, and there is no more than one
+both : (b c : Bool) (x y z : Option InHand) → (b ≡ true → c ≡ false) → cond c x (cond b y z) ≡ cond b y (cond c x z)
+both true true x y z h = absurd (let g : true ≡ false = h refl in cc g)
+both true false x y z h = refl
+both false c x y z h = refl
+
+-- what is left out is found no more, and what is left is found as before
+left_out : (b c t : Bool) (x before after : Option InHand) → (c ≡ true → b ≡ t) → after ≡ cond t None before → cond b after (cond c x after) ≡ cond t None (cond c x before)
+left_out true true t x before after h e = let is : true ≡ t = h refl in e ∙ subst (λ t. cond t None before ≡ cond t None x) is refl
+left_out true false t x before after h e = e
+left_out false true t x before after h e = let is : false ≡ t = h refl in subst (λ t. x ≡ cond t None x) is refl
+left_out false false t x before after h e = e
+
+module _ (call : CallId) where
+  -- behind another state of the call that is found, each call
+  pub found-changed : (hand next : InHand) → same_call next.call call ≡ true → (xs : List (Option InHand)) → found_alone call xs ≡ Some hand → (other : CallId) →
+      found_alone other (changed_alone call (Some next) xs) ≡ cond (same_call other call) (Some next) (found_alone other xs)
+  found-changed hand next same [] e other = absurd (cc e)
+  found-changed hand next same (None ∷ xs) e other = found-changed hand next same xs e other
+  found-changed hand next same (Some x ∷ xs) e other = by_test (same_call x.call call) refl (λ found. found-changed hand next same xs found other) e
+    where
+      absorbed : (b c d : Bool) (y z : Option InHand) (rest : Option InHand) → b ≡ d → c ≡ d → cond b y rest ≡ cond d y (cond c z rest)
+      absorbed true c true y z rest f g = refl
+      absorbed false true false y z rest f g = absurd (cc g)
+      absorbed false false false y z rest f g = refl
+      absorbed true c false y z rest f g = absurd (cc f)
+      absorbed false c true y z rest f g = absurd (cc f)
+
+      by_test : (b : Bool) → same_call x.call call ≡ b → (found_alone call xs ≡ Some hand → found_alone other (changed_alone call (Some next) xs) ≡ cond (same_call other call) (Some next) (found_alone other xs)) → cond b (Some x) (found_alone call xs) ≡ Some hand →
+          found_alone other (cond b (Some next ∷ xs) (Some x ∷ changed_alone call (Some next) xs)) ≡ cond (same_call other call) (Some next) (cond (same_call x.call other) (Some x) (found_alone other xs))
+      by_test true is more e = absorbed (same_call next.call other) (same_call x.call other) (same_call other call) (Some next) (Some x) (found_alone other xs)
+          (same_call-shared next.call other call same ∙ same_call-sym call other) (same_call-shared x.call other call is ∙ same_call-sym call other)
+      by_test false apart more e =
+          ap (λ o. cond (same_call x.call other) (Some x) o) (more e)
+          ∙ both (same_call other call) (same_call x.call other) (Some x) (Some next) (found_alone other xs)
+          (λ is. ap (λ z. same_call x.call z) (same_call-true other call is) ∙ apart)
+
+  -- without a call, each call
+  pub found-without_call : (xs : List (Option InHand)) (other : CallId) → found_alone other (filter (has_other call) xs) ≡ cond (same_call other call) None (found_alone other xs)
+  found-without_call [] other = by_test (same_call other call) where
+    by_test : (b : Bool) → ◌≡◌ {A = Option InHand} None (cond b None None)
+    by_test true = refl
+    by_test false = refl
+  found-without_call (None ∷ xs) other = found-without_call xs other
+  found-without_call (Some x ∷ xs) other =
+      by_test (same_call x.call call)
+      ∙ left_out (same_call x.call call) (same_call x.call other) (same_call other call) (Some x) (found_alone other xs) (found_alone other (filter (has_other call) xs))
+      (λ is. ap (λ z. same_call z call) (same_call-true x.call other is)) (found-without_call xs other)
+    where
+      by_test : (b : Bool) → found_alone other (cond (not b) (Some x ∷ filter (has_other call) xs) (filter (has_other call) xs)) ≡ cond b (found_alone other (filter (has_other call) xs)) (cond (same_call x.call other) (Some x) (found_alone other (filter (has_other call) xs)))
+      by_test true = refl
+      by_test false = refl
+
+  -- what is set in the place of a call that is left out is left out with it
+  pub without_call-changed : (xs : List (Option InHand)) (o : Option InHand) → has_other call o ≡ false → filter (has_other call) (changed_alone call o xs) ≡ filter (has_other call) xs
+  without_call-changed [] o gone = refl
+  without_call-changed (None ∷ xs) o gone = without_call-changed xs o gone
+  without_call-changed (Some x ∷ xs) o gone = by_test (same_call x.call call) refl (without_call-changed xs o gone)
+    where
+      by_test : (b : Bool) → same_call x.call call ≡ b → filter (has_other call) (changed_alone call o xs) ≡ filter (has_other call) xs → filter (has_other call) (cond b (o ∷ xs) (Some x ∷ changed_alone call o xs)) ≡ cond (not b) (Some x ∷ filter (has_other call) xs) (filter (has_other call) xs)
+      by_test true is more = ap (λ b. cond b (o ∷ filter (has_other call) xs) (filter (has_other call) xs)) gone
+      by_test false apart more = ap (λ b. cond (not b) (Some x ∷ filter (has_other call) (changed_alone call o xs)) (filter (has_other call) (changed_alone call o xs))) apart ∙ ap (λ zs. Some x ∷ zs) more
+
+-- without those whose names meet a test, each call
+pub found-without_those : (test : Who → Bool) (xs : List (Option InHand)) (other : CallId) → found_alone other (filter (λ x. not (meets test x)) xs) ≡ cond (test (Call other)) None (found_alone other xs)
+found-without_those test [] other = by_test (test (Call other)) where
+  by_test : (b : Bool) → ◌≡◌ {A = Option InHand} None (cond b None None)
+  by_test true = refl
+  by_test false = refl
+found-without_those test (None ∷ xs) other = found-without_those test xs other
+found-without_those test (Some x ∷ xs) other =
+    by_test (test (Call x.call))
+    ∙ left_out (test (Call x.call)) (same_call x.call other) (test (Call other)) (Some x) (found_alone other xs) (found_alone other rest)
+    (λ is. ap (λ z. test (Call z)) (same_call-true x.call other is)) (found-without_those test xs other)
+  where
+    rest : List (Option InHand)
+    rest = filter (λ x. not (meets test x)) xs
+
+    by_test : (b : Bool) → found_alone other (cond (not b) (Some x ∷ rest) rest) ≡ cond b (found_alone other rest) (cond (same_call x.call other) (Some x) (found_alone other rest))
+    by_test true = refl
+    by_test false = refl
+
+-- with a call more where it was not, each call
+pub found-with_alone : (h : InHand) (xs : List (Option InHand)) → found_alone h.call xs ≡ None → (other : CallId) → found_alone other (xs ++ Some h ∷ []) ≡ cond (same_call other h.call) (Some h) (found_alone other xs)
+found-with_alone h [] none other = ap (λ b. cond b (Some h) None) (same_call-sym h.call other)
+found-with_alone h (None ∷ xs) none other = found-with_alone h xs none other
+found-with_alone h (Some x ∷ xs) none other = by_test (same_call x.call h.call) refl (λ absent. found-with_alone h xs absent other) none
+  where
+    by_test : (b : Bool) → same_call x.call h.call ≡ b → (found_alone h.call xs ≡ None → found_alone other (xs ++ Some h ∷ []) ≡ cond (same_call other h.call) (Some h) (found_alone other xs)) → cond b (Some x) (found_alone h.call xs) ≡ None →
+        cond (same_call x.call other) (Some x) (found_alone other (xs ++ Some h ∷ [])) ≡ cond (same_call other h.call) (Some h) (cond (same_call x.call other) (Some x) (found_alone other xs))
+    by_test true is more none = absurd (cc none)
+    by_test false apart more none =
+        ap (λ o. cond (same_call x.call other) (Some x) o) (more none)
+        ∙ both (same_call other h.call) (same_call x.call other) (Some x) (Some h) (found_alone other xs)
+        (λ is. ap (λ z. same_call x.call z) (same_call-true other h.call is) ∙ apart)
+
+-- ---- what is in hand, by name
+
+-- where the place of a client is set, the call under each name
+pub client_set : (hands : HandsState) (c : ℕ) → c < length hands.clients → (o : Option InHand) (u : Who) → hand_at (set_at hands (Actor (Client c)) o) u ≡ put_who (hand_at hands) (Actor (Client c)) o u
+client_set hands c within o (Actor (Client d)) =
+    let (there, at) = there_is hands.clients c within in
+    ap or_none (get_set hands.clients c o there d at) ∙ by_test (d == c)
+  where
+    by_test : (b : Bool) → or_none (cond b (Some o) (slice_get hands.clients d)) ≡ cond b o (or_none (slice_get hands.clients d))
+    by_test true = refl
+    by_test false = refl
+client_set hands c within o (Actor (Node r)) = refl
+client_set hands c within o (Call call) = refl
+
+-- a client whose call is in hand has a place
+pub client_within : (hands : HandsState) (c : ℕ) (hand : InHand) → hand_at hands (Actor (Client c)) ≡ Some hand → c < length hands.clients
+client_within hands c hand held = within hands.clients c held
+  where
+    within : (xs : List (Option InHand)) (i : ℕ) → or_none (slice_get xs i) ≡ Some hand → i < length xs
+    within [] i e = absurd (cc e)
+    within (x ∷ xs) zero e = let it : 0 < suc (length xs) = omega arith in it
+    within (x ∷ xs) (suc i) e = let more = within xs i e in omega (arith, more)
+
+-- where the call in hand under a name is in another state, the call under each name
+pub next_set : (hands : HandsState) (v : Who) (hand next : InHand) → hand_at hands v ≡ Some hand → next.call ≡ hand.call → (u : Who) → hand_at (set_at hands v (Some next)) u ≡ put_who (hand_at hands) v (Some next) u
+next_set hands (Actor (Client c)) hand next held same u = client_set hands c (client_within hands c hand held) (Some next) u
+next_set hands (Actor (Node r)) hand next held same u = absurd (cc held)
+next_set hands (Call call) hand next held same (Actor (Client d)) = refl
+next_set hands (Call call) hand next held same (Actor (Node r)) = refl
+next_set hands (Call call) hand next held same (Call other) = found-changed call hand next (ap (λ z. same_call z call) same ∙ found-call call hands.alone hand held) hands.alone held other
+
+-- without an asynchronous call, the call under each name
+pub without_call-at : (call : CallId) (hands : HandsState) (u : Who) → hand_at (without_call call hands) u ≡ put_who (hand_at hands) (Call call) None u
+without_call-at call hands (Actor (Client c)) = refl
+without_call-at call hands (Actor (Node r)) = refl
+without_call-at call hands (Call other) = found-without_call call hands.alone other
+
+-- what was left in its place goes with it
+pub without_call-set : (call : CallId) (hands : HandsState) → without_call call (set_at hands (Call call) None) ≡ without_call call hands
+without_call-set call hands = ap (λ xs. record hands { alone = xs }) (without_call-changed call hands.alone None refl)
+
+-- with what a step leaves of the call in hand under a name, the call under each name
+pub left_set : (hands : HandsState) (v : Who) (hand : InHand) (o : Option InHand) → hand_at hands v ≡ Some hand → IfSome o (λ next. next.call ≡ hand.call) → (u : Who) → hand_at (left_at hands v o) u ≡ put_who (hand_at hands) v o u
+left_set hands (Actor (Client c)) hand o held same u = client_set hands c (client_within hands c hand held) o u
+left_set hands (Actor (Node r)) hand o held same u = absurd (cc held)
+left_set hands (Call call) hand None held same u = without_call-at call hands u
+left_set hands (Call call) hand (Some next) held same u = next_set hands (Call call) hand next held same u
+
+-- behind a step and its end, what is in hand is what the step has left
+pub ended_hands : (w : World) (v : Who) (end : Option Outcome) (next : InHand) → (ended_at v end (record w { hands = set_at w.hands v (left end next) })).hands ≡ left_at w.hands v (left end next)
+ended_hands w (Actor a) end next = refl
+ended_hands w (Call call) None next = refl
+ended_hands w (Call call) (Some end) next = without_call-set call w.hands
+
+-- with an asynchronous call more, the call under each name
+pub with_alone-at : (h : InHand) (hands : HandsState) → hand_at hands (Call h.call) ≡ None → (u : Who) → hand_at (with_alone h hands) u ≡ put_who (hand_at hands) (Call h.call) (Some h) u
+with_alone-at h hands none (Actor (Client c)) = refl
+with_alone-at h hands none (Actor (Node r)) = refl
+with_alone-at h hands none (Call other) = found-with_alone h hands.alone none other
+
+-- without the asynchronous calls whose names meet a test that no actor's meets, the call under each name
+pub without_those-at : (test : Who → Bool) → ((a : ActorName) → test (Actor a) ≡ false) → (hands : HandsState) (u : Who) → hand_at (without_those test hands) u ≡ cond (test u) None (hand_at hands u)
+without_those-at test none hands (Actor a) = ap (λ b. cond b None (hand_at hands (Actor a))) (sym (none a))
+without_those-at test none hands (Call other) = found-without_those test hands.alone other
+
+-- ---- the place of an asynchronous call
+
+-- none of these has the call
+abbrev pub NoneHas : CallId → List (Option InHand) → Type 0
+NoneHas call [] = Unit {0}
+NoneHas call (y ∷ xs) = (has_call call y ≡ false) × NoneHas call xs
+
+none_more_suc : (call : CallId) (xs : List (Option InHand)) (i : ℕ) (x : Option InHand) → NoneHas call (take i xs) → slice_get xs i ≡ Some x → has_call call x ≡ false → NoneHas call (take (suc i) xs)
+none_more_suc call [] i x before there other = absurd (cc there)
+none_more_suc call (y ∷ xs) zero x before there other = let same : y ≡ x = cc there in (subst (λ z. has_call call z ≡ false) (sym same) other, tt)
+none_more_suc call (y ∷ xs) (suc i) x before there other = (before.0, none_more_suc call xs i x before.1 there other)
+
+-- one more of those that were passed
+pub none_more : (call : CallId) (xs : List (Option InHand)) (i : ℕ) (x : Option InHand) → NoneHas call (take i xs) → slice_get xs i ≡ Some x → has_call call x ≡ false → NoneHas call (take (i + 1) xs)
+none_more call xs i x before there other = let next : suc i ≡ i + 1 = omega arith in subst (λ n. NoneHas call (take n xs)) next (none_more_suc call xs i x before there other)
+
+-- a place that has the call, where none before it has it
+pub place_here : (call : CallId) (xs : List (Option InHand)) (i : ℕ) (x : Option InHand) → NoneHas call (take i xs) → slice_get xs i ≡ Some x → has_call call x ≡ true → IsPlaceOf call xs i
+place_here call [] i x before there here = absurd (cc there)
+place_here call (y ∷ xs) zero x before there here =
+    let same : y ≡ x = cc there in
+    let is : has_call call y ≡ true = subst (λ z. has_call call z ≡ true) (sym same) here in
+    record {
+      within = let it : 0 < suc (length xs) = omega arith in it;
+      there = ap (λ b. Some (cond b y (found_alone call xs))) (sym is);
+      set = λ o. ap (λ b. cond b (o ∷ xs) (y ∷ changed_alone call o xs)) is;
+    }
+place_here call (y ∷ xs) (suc i) x before there here =
+    let more = place_here call xs i x before.1 there here in
+    record {
+      within = let inside = more.within in omega (arith, inside);
+      there = more.there ∙ ap (λ b. Some (cond b y (found_alone call xs))) (sym before.0);
+      set = λ o. ap (λ b. cond b (o ∷ xs) (y ∷ changed_alone call o xs)) before.0 ∙ ap (λ zs. y ∷ zs) (more.set o);
+    }
+
+-- a call that no place has is not found
+pub none_found : (call : CallId) (xs : List (Option InHand)) → NoneHas call xs → found_alone call xs ≡ None
+none_found call [] none = refl
+none_found call (y ∷ xs) none = ap (λ b. cond b y (found_alone call xs)) none.0 ∙ none_found call xs none.1
+
+-- no call that is stepped by its actor's name goes with a handle
+pub goes_with-actor : (handle : Option ℕ) (a : ActorName) (p : PendingCalls) (b : ActorName) → goes_with handle a p (Actor b) ≡ false
+goes_with-actor None a p b = refl
+goes_with-actor (Some handle) a p b = refl
+
+-- where a client's handle is closed, the call under each name
+pub syncs_gone-at : (c : ℕ) (handle : Option ℕ) (w : World) (u : Who) → hand_at (syncs_gone c handle w).hands u ≡ cond (goes_with handle (Client c) (pending_by w.tables c) u) None (hand_at w.hands u)
+syncs_gone-at c handle w u = without_those-at (λ v. goes_with handle (Client c) (pending_by w.tables c) v) (goes_with-actor handle (Client c) (pending_by w.tables c)) w.hands u
+
+-- and where it leaves
+pub calls_gone-at : (c : ℕ) (w : World) (u : Who) → hand_at (calls_gone c w).hands u ≡ cond (is_of (Client c) u) None (hand_at w.hands u)
+calls_gone-at c w u = without_those-at (λ v. is_of (Client c) v) (λ b. refl) w.hands u
+
+-- ---- where a client has no asynchronous calls
+
+-- none goes with a handle
+goes_with-none : (handle : Option ℕ) (a : ActorName) (v : Who) → goes_with handle a no_pending v ≡ false
+goes_with-none None a v = refl
+goes_with-none (Some handle) a (Actor b) = refl
+goes_with-none (Some handle) a (Call call) = by_test (same_actor call.actor a) where
+  by_test : (b : Bool) → (b && false) ≡ false
+  by_test true = refl
+  by_test false = refl
+
+all_left : (test : Who → Bool) → ((v : Who) → test v ≡ false) → (xs : List (Option InHand)) → filter (λ x. not (meets test x)) xs ≡ xs
+all_left test none [] = refl
+all_left test none (None ∷ xs) = ap (λ zs. None ∷ zs) (all_left test none xs)
+all_left test none (Some h ∷ xs) =
+    let rest = filter (λ (x : Option InHand). not (meets test x)) xs in
+    ap (λ b. cond (not b) (Some h ∷ rest) rest) (none (Call h.call)) ∙ ap (λ zs. Some h ∷ zs) (all_left test none xs)
+
+-- so all are in hand as they were
+pub none_over : (handle : Option ℕ) (a : ActorName) (p : PendingCalls) → p ≡ no_pending → (hands : HandsState) → hands ≡ without_those (λ v. goes_with handle a p v) hands
+none_over handle a p none hands =
+    sym (ap (λ p. without_those (λ v. goes_with handle a p v) hands) none
+    ∙ ap (λ xs. record hands { alone = xs }) (all_left (λ v. goes_with handle a no_pending v) (goes_with-none handle a) hands.alone))

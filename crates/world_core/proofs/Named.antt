@@ -1,0 +1,37 @@
+-- A call in hand is a client's, by whichever name it is stepped; and a step of it answers its line.
+use Rattle.std.proofs.Common.{◌≡◌, ◌⊎◌, ◌<◌, inl, Some, subst}
+use Rattle.std.specs.Prelude.{Result, Ok, Err, OnOk, Bool}
+use Rattle.ckpt_types.specs.declared.identities.ActorName.TheVariants.{Client, Node}
+use Rattle.ckpt_types.specs.declared.identities.Who.{Who}
+use Rattle.ckpt_types.specs.declared.identities.Who.TheVariants.{Actor, Call}
+use Rattle.ckpt_types.specs.Limits.{client_numbers}
+use Rattle.run_labels.specs.Kept.{KeptLabels}
+use Rattle.cluster_record.specs.Calls.{IsClient}
+use Rattle.ckpt_machine.specs.Facts.{Facts}
+use Rattle.world_core.specs.declared.hands.InHand.{InHand}
+use Rattle.world_core.specs.declared.world.World.{World}
+use Rattle.world_core.specs.HandsState.{IsClientName, client_by, hand_at}
+use Rattle.world_core.specs.Happenings.{Adds, IsStep, IsIdle}
+use Rattle.world_core.specs.Shows.{IsShown}
+use Rattle.world_core.proofs.Held.{state_in, in_hand_is, actor_is}
+
+-- by its client, which a script may name
+is_name : (w : World) (v : Who) (hand : InHand) → hand_at w.hands v ≡ Some hand → client_by v < client_numbers → IsClientName v
+is_name w (Actor (Client c)) hand held below = below
+is_name w (Actor (Node r)) hand held below = absurd (cc held)
+is_name w (Call call) hand held below = below
+
+-- the client of a call in hand is one of those
+pub client_below : (w : World) (v : Who) (hand : InHand) → IsShown w → hand_at w.hands v ≡ Some hand → client_by v < client_numbers
+client_below w v hand shown held =
+    let h = shown.shows.history in
+    let facts = subst Facts shown.shows.same shown.facts in
+    subst IsClient (actor_is w h v hand held facts) (facts.clients v (state_in h v hand) (in_hand_is w h v hand held))
+
+pub client_name : (w : World) (v : Who) (hand : InHand) → IsShown w → hand_at w.hands v ≡ Some hand → IsClientName v
+client_name w v hand shown held = is_name w v hand held (client_below w v hand shown held)
+
+-- where the call is there, its line is answered by its step
+pub by_step : {E : Type 0} (result : Result (Unit {0}) E) (old new : KeptLabels) (v : Who) (finish : Bool) (w w' : World) → OnOk result (Adds old new (IsStep v w w')) → OnOk result (Adds old new (λ label. IsStep v w w' label ⊎ IsIdle v finish w w' label))
+by_step (Ok done) old new v finish w w' added = record { label = added.label; labels = added.labels; is = inl added.is }
+by_step (Err error) old new v finish w w' added = tt

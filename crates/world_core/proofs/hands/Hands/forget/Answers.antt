@@ -1,0 +1,10 @@
+use Rattle.std.proofs.Common.{rules, List, Option, ap, ◌∙◌}
+use Rattle.std.proofs.lemmas.Fn.{filter_same}
+use Rattle.world_core.specs.HandsState.{without_call}
+use Rattle.world_core.specs.declared.hands.InHand.{InHand}
+use Rattle.world_core.proofs.hands.Hands.forget.Goals as goal
+
+pub returns : goal.returns
+returns c =
+    ap (λ (xs : List (Option InHand)). record { clients = c.self.inside.clients.items; alone = xs }) (filter_same _ _ _ (λ x b f' k. search rules) _ _ c.retain.ensures.filtered)
+    ∙ ap (without_call c.args.call) c.self.view_is

@@ -1,0 +1,77 @@
+-- What becomes of asynchronous calls: where one ends, where the handle of a synchronisation is closed, and where their client leaves.
+use Rattle.std.specs.Prelude.{ℕ, List, Option, Some, None}
+use Rattle.ckpt_types.specs.declared.answers.Outcome.{Outcome}
+use Rattle.ckpt_types.specs.declared.answers.Outcome.TheVariants.{Done}
+use Rattle.ckpt_types.specs.declared.identities.ActorName.TheVariants.{Client}
+use Rattle.ckpt_types.specs.declared.identities.Who.{Who}
+use Rattle.ckpt_types.specs.declared.identities.Who.TheVariants.{Actor, Call}
+use Rattle.node_msgs.specs.declared.next.RecordStep.{RecordStep}
+use Rattle.node_msgs.specs.declared.next.RecordStep.TheVariants as events
+use Rattle.call_dispatch.specs.PendingCalls.{no_pending}
+use Rattle.cluster_record.specs.Calls.{client_of}
+use Rattle.ckpt_machine.specs.Steps.{goes_with, left_over}
+use Rattle.ckpt_machine.specs.Whose.{is_of}
+use Rattle.world_core.specs.declared.world.World.{World}
+use Rattle.world_core.specs.HandsState.{HandsState, without_call, without_those}
+use Rattle.world_core.specs.TableEnds.{table_ended}
+use Rattle.world_core.specs.TableState.{TableState, pending_by, with_calls, at_client}
+
+-- where a step has ended an asynchronous call, it is in hand no more
+abbrev pub ended_hands : Who → Option Outcome → HandsState → HandsState
+ended_hands (Actor a) end hands = hands
+ended_hands (Call call) None hands = hands
+ended_hands (Call call) (Some end) hands = without_call call hands
+
+-- and its client is to be told
+abbrev pub ended_tables : Who → Option Outcome → List TableState → List TableState
+ended_tables (Actor a) end tables = tables
+ended_tables (Call call) None tables = tables
+ended_tables (Call call) (Some end) tables = at_client (client_of call) (table_ended call end) tables
+
+-- so the world is behind a step of a call that ends by it, or goes on
+abbrev pub ended_at : Who → Option Outcome → World → World
+ended_at v end w = record w { hands = ended_hands v end w.hands; tables = ended_tables v end w.tables }
+
+-- where a client's handle of a number is closed, the asynchronous synchronisations over it go
+abbrev pub syncs_gone : ℕ → Option ℕ → World → World
+syncs_gone c handle w = record w {
+  hands = without_those (λ v. goes_with handle (Client c) (pending_by w.tables c) v) w.hands;
+  tables = at_client c (with_calls (left_over handle)) w.tables;
+}
+
+-- where a client leaves, all its asynchronous calls go
+abbrev pub calls_gone : ℕ → World → World
+calls_gone c w = record w {
+  hands = without_those (λ v. is_of (Client c) v) w.hands;
+  tables = at_client c (with_calls (λ p. no_pending)) w.tables;
+}
+
+-- what a step of the record that has closed this handle, if any, leaves of the calls in hand
+abbrev pub hands_behind : RecordStep → ℕ → Option ℕ → World → HandsState
+hands_behind events.Close c handle w = (syncs_gone c handle w).hands
+hands_behind events.Leave c handle w = (calls_gone c w).hands
+hands_behind step c handle w = w.hands
+
+-- and of what is kept of clients
+abbrev pub tables_behind : RecordStep → ℕ → Option ℕ → World → List TableState
+tables_behind events.Close c handle w = (syncs_gone c handle w).tables
+tables_behind events.Leave c handle w = (calls_gone c w).tables
+tables_behind step c handle w = w.tables
+
+-- so the world is without what goes behind it
+abbrev pub gone_with : RecordStep → ℕ → Option ℕ → World → World
+gone_with step c handle w = record w { hands = hands_behind step c handle w; tables = tables_behind step c handle w }
+
+-- what a look leaves of the calls in hand
+abbrev pub hands_looked : Outcome → ℕ → Option ℕ → World → HandsState
+hands_looked (Done answer) c handle w = (syncs_gone c handle w).hands
+hands_looked end c handle w = w.hands
+
+-- and of what is kept of clients
+abbrev pub tables_looked : Outcome → ℕ → Option ℕ → World → List TableState
+tables_looked (Done answer) c handle w = (syncs_gone c handle w).tables
+tables_looked end c handle w = w.tables
+
+-- so the world is without what goes behind it
+abbrev pub gone_with_look : Outcome → ℕ → Option ℕ → World → World
+gone_with_look end c handle w = record w { hands = hands_looked end c handle w; tables = tables_looked end c handle w }

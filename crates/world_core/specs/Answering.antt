@@ -1,0 +1,29 @@
+-- A call that is answered at its beginning.
+use Rattle.std.specs.Prelude.{◌≡◌, ℕ, ◌<◌, length, Option, Some, None, slice_get}
+use Rattle.ckpt_types.specs.declared.answers.Outcome.{Outcome}
+use Rattle.ckpt_types.specs.declared.identities.ActorName.TheVariants.{Client}
+use Rattle.ckpt_types.specs.declared.identities.CallId.{CallId}
+use Rattle.ckpt_types.specs.declared.identities.Who.TheVariants.{Actor}
+use Rattle.ckpt_types.specs.declared.operation.Op.{Op}
+use Rattle.ckpt_types.specs.Asks.{asked, IsBuilt}
+use Rattle.ckpt_types.specs.Limits.{client_numbers}
+use Rattle.client_handles.specs.declared.handle_view.HandleView.{HandleView}
+use Rattle.cluster_record.specs.RecordState.{is_live_client}
+use Rattle.ckpt_machine.specs.Beginning.{begin_end}
+use Rattle.ckpt_machine.specs.Steps.{MayBegin, IsBeginEnd}
+use Rattle.ckpt_machine.specs.Tables.{handle_asked}
+use Rattle.world_core.specs.declared.world.World.{World}
+use Rattle.world_core.specs.HandsState.{hand_at}
+use Rattle.world_core.specs.Standings.{standing_in}
+use Rattle.world_core.specs.TableState.{kept_by, next_in}
+
+-- the next call of a client, which has none in hand, with the handle of its place, may be answered so
+pub record IsAnsweredAtOnce (w : World) (c : ℕ) (call : CallId) (op : Op) (h : Option HandleView) (end : Outcome) : Type 0 where
+  pub client : c < client_numbers
+  pub table : c < length w.tables
+  pub built : IsBuilt op
+  pub none : hand_at w.hands (Actor (Client c)) ≡ None
+  pub may : MayBegin w.cluster c (asked op)
+  pub call_is : call ≡ record { actor = Client c; number = next_in (slice_get w.tables c) }
+  pub handle : h ≡ handle_asked (asked op) (kept_by w.tables c)
+  pub end_is : IsBeginEnd (asked op) (begin_end (standing_in (is_live_client c w.cluster) h c w.tables) (asked op)) (Some end)
