@@ -10,11 +10,19 @@ use Rattle.ckpt_machine.specs.AllOrNone.{IsAllOrNoneThroughout}
 use Rattle.ckpt_machine.specs.Refusals.{EachRefusalLeaves}
 use Rattle.ckpt_machine.specs.Replays.{EffectsTellThroughout}
 use Rattle.ckpt_machine.specs.Synchronized.{SynchronizedTell}
+use Rattle.ckpt_machine.specs.WasAsked.{OnlyAskedThroughout}
+use Rattle.ckpt_machine.specs.Owners.{OwnersInHandThroughout}
+use Rattle.ckpt_machine.specs.ActivesSet.{ActivesAreSet}
+use Rattle.ckpt_machine.specs.Causes.{EachEndIsAllowed}
 use Rattle.ckpt_machine.specs.Runs.{IsRun}
 use Rattle.ckpt_machine.proofs.Acknowledged.{acknowledged_stay}
 use Rattle.ckpt_machine.proofs.AllOrNone.{on_all_or_none}
 use Rattle.ckpt_machine.proofs.EffectsTell.{effects_tell}
 use Rattle.ckpt_machine.proofs.Synchronized.{synchronisations_tell}
+use Rattle.ckpt_machine.proofs.OnlyAsked.{only_asked}
+use Rattle.ckpt_machine.proofs.OwnersInHand.{owners_in_hand}
+use Rattle.ckpt_machine.proofs.ActivesSet.{actives_are_set}
+use Rattle.ckpt_machine.proofs.Causes.{ends_allowed}
 use Rattle.ckpt_machine.proofs.RefusedRuns.{run_leaves}
 use Rattle.world_core.specs.declared.world.World.{World}
 use Rattle.world_core.specs.Runs.{IsNew, IsRunTo}
@@ -57,3 +65,15 @@ tell_of_none log none = effects_tell log (subst IsRun (sym none) tt)
 
 pub synchronized_of_none : (log : List Label) → log ≡ [] → SynchronizedTell log
 synchronized_of_none log none = synchronisations_tell log (subst IsRun (sym none) tt)
+
+pub asked_of_none : (log : List Label) → log ≡ [] → OnlyAskedThroughout log
+asked_of_none log none = only_asked log (subst IsRun (sym none) tt)
+
+pub owners_of_none : (log : List Label) → log ≡ [] → OwnersInHandThroughout log
+owners_of_none log none = owners_in_hand log (subst IsRun (sym none) tt)
+
+pub actives_of_none : (log : List Label) → log ≡ [] → ActivesAreSet log
+actives_of_none log none = actives_are_set log (subst IsRun (sym none) tt)
+
+pub causes_of_none : (log : List Label) → log ≡ [] → EachEndIsAllowed log
+causes_of_none log none = ends_allowed log (subst IsRun (sym none) tt)

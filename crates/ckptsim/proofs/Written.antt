@@ -8,6 +8,7 @@ use Rattle.std.specs.Prelude.{Some, slice_get, Bool, true, false, Result, Ok, Er
 use Rattle.std.specs.Result.{is_err}
 use Rattle.std.proofs.lemmas.Bool.{true≢false, false≢true}
 use Rattle.run_labels.specs.declared.labels.Label.{Label}
+use Rattle.run_labels.specs.Callbacks.{callback_lines}
 use Rattle.run_labels.specs.Lines.{line_of}
 use Rattle.run_labels.proofs.EachText.{append-flat_map-take}
 use Rattle.ckptsim.specs.Headline.{WritesPart, printed}
@@ -50,19 +51,23 @@ pub wrote_whole : (a b c : Option (List ℕ)) (text all : List ℕ) → Wrote a 
 wrote_whole a b c text all (front, appends, is) more =
     subst (Appends a c) is (Appends-trans a b c front text appends more)
 
+-- what a label prints, with its callbacks
+abbrev pub lines_with_callbacks : Bool → Label → List ℕ
+lines_with_callbacks steps label = line_of steps label ++ callback_lines label
+
 -- the lines of the first labels, of the next one and of all
-pub printed_next : (steps : Bool) (labels : List Label) (i : ℕ) (label : Label) → slice_get labels i ≡ Some label → printed steps (take i labels) ++ line_of steps label ≡ printed steps (take (i + 1) labels)
-printed_next steps labels i label at_i = append-flat_map-take (line_of steps) [] labels i label at_i
+pub printed_next : (steps : Bool) (labels : List Label) (i : ℕ) (label : Label) → slice_get labels i ≡ Some label → printed steps (take i labels) ++ lines_with_callbacks steps label ≡ printed steps (take (i + 1) labels)
+printed_next steps labels i label at_i = append-flat_map-take (lines_with_callbacks steps) [] labels i label at_i
 
 pub printed_parts : (steps : Bool) (labels : List Label) (i : ℕ) → printed steps (take i labels) ++ printed steps (drop i labels) ≡ printed steps labels
-printed_parts steps labels i = sym (flat_map-append (line_of steps) (take i labels) (drop i labels)) ∙ ap (printed steps) (take-append-drop i labels)
+printed_parts steps labels i = sym (flat_map-append (lines_with_callbacks steps) (take i labels) (drop i labels)) ∙ ap (printed steps) (take-append-drop i labels)
 
--- the next label's line stands behind the text
-pub wrote_next : (steps : Bool) (a b : Option (List ℕ)) (text out : List ℕ) (labels : List Label) (i : ℕ) (label : Label) → slice_get labels i ≡ Some label → out ≡ text ++ line_of steps label
+-- the next label's lines stand behind the text
+pub wrote_next : (steps : Bool) (a b : Option (List ℕ)) (text out : List ℕ) (labels : List Label) (i : ℕ) (label : Label) → slice_get labels i ≡ Some label → out ≡ text ++ lines_with_callbacks steps label
     → Wrote a b text (printed steps (take i labels)) → Wrote a b out (printed steps (take (i + 1) labels))
 wrote_next steps a b text out labels i label at_i grown wrote =
     subst (λ l. Wrote a b l (printed steps (take (i + 1) labels))) (sym grown)
-    (subst (Wrote a b (text ++ line_of steps label)) (printed_next steps labels i label at_i) (wrote_line a b text (printed steps (take i labels)) (line_of steps label) wrote))
+    (subst (Wrote a b (text ++ lines_with_callbacks steps label)) (printed_next steps labels i label at_i) (wrote_line a b text (printed steps (take i labels)) (lines_with_callbacks steps label) wrote))
 
 -- the text is written whole, or a front of it
 pub wrote_front : (steps : Bool) (a b c : Option (List ℕ)) (text : List ℕ) (labels : List Label) (i : ℕ) → Wrote a b text (printed steps (take i labels)) → WritesPart b c text → WritesPart a c (printed steps labels)

@@ -1,16 +1,19 @@
 -- A log that follows a script grows: step by step to the end of a call, and line by line.
 use Rattle.std.proofs.Common.{◌≡◌, ℕ, zero, ◌+◌, ◌<◌, ◌≤◌, List, [], ◌∷◌, ◌++◌, length, drop, get_or, refl, sym, ap, subst, ◌∙◌, append_assoc, append-nil, length-append, arith, add-one, suc}
 use Rattle.std.proofs.Math.Seq.{drop-cons}
-use Rattle.std.proofs.lemmas.Option.{same_Some}
-use Rattle.std.specs.Prelude.{Option, Some, None, IfSome, is_some, Bool, true, false, Result, Ok, Err, OnOk}
+use Rattle.std.specs.Prelude.{Option, Some, None, IfSome, is_some, is_none, Bool, true, false, if◌then◌else◌, Result, Ok, Err, OnOk}
 use Rattle.ckpt_types.specs.declared.answers.Outcome.{Outcome}
-use Rattle.ckpt_types.specs.declared.identities.ActorName.TheVariants.{Client, Node}
+use Rattle.ckpt_types.specs.declared.answers.Outcome.TheVariants.{Done}
+use Rattle.ckpt_types.specs.declared.identities.ActorName.TheVariants.{Client}
 use Rattle.ckpt_types.specs.declared.identities.Who.{Who}
 use Rattle.ckpt_types.specs.declared.identities.Who.TheVariants.{Actor, Call}
 use Rattle.ckpt_types.specs.declared.identities.CallId.{CallId}
 use Rattle.ckpt_types.specs.declared.operation.Op.{Op}
 use Rattle.ckpt_types.specs.declared.operation.Op.TheVariants as ops
+use Rattle.ckpt_types.specs.declared.words.OpWord.{OpWord}
 use Rattle.ckpt_types.specs.Limits.{built_line_labels}
+use Rattle.ckpt_types.specs.OpWord.{word_of_op, is_async, stepped_as}
+use Rattle.node_msgs.specs.declared.details.Details.{Details}
 use Rattle.run_labels.specs.declared.labels.Label.{Label}
 use Rattle.run_labels.specs.declared.labels.Label.TheVariants as labels
 use Rattle.run_labels.specs.declared.words.Said.{Said}
@@ -19,24 +22,27 @@ use Rattle.run_labels.specs.declared.words.LineWord.TheVariants as linewords
 use Rattle.script_lang.specs.declared.lines.Line.{Line}
 use Rattle.world_core.specs.declared.hands.InHand.{InHand}
 use Rattle.world_core.specs.declared.world.World.{World}
+use Rattle.cluster_record.specs.Calls.{number_of}
 use Rattle.cluster_record.specs.RecordState.{is_up}
 use Rattle.ckpt_machine.specs.Machine.{Machine, CallState, empty_cluster}
 use Rattle.ckpt_machine.specs.Runs.{last, last_from, IsRun}
-use Rattle.ckpt_machine.proofs.Runs.{last_from-append, run_before}
-use Rattle.world_core.specs.Runs.{GoesOn, IsRunTo, SaysTrue, Answers, AnswersBegin, AnswersStep, IsIdleWord, IsShownOf, Happens, step_word}
+use Rattle.ckpt_machine.specs.Steps.{after, asked_handle, call_begun, goes_on, kept_at_beginning}
+use Rattle.ckpt_machine.specs.Whose.{put_who}
+use Rattle.ckpt_machine.proofs.Runs.{last-push, last_from-append, run_before}
+use Rattle.world_core.specs.Runs.{GoesOn, IsLeft, IsThereIf, IsRunTo, SaysTrue, Answers, AnswersBegin, AnswersStep, IsIdleWord, IsShownOf, Happens, step_word}
 use Rattle.world_core.specs.declared.world.Event.TheVariants as happenings
 use Rattle.world_core.proofs.Held.{state_in, in_hand_is}
-use Rattle.world_core.proofs.Words.{none_in_hand, words_in_hand}
-use Rattle.world_core.specs.Shows.{hand_at}
-use Rattle.session_run.specs.Follows.{StepsToEnd, StepsUpTo, SaysTrueIn, IsWholeCall, IsBegunCall, IsListing, AreSteps, stepped_call, AnswersLine, FollowsFrom, Follows}
-use Rattle.session_run.specs.Growing.{GrowsBy, IsFinish, IsStepping, client_where, client_in_hand}
+use Rattle.world_core.proofs.Words.{none_in_hand}
+use Rattle.world_core.specs.HandsState.{hand_at}
+use Rattle.session_run.specs.Follows.{AreStepsBehind, StepsToEnd, StepsUpTo, SaysTrueIn, IsWholeCall, IsBegunCall, IsListing, AreSteps, stepped_call, AnswersLine, FollowsFrom, Follows}
+use Rattle.session_run.specs.Growing.{GrowsBy, IsFinish, IsStepping}
 
 -- what is left of a call that goes on are the steps of the call in hand
-steps_of_hand : (call : CallId) (op : Op) (end : Option Outcome) (o : Option InHand) (more : List Label) → GoesOn call op end o → IsFinish o more → StepsToEnd call end more
-steps_of_hand call op (Some e) None more goes f = f
-steps_of_hand call op (Some e) (Some h) more goes f = absurd goes
-steps_of_hand call op None None more goes f = absurd goes
-steps_of_hand call op None (Some h) more goes f = subst (λ c. StepsToEnd c None more) goes.0 f
+steps_of_hand : (call : CallId) (op : Op) (end : Option Outcome) (o : Option InHand) (more : List Label) → IsLeft call op end o → IsFinish o more → StepsToEnd call end more
+steps_of_hand call op (Some e) None more left f = f
+steps_of_hand call op (Some e) (Some h) more left f = absurd (cc left)
+steps_of_hand call op None None more left f = absurd left
+steps_of_hand call op None (Some h) more left f = subst (λ c. StepsToEnd c None more) left.0 f
 
 -- what is so of a call in hand is so where there is one
 pub IfSome-held : {A P : Type 0} (o : Option A) → is_some o ≡ true → IfSome o (λ x. P) → P
@@ -44,24 +50,24 @@ IfSome-held None held so = absurd cc
 IfSome-held (Some x) held so = so
 
 -- a step of the call in hand stands before the steps that are then left
-pub step_grows : (c : ℕ) (o : Option InHand) (old new : World) (l : Label) → AnswersStep (Client c) false o old new l → is_some o ≡ true →
-    (more : List Label) → IsFinish (hand_at new.hands c) more → IsFinish o (l ∷ more)
-step_grows c None old new l answers held more f = absurd cc
-step_grows c (Some h) old new (labels.Stepped call op verb k r reply end details) answers held more f = (answers.0, steps_of_hand h.call h.op end (hand_at new.hands c) more answers.1 f)
-step_grows c (Some h) old new l answers held more f = absurd answers
+pub step_grows : (v : Who) (o : Option InHand) (old new : World) (l : Label) → AnswersStep v false o old new l → is_some o ≡ true →
+    (more : List Label) → IsFinish (hand_at new.hands v) more → IsFinish o (l ∷ more)
+step_grows v None old new l answers held more f = absurd cc
+step_grows v (Some h) old new (labels.Stepped call op verb k r reply end details) answers held more f = (answers.0, steps_of_hand h.call h.op end (hand_at new.hands v) more answers.1 f)
+step_grows v (Some h) old new l answers held more f = absurd answers
 
 -- the same of a number of steps
-steps_of_stepping : (call : CallId) (op : Op) (n : ℕ) (end : Option Outcome) (o : Option InHand) (more : List Label) → GoesOn call op end o → IsStepping n o more → StepsUpTo call n end more
-steps_of_stepping call op n (Some e) None more goes f = f
-steps_of_stepping call op n (Some e) (Some h) more goes f = absurd goes
-steps_of_stepping call op n None None more goes f = absurd goes
-steps_of_stepping call op n None (Some h) more goes f = subst (λ c. StepsUpTo c n None more) goes.0 f
+steps_of_stepping : (call : CallId) (op : Op) (n : ℕ) (end : Option Outcome) (o : Option InHand) (more : List Label) → IsLeft call op end o → IsStepping n o more → StepsUpTo call n end more
+steps_of_stepping call op n (Some e) None more left f = f
+steps_of_stepping call op n (Some e) (Some h) more left f = absurd (cc left)
+steps_of_stepping call op n None None more left f = absurd left
+steps_of_stepping call op n None (Some h) more left f = subst (λ c. StepsUpTo c n None more) left.0 f
 
-pub stepping_grows : (c n : ℕ) (o : Option InHand) (old new : World) (l : Label) → AnswersStep (Client c) false o old new l → is_some o ≡ true →
-    (more : List Label) → IsStepping n (hand_at new.hands c) more → IsStepping (suc n) o (l ∷ more)
-stepping_grows c n None old new l answers held more f = absurd cc
-stepping_grows c n (Some h) old new (labels.Stepped call op verb k r reply end details) answers held more f = (answers.0, steps_of_stepping h.call h.op n end (hand_at new.hands c) more answers.1 f)
-stepping_grows c n (Some h) old new l answers held more f = absurd answers
+pub stepping_grows : (v : Who) (n : ℕ) (o : Option InHand) (old new : World) (l : Label) → AnswersStep v false o old new l → is_some o ≡ true →
+    (more : List Label) → IsStepping n (hand_at new.hands v) more → IsStepping (suc n) o (l ∷ more)
+stepping_grows v n None old new l answers held more f = absurd cc
+stepping_grows v n (Some h) old new (labels.Stepped call op verb k r reply end details) answers held more f = (answers.0, steps_of_stepping h.call h.op n end (hand_at new.hands v) more answers.1 f)
+stepping_grows v n (Some h) old new l answers held more f = absurd answers
 
 -- none are left of no call, nor where no more were asked for
 pub stepping_of_none : (n : ℕ) (o : Option InHand) → o ≡ None → IsStepping n o []
@@ -77,33 +83,83 @@ SaysTrueIn-shown (ops.Client r version callbacks) Down w m same true_of = ap (is
 SaysTrueIn-shown op Down w m same true_of = absurd true_of
 SaysTrueIn-shown op said w m same true_of = tt
 
+-- ---- a beginning
+
+-- nothing is in hand under a name where the machine that is shown has nothing
+none_shown : (w : World) (log : List Label) (v : Who) → IsRunTo w log → (last log).in_hand v ≡ None → hand_at w.hands v ≡ None
+none_shown w log v run none = by_hand (hand_at w.hands v) refl
+  where
+    by_hand : (o : Option InHand) → hand_at w.hands v ≡ o → o ≡ None
+    by_hand None is = refl
+    by_hand (Some hand) is =
+        let there = sym none ∙ (ap (λ (m : Machine). m.in_hand v) run.shows.same ∙ in_hand_is w run.shows.history v hand is) in
+        absurd (cc there)
+
+-- a call that begins under its own name leaves what its actor has in hand: none
+begun_beside : (m : Machine) (call : CallId) (op : Op) (end : Option Outcome) (details : Details) → is_async (word_of_op op) ≡ true → (after m (labels.Began call op end details)).in_hand (Actor call.actor) ≡ m.in_hand (Actor call.actor)
+begun_beside m call op end details alone =
+    let begun = call_begun end call op (kept_at_beginning m.cluster (number_of call.actor) (asked_handle m call.actor op)) in
+    ap (λ b. put_who m.in_hand (if b then Call call else Actor call.actor) begun (Actor call.actor)) alone
+
+-- so nothing is in hand under the name of its client
+none_beside : (c : ℕ) (old new : World) (log longer : List Label) (call : CallId) (op : Op) (end : Option Outcome) (details : Details) → IsRunTo old log → IsRunTo new longer → longer ≡ log ++ labels.Began call op end details ∷ [] → call.actor ≡ Client c →
+    is_async (word_of_op op) ≡ true → hand_at old.hands (Actor (Client c)) ≡ None → hand_at new.hands (Actor (Client c)) ≡ None
+none_beside c old new log longer call op end details run later grows own alone idle =
+    let l = labels.Began call op end details in
+    let here : (after (last log) l).in_hand (Actor (Client c)) ≡ (last log).in_hand (Actor (Client c)) = subst (λ a. (after (last log) l).in_hand (Actor a) ≡ (last log).in_hand (Actor a)) own (begun_beside (last log) call op end details alone) in
+    let before : (last log).in_hand (Actor (Client c)) ≡ None = ap (λ (m : Machine). m.in_hand (Actor (Client c))) run.shows.same ∙ none_in_hand old run.shows.history (Actor (Client c)) idle in
+    none_shown new longer (Actor (Client c)) later (ap (λ (xs : List Label). (last xs).in_hand (Actor (Client c))) grows ∙ (ap (λ (m : Machine). m.in_hand (Actor (Client c))) (last-push log l) ∙ (here ∙ before)))
+
+-- of a call that is not asynchronous, a beginning leaves what a step would
+left_plain : (word : OpWord) (end : Option Outcome) → is_async word ≡ false → goes_on word end ≡ is_none end
+left_plain word None plain = refl
+left_plain word (Some (Done answer)) plain = plain
+left_plain word (Some _) plain = refl
+
+-- behind a beginning come the steps of what is then in hand under the actor's name
+steps_behind : (c : ℕ) (new : World) (call : CallId) (op : Op) (end : Option Outcome) (more : List Label) → call.actor ≡ Client c → GoesOn call op end (hand_at new.hands (stepped_as call (word_of_op op))) →
+    (is_async (word_of_op op) ≡ true → hand_at new.hands (Actor (Client c)) ≡ None) → IsFinish (hand_at new.hands (Actor (Client c))) more → AreStepsBehind (is_async (word_of_op op)) call end more
+steps_behind c new call op end more own goes none f = by_name (is_async (word_of_op op)) refl
+  where
+    by_name : (b : Bool) → is_async (word_of_op op) ≡ b → AreStepsBehind b call end more
+    by_name true alone = subst (λ (o : Option InHand). IsFinish o more) (none alone) f
+    by_name false plain =
+        let name : stepped_as call (word_of_op op) ≡ Actor (Client c) = ap (λ b. if b then Call call else Actor call.actor) plain ∙ ap Actor own in
+        let there : GoesOn call op end (hand_at new.hands (Actor (Client c))) = subst (λ v. GoesOn call op end (hand_at new.hands v)) name goes in
+        steps_of_hand call op end (hand_at new.hands (Actor (Client c))) more (subst (λ b. IsThereIf b call op (hand_at new.hands (Actor (Client c)))) (left_plain (word_of_op op) end plain) there) f
+
 -- the label that answers a beginning stands before the steps that are then left
-pub begin_grows : (c : ℕ) (op : Op) (old new : World) (log : List Label) (l : Label) (more : List Label) → IsRunTo old log → AnswersBegin (Client c) op old new l →
-    hand_at old.hands c ≡ None → IsFinish (hand_at new.hands c) more → IsWholeCall (last log) (Client c) op (l ∷ more)
-begin_grows c op old new log (labels.Began call begun end) more run answers idle f = (answers.0, answers.1, steps_of_hand call op end (hand_at new.hands c) more answers.2 f)
-begin_grows c op old new log (labels.Word who word said) more run answers idle f =
+pub begin_grows : (c : ℕ) (op : Op) (old new : World) (log longer : List Label) (l : Label) (more : List Label) → IsRunTo old log → IsRunTo new longer → longer ≡ log ++ l ∷ [] → AnswersBegin (Client c) op old new l →
+    hand_at old.hands (Actor (Client c)) ≡ None → IsFinish (hand_at new.hands (Actor (Client c))) more → IsWholeCall (last log) (Client c) op (l ∷ more)
+begin_grows c op old new log longer (labels.Began call begun end details) more run later grows answers idle f =
+    let is : longer ≡ log ++ labels.Began call op end details ∷ [] = grows ∙ ap (λ o. log ++ labels.Began call o end details ∷ []) answers.1 in
+    (answers.0, answers.1, steps_behind c new call op end more answers.0 answers.2 (λ alone. none_beside c old new log longer call op end details run later is answers.0 alone idle) f)
+begin_grows c op old new log longer (labels.Word who word said) more run later grows answers idle f =
     let same : (last log).cluster ≡ old.cluster = ap (λ (m : Machine). m.cluster) run.shows.same in
-    (answers.0, answers.1, SaysTrueIn-shown op said old (last log) same answers.3, subst (λ (o : Option InHand). IsFinish o more) (ap (λ hands. hand_at hands c) answers.2 ∙ idle) f)
-begin_grows c op old new log l more run answers idle f = absurd answers
+    (answers.0, answers.1, SaysTrueIn-shown op said old (last log) same answers.3, subst (λ (o : Option InHand). IsFinish o more) (ap (λ hands. hand_at hands (Actor (Client c))) answers.2 ∙ idle) f)
+begin_grows c op old new log longer l more run later grows answers idle f = absurd answers
 
 -- the label that answers a line by which a call only begins
 pub begin_alone : (c : ℕ) (op : Op) (old new : World) (log : List Label) (l : Label) → IsRunTo old log → AnswersBegin (Client c) op old new l → IsBegunCall (last log) (Client c) op (l ∷ [])
-begin_alone c op old new log (labels.Began call begun end) run answers = (answers.0, answers.1, refl)
+begin_alone c op old new log (labels.Began call begun end details) run answers = (answers.0, answers.1, refl)
 begin_alone c op old new log (labels.Word who word said) run answers =
     let same : (last log).cluster ≡ old.cluster = ap (λ (m : Machine). m.cluster) run.shows.same in
     (answers.0, answers.1, SaysTrueIn-shown op said old (last log) same answers.3, refl)
 begin_alone c op old new log l run answers = absurd answers
 
 -- no call begins where its client has one in hand
-not_begun : (c : ℕ) (old new : World) (log longer : List Label) (call : CallId) (op : Op) (end : Option Outcome) → IsRunTo old log → IsRunTo new longer → longer ≡ log ++ labels.Began call op end ∷ [] → call.actor ≡ Client c → is_some (hand_at old.hands c) ≡ true → ⊥
-not_begun c old new log longer call op end run later grows own held =
-    let (before, allowed, due) = run_before _ log (labels.Began call op end) (subst IsRun grows later.run) in
-    words_in_hand run.shows.history c (hand_at old.hands c) (λ none. let is : false ≡ true = sym (ap is_some none) ∙ held in cc)
-    (sym (ap (λ (m : Machine). m.in_hand (Client c)) run.shows.same) ∙ ap (last log).in_hand (sym own) ∙ due.none_in_hand)
+not_begun : (c : ℕ) (old new : World) (log longer : List Label) (call : CallId) (op : Op) (end : Option Outcome) (details : Details) → IsRunTo old log → IsRunTo new longer → longer ≡ log ++ labels.Began call op end details ∷ [] → call.actor ≡ Client c →
+    is_some (hand_at old.hands (Actor (Client c))) ≡ true → ⊥
+not_begun c old new log longer call op end details run later grows own held =
+    let (before, allowed, due) = run_before _ log (labels.Began call op end details) (subst IsRun grows later.run) in
+    let none = none_shown old log (Actor (Client c)) run (ap (λ a. (last log).in_hand (Actor a)) (sym own) ∙ due.none_in_hand) in
+    let is : false ≡ true = sym (ap is_some none) ∙ held in
+    cc
 
 -- so the one label that answers its line is a word
-pub busy_alone : (c : ℕ) (op : Op) (old new : World) (log longer : List Label) (l : Label) → IsRunTo old log → IsRunTo new longer → longer ≡ log ++ l ∷ [] → AnswersBegin (Client c) op old new l → is_some (hand_at old.hands c) ≡ true → IsWholeCall (last log) (Client c) op (l ∷ [])
-busy_alone c op old new log longer (labels.Began call begun end) run later grows answers held = absurd (not_begun c old new log longer call begun end run later grows answers.0 held)
+pub busy_alone : (c : ℕ) (op : Op) (old new : World) (log longer : List Label) (l : Label) → IsRunTo old log → IsRunTo new longer → longer ≡ log ++ l ∷ [] → AnswersBegin (Client c) op old new l →
+    is_some (hand_at old.hands (Actor (Client c))) ≡ true → IsWholeCall (last log) (Client c) op (l ∷ [])
+busy_alone c op old new log longer (labels.Began call begun end details) run later grows answers held = absurd (not_begun c old new log longer call begun end details run later grows answers.0 held)
 busy_alone c op old new log longer (labels.Word who word said) run later grows answers held = begin_alone c op old new log (labels.Word who word said) run answers
 busy_alone c op old new log longer l run later grows answers held = absurd answers
 
@@ -114,50 +170,42 @@ listing_alone k l is = absurd is
 
 -- ---- the call of which a line asks for steps
 
--- the client that is named has it in hand, in the world and in the state that it shows
-record IsHeldBy (w : World) (log : List Label) (who : Who) (c : ℕ) : Type 0 where
+-- it is in hand under the name, in the world and in the state that it shows
+record IsHeldBy (w : World) (log : List Label) (who : Who) : Type 0 where
   pub hand : InHand
-  pub held : hand_at w.hands c ≡ Some hand
+  pub held : hand_at w.hands who ≡ Some hand
   pub state : CallState
   pub stepped : stepped_call (last log) who ≡ Some state
   pub call_is : state.call ≡ hand.call
 
-is_held : (w : World) (log : List Label) (who : Who) (c : ℕ) → IsRunTo w log → client_in_hand who w ≡ Some c → IsHeldBy w log who c
-is_held w log (Actor (Client d)) c run is = by_hand (hand_at w.hands d) refl is
+is_held : (w : World) (log : List Label) (who : Who) → IsRunTo w log → is_some (hand_at w.hands who) ≡ true → IsHeldBy w log who
+is_held w log who run is = by_hand (hand_at w.hands who) refl is
   where
-    by_hand : (o : Option InHand) → hand_at w.hands d ≡ o → client_where o d ≡ Some c → IsHeldBy w log (Actor (Client d)) c
+    by_hand : (o : Option InHand) → hand_at w.hands who ≡ o → is_some o ≡ true → IsHeldBy w log who
     by_hand None held is = absurd (cc is)
     by_hand (Some hand) held is = record {
       hand = hand;
-      held = ap (hand_at w.hands) (sym (same_Some d c is)) ∙ held;
-      state = state_in run.shows.history d hand;
-      stepped = ap (λ (m : Machine). m.in_hand (Client d)) run.shows.same ∙ in_hand_is w run.shows.history d hand held;
+      held = held;
+      state = state_in run.shows.history who hand;
+      stepped = ap (λ (m : Machine). m.in_hand who) run.shows.same ∙ in_hand_is w run.shows.history who hand held;
       call_is = refl;
     }
-is_held w log (Actor (Node r)) c run is = absurd (cc is)
-is_held w log (Call call) c run is = absurd (cc is)
 
--- where no client is named that has a call in hand, nothing is stepped
-pub none_stepped : (w : World) (log : List Label) (who : Who) → IsRunTo w log → client_in_hand who w ≡ None → stepped_call (last log) who ≡ None
-none_stepped w log (Actor (Client d)) run is = ap (λ (m : Machine). m.in_hand (Client d)) run.shows.same ∙ none_in_hand w run.shows.history d (by_hand (hand_at w.hands d) is)
-  where
-    by_hand : (o : Option InHand) → client_where o d ≡ None → o ≡ None
-    by_hand None is = refl
-    by_hand (Some hand) is = absurd (cc is)
-none_stepped w log (Actor (Node r)) run is = ap (λ (m : Machine). m.in_hand (Node r)) run.shows.same
-none_stepped w log (Call call) run is = ap (λ (m : Machine). m.operations call) run.shows.same
+-- where nothing is in hand under the name, nothing is stepped
+pub none_stepped : (w : World) (log : List Label) (who : Who) → IsRunTo w log → hand_at w.hands who ≡ None → stepped_call (last log) who ≡ None
+none_stepped w log who run none = ap (λ (m : Machine). m.in_hand who) run.shows.same ∙ none_in_hand w run.shows.history who none
 
 -- so many steps of the call in hand are steps of the call that is named
-pub are_stepping : (w : World) (log : List Label) (who : Who) (c n : ℕ) → IsRunTo w log → client_in_hand who w ≡ Some c → (more : List Label) → IsStepping n (hand_at w.hands c) more → AreSteps (stepped_call (last log) who) who linewords.Step (λ call. StepsUpTo call n None) more
-are_stepping w log who c n run is more f =
-    let it = is_held w log who c run is in
+pub are_stepping : (w : World) (log : List Label) (who : Who) (n : ℕ) → IsRunTo w log → is_some (hand_at w.hands who) ≡ true → (more : List Label) → IsStepping n (hand_at w.hands who) more → AreSteps (stepped_call (last log) who) who linewords.Step (λ call. StepsUpTo call n None) more
+are_stepping w log who n run is more f =
+    let it = is_held w log who run is in
     subst (λ (o : Option CallState). AreSteps o who linewords.Step (λ call. StepsUpTo call n None) more) (sym it.stepped)
     (subst (λ (call : CallId). StepsUpTo call n None more) (sym it.call_is) (subst (λ (o : Option InHand). IsStepping n o more) it.held f))
 
 -- and likewise to its end
-pub are_finishing : (w : World) (log : List Label) (who : Who) (c : ℕ) → IsRunTo w log → client_in_hand who w ≡ Some c → (more : List Label) → IsFinish (hand_at w.hands c) more → AreSteps (stepped_call (last log) who) who linewords.Finish (λ call. StepsToEnd call None) more
-are_finishing w log who c run is more f =
-    let it = is_held w log who c run is in
+pub are_finishing : (w : World) (log : List Label) (who : Who) → IsRunTo w log → is_some (hand_at w.hands who) ≡ true → (more : List Label) → IsFinish (hand_at w.hands who) more → AreSteps (stepped_call (last log) who) who linewords.Finish (λ call. StepsToEnd call None) more
+are_finishing w log who run is more f =
+    let it = is_held w log who run is in
     subst (λ (o : Option CallState). AreSteps o who linewords.Finish (λ call. StepsToEnd call None) more) (sym it.stepped)
     (subst (λ (call : CallId). StepsToEnd call None more) (sym it.call_is) (subst (λ (o : Option InHand). IsFinish o more) it.held f))
 
@@ -166,17 +214,11 @@ idle_label : (who : Who) (finish : Bool) (old new : World) (label : Label) → I
 idle_label who finish old new (labels.Word whose word said) is = λ i. labels.Word (is.0 i) (is.1 i) (is.2 i)
 idle_label who finish old new label is = absurd is
 
-idle_answers : (who : Who) (finish : Bool) (old new : World) (label : Label) → client_in_hand who old ≡ None → Answers (happenings.Step who finish) old new label → label ≡ labels.Word who (step_word finish) Idle
-idle_answers (Actor (Client d)) finish old new label none answers = by_hand (hand_at old.hands d) none answers
-  where
-    by_hand : (o : Option InHand) → client_where o d ≡ None → AnswersStep (Client d) finish o old new label → label ≡ labels.Word (Actor (Client d)) (step_word finish) Idle
-    by_hand None none answers = idle_label (Actor (Client d)) finish old new label answers
-    by_hand (Some hand) none answers = absurd (cc none)
-idle_answers (Actor (Node r)) finish old new label none answers = idle_label (Actor (Node r)) finish old new label answers
-idle_answers (Call call) finish old new label none answers = idle_label (Call call) finish old new label answers
+idle_answers : (who : Who) (finish : Bool) (old new : World) (label : Label) → hand_at old.hands who ≡ None → Answers (happenings.Step who finish) old new label → label ≡ labels.Word who (step_word finish) Idle
+idle_answers who finish old new label none answers = idle_label who finish old new label (subst (λ (o : Option InHand). AnswersStep who finish o old new label) none answers)
 
 -- is what the line is answered with
-pub idle_alone : (who : Who) (finish : Bool) (steps : CallId → List Label → Type 0) (old new : World) (log longer : List Label) → IsRunTo old log → client_in_hand who old ≡ None → Happens (happenings.Step who finish) old new log longer
+pub idle_alone : (who : Who) (finish : Bool) (steps : CallId → List Label → Type 0) (old new : World) (log longer : List Label) → IsRunTo old log → hand_at old.hands who ≡ None → Happens (happenings.Step who finish) old new log longer
     → GrowsBy log longer (AreSteps (stepped_call (last log) who) who (step_word finish) steps)
 idle_alone who finish steps old new log longer run none h =
     (h.label ∷ [], h.grows, subst (λ (o : Option CallState). AreSteps o who (step_word finish) steps (h.label ∷ [])) (sym (none_stepped old log who run none)) (ap (λ l. l ∷ []) (idle_answers who finish old new h.label none h.answers)))
@@ -210,8 +252,8 @@ finish_of_none o e = subst (λ (o : Option InHand). IsFinish o []) (sym e) refl
 pub follows_line : (script rest : List Line) (line : Line) (others : List Line) (old new : List Label) → rest ≡ line ∷ others → GrowsBy old new (AnswersLine (last old) line) →
     length new ≤ length old + built_line_labels → ((more : List Label) → FollowsFrom (last old) rest more → Follows script (old ++ more)) → (more : List Label) → FollowsFrom (last new) others more → Follows script (new ++ more)
 follows_line script rest line others old new e f few goes more h =
-    let then : last new ≡ last_from (last old) f.0 = ap last f.1 ∙ last_from-append empty_cluster old f.0 in
-    let later : FollowsFrom (last_from (last old) f.0) others more = subst (λ (m : Machine). FollowsFrom m others more) then h in
+    let front : last new ≡ last_from (last old) f.0 = ap last f.1 ∙ last_from-append empty_cluster old f.0 in
+    let later : FollowsFrom (last_from (last old) f.0) others more = subst (λ (m : Machine). FollowsFrom m others more) front h in
     let grown : length new ≡ length old + length f.0 = ap length f.1 ∙ length-append old f.0 in
     let all : FollowsFrom (last old) rest (f.0 ++ more) = subst (λ r. FollowsFrom (last old) r (f.0 ++ more)) (sym e) (f.0, more, refl, f.2, omega (arith, few, grown), later) in
     subst (Follows script) (sym (ap (λ xs. xs ++ more) f.1 ∙ append_assoc old f.0 more)) (goes (f.0 ++ more) all)

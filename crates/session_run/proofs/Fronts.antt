@@ -1,6 +1,7 @@
 -- A log that stops early is a front of one that follows its script: labels with which it could go on.
 use Rattle.std.proofs.Common.{◌≡◌, ℕ, zero, suc, ◌+◌, ◌<◌, ◌≤◌, List, [], ◌∷◌, ◌++◌, length, ℤ, pos, refl, sym, ap, subst, ◌∙◌, append_assoc, append-nil, length-append, arith}
-use Rattle.std.specs.Prelude.{Bool, Option, Some, None, Result, Ok, Err, OnOk, OnErr}
+use Rattle.std.specs.Prelude.{Bool, true, false, Option, Some, None, Result, Ok, Err, OnOk, OnErr}
+use Rattle.ckpt_types.specs.declared.answers.Outcome.{Outcome}
 use Rattle.ckpt_types.specs.declared.answers.Outcome.TheVariants.{NoMemory}
 use Rattle.ckpt_types.specs.declared.identities.ActorName.TheVariants.{Client, Node}
 use Rattle.ckpt_types.specs.declared.identities.CallId.{CallId}
@@ -18,16 +19,17 @@ use Rattle.run_labels.specs.declared.labels.Label.TheVariants as labels
 use Rattle.run_labels.specs.declared.labels.PullReply.TheVariants as pulls
 use Rattle.run_labels.specs.declared.labels.PutReply.TheVariants as puts
 use Rattle.ckpt_types.specs.Limits.{built_line_labels, nodes_max}
-use Rattle.ckpt_types.specs.OpWord.{word_of_op}
+use Rattle.ckpt_types.specs.OpWord.{word_of_op, is_async}
 use Rattle.script_lang.specs.declared.lines.Line.{Line}
 use Rattle.script_lang.specs.declared.lines.Line.TheVariants as lines
 use Rattle.script_lang.specs.Grammar.{moment_behind}
 use Rattle.world_core.specs.declared.hands.InHand.{InHand}
 use Rattle.ckpt_machine.specs.Machine.{Machine, CallState}
 use Rattle.ckpt_machine.specs.Runs.{last, last_from}
-use Rattle.session_run.specs.Follows.{AnswersLine, AreSteps, StepsToEnd, StepsUpTo, stepped_call, FollowsFrom, Follows, FollowsFront}
-use Rattle.session_run.specs.Growing.{GrowsBy, GrowsTowards, IsFinish, IsStepping, client_in_hand, AreLeft}
+use Rattle.session_run.specs.Follows.{AnswersLine, AreSteps, AreStepsBehind, IsWholeCall, StepsToEnd, StepsUpTo, stepped_call, FollowsFrom, Follows, FollowsFront}
+use Rattle.session_run.specs.Growing.{GrowsBy, GrowsTowards, IsFinish, IsStepping, AreLeft}
 use Rattle.session_run.proofs.Following.{idle_alone, none_stepped}
+use Rattle.world_core.specs.HandsState.{hand_at}
 use Rattle.world_core.specs.declared.world.World.{World}
 use Rattle.world_core.specs.declared.world.Event.TheVariants as happenings
 use Rattle.world_core.specs.Runs.{IsRunTo, Happens, step_word}
@@ -37,7 +39,15 @@ use Rattle.session_run.specs.Playable.{IsPlayableLine, ArePlayable}
 
 -- a call of this client and operation that ends at once
 abbrev pub could_begin : ℕ → Op → Label
-could_begin c op = labels.Began (record { actor = Client c; number = 0 }) op (Some NoMemory)
+could_begin c op = labels.Began (record { actor = Client c; number = 0 }) op (Some NoMemory) beside.Nothing
+
+-- it is all of the line
+nothing_behind : (b : Bool) (call : CallId) (end : Outcome) → AreStepsBehind b call (Some end) []
+nothing_behind true call end = refl
+nothing_behind false call end = refl
+
+pub could_begin-whole : (m : Machine) (c : ℕ) (op : Op) → IsWholeCall m (Client c) op (could_begin c op ∷ [])
+could_begin-whole m c op = (refl, refl, nothing_behind (is_async (word_of_op op)) _ NoMemory)
 
 -- a step by which a call could end
 abbrev could_end : CallId → OpWord → Label
@@ -73,7 +83,7 @@ could_step-finishes None who = refl
 could_step-finishes (Some s) who = (refl, refl)
 
 could_answer-answers : (m : Machine) (t : ℤ) (line : Line) → IsPlayableLine t line → AnswersLine m line (could_answer m line ∷ [])
-could_answer-answers m t (lines.Call c op) playable = (refl, refl, refl)
+could_answer-answers m t (lines.Call c op) playable = could_begin-whole m c op
 could_answer-answers m t (lines.Begin (Client c) op) playable = (refl, refl, refl)
 could_answer-answers m t (lines.Begin (Node r) op) playable = absurd playable.0
 could_answer-answers m t (lines.Step who n) playable = could_step-steps (stepped_call m who) who n playable.1
@@ -155,7 +165,7 @@ pub towards_map : {P Q : List Label → Type 0} (old new : List Label) → Grows
 towards_map old new f goes = (f.0, f.1, (f.2.0, f.2.1, goes f.2.0 f.2.2))
 
 -- a word answers it, or nothing came yet
-pub towards_idle : {X E : Type 0} (r : Result X E) (who : Who) (finish : Bool) (steps : CallId → List Label → Type 0) (old new : World) (log longer : List Label) → IsRunTo old log → client_in_hand who old ≡ None → OnOk r (Happens (happenings.Step who finish) old new log longer) → OnErr r (longer ≡ log)
+pub towards_idle : {X E : Type 0} (r : Result X E) (who : Who) (finish : Bool) (steps : CallId → List Label → Type 0) (old new : World) (log longer : List Label) → IsRunTo old log → hand_at old.hands who ≡ None → OnOk r (Happens (happenings.Step who finish) old new log longer) → OnErr r (longer ≡ log)
     → GrowsTowards log longer (AreSteps (stepped_call (last log) who) who (step_word finish) steps)
 towards_idle (Ok x) who finish steps old new log longer run none happens err = towards_end log longer (idle_alone who finish steps old new log longer run none happens)
 towards_idle (Err e) who finish steps old new log longer run none happens err =

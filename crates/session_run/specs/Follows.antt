@@ -1,11 +1,11 @@
 -- A log follows a script: the lines in order, each with its labels.
-use Rattle.std.specs.Prelude.{◌≡◌, ℕ, zero, suc, ◌≤◌, List, [], ◌∷◌, ◌++◌, length, Option, Some, None, false}
+use Rattle.std.specs.Prelude.{◌≡◌, ℕ, zero, suc, ◌≤◌, List, [], ◌∷◌, ◌++◌, length, Option, Some, None, Bool, true, false}
 use Rattle.ckpt_types.specs.declared.answers.Outcome.{Outcome}
 use Rattle.ckpt_types.specs.declared.identities.ActorName.{ActorName}
 use Rattle.ckpt_types.specs.declared.identities.ActorName.TheVariants.{Client}
 use Rattle.ckpt_types.specs.declared.identities.CallId.{CallId}
 use Rattle.ckpt_types.specs.declared.identities.Who.{Who}
-use Rattle.ckpt_types.specs.declared.identities.Who.TheVariants.{Actor, Call}
+use Rattle.ckpt_types.specs.declared.identities.Who.TheVariants.{Actor}
 use Rattle.ckpt_types.specs.declared.operation.Op.{Op}
 use Rattle.ckpt_types.specs.declared.operation.Op.TheVariants as ops
 use Rattle.run_labels.specs.declared.labels.Label.{Label}
@@ -15,7 +15,7 @@ use Rattle.run_labels.specs.declared.words.LineWord.TheVariants as linewords
 use Rattle.run_labels.specs.declared.words.Said.{Said}
 use Rattle.run_labels.specs.declared.words.Said.TheVariants.{Down, Idle}
 use Rattle.ckpt_types.specs.Limits.{line_labels_max}
-use Rattle.ckpt_types.specs.OpWord.{word_of_op}
+use Rattle.ckpt_types.specs.OpWord.{word_of_op, is_async}
 use Rattle.script_lang.specs.declared.lines.Line.{Line}
 use Rattle.script_lang.specs.declared.lines.Line.TheVariants as lines
 use Rattle.cluster_record.specs.RecordState.{entry_of, is_up}
@@ -36,16 +36,21 @@ SaysTrueIn (ops.Client r version callbacks) Down m = is_up r m.cluster ≡ false
 SaysTrueIn op Down m = ⊥
 SaysTrueIn op said m = Unit {0}
 
--- a call of this actor with this operation, from its beginning to its end; or the one word that answers its line,
+-- what comes behind the beginning of a call in its line: its steps to the end, where it goes on under its actor's name; nothing, where it is asynchronous and goes on under its own
+abbrev pub AreStepsBehind : Bool → CallId → Option Outcome → List Label → Type 0
+AreStepsBehind true call end rest = rest ≡ []
+AreStepsBehind false call end rest = StepsToEnd call end rest
+
+-- a call of this actor with this operation, its beginning and what comes behind it; or the one word that answers its line,
 -- and is true in the state before it
 abbrev pub IsWholeCall : Machine → ActorName → Op → List Label → Type 0
-IsWholeCall m a op (labels.Began call begun end ∷ rest) = (call.actor ≡ a) × (begun ≡ op) × StepsToEnd call end rest
+IsWholeCall m a op (labels.Began call begun end details ∷ rest) = (call.actor ≡ a) × (begun ≡ op) × AreStepsBehind (is_async (word_of_op op)) call end rest
 IsWholeCall m a op (labels.Word who word said ∷ rest) = (who ≡ Actor a) × (word ≡ linewords.Op (word_of_op op)) × SaysTrueIn op said m × (rest ≡ [])
 IsWholeCall m a op log = ⊥
 
 -- the beginning of a call of this actor with this operation, and no step; or the one word that answers its line, and is true in the state before it
 abbrev pub IsBegunCall : Machine → ActorName → Op → List Label → Type 0
-IsBegunCall m a op (labels.Began call begun end ∷ rest) = (call.actor ≡ a) × (begun ≡ op) × (rest ≡ [])
+IsBegunCall m a op (labels.Began call begun end details ∷ rest) = (call.actor ≡ a) × (begun ≡ op) × (rest ≡ [])
 IsBegunCall m a op (labels.Word who word said ∷ rest) = (who ≡ Actor a) × (word ≡ linewords.Op (word_of_op op)) × SaysTrueIn op said m × (rest ≡ [])
 IsBegunCall m a op log = ⊥
 
@@ -56,10 +61,9 @@ StepsUpTo call zero None rest = rest ≡ []
 StepsUpTo call (suc n) None (labels.Stepped other op verb k r reply end details ∷ rest) = (other ≡ call) × StepsUpTo call n end rest
 StepsUpTo call (suc n) None rest = ⊥
 
--- the call of which a line asks for steps: the one that the actor has in hand, or the unfinished asynchronous operation
+-- the call of which a line asks for steps: the one in hand under this name, an actor's or that of an asynchronous call
 abbrev pub stepped_call : Machine → Who → Option CallState
-stepped_call m (Actor a) = m.in_hand a
-stepped_call m (Call call) = m.operations call
+stepped_call m who = m.in_hand who
 
 -- such steps of this call; where there is none, the word IDLE
 abbrev pub AreSteps : Option CallState → Who → LineWord → (CallId → List Label → Type 0) → List Label → Type 0

@@ -1,15 +1,10 @@
 -- How a log grows while a line is played.
 use Rattle.std.specs.Prelude.{◌≡◌, ◌<◌, ◌≤◌, ℕ, zero, suc, List, [], ◌++◌, length, Option, Some, None, ℤ}
-use Rattle.ckpt_types.specs.declared.identities.ActorName.TheVariants.{Client}
-use Rattle.ckpt_types.specs.declared.identities.Who.{Who}
-use Rattle.ckpt_types.specs.declared.identities.Who.TheVariants.{Actor}
 use Rattle.ckpt_types.specs.Limits.{nodes_max}
 use Rattle.script_lang.specs.declared.lines.Line.{Line}
 use Rattle.script_lang.specs.declared.lines.Line.TheVariants as lines
 use Rattle.run_labels.specs.declared.labels.Label.{Label}
 use Rattle.world_core.specs.declared.hands.InHand.{InHand}
-use Rattle.world_core.specs.declared.world.World.{World}
-use Rattle.world_core.specs.Shows.{hand_at}
 use Rattle.session_run.specs.Follows.{StepsToEnd, StepsUpTo}
 use Rattle.session_run.specs.Playable.{IsPlayableLine, ArePlayable, IsPlayable}
 use Rattle.session_run.specs.Puts.{ArePuts}
@@ -35,16 +30,6 @@ IsFinish (Some h) more = StepsToEnd h.call None more
 abbrev pub IsStepping : ℕ → Option InHand → List Label → Type 0
 IsStepping n None more = more ≡ []
 IsStepping n (Some h) more = StepsUpTo h.call n None more
-
--- the client that is named, where it has a call in hand
-abbrev pub client_where : Option InHand → ℕ → Option ℕ
-client_where None c = None
-client_where (Some h) c = Some c
-
--- the client whose call a line steps, where it has one in hand; a node and an asynchronous operation have none
-abbrev pub client_in_hand : Who → World → Option ℕ
-client_in_hand (Actor (Client c)) w = client_where (hand_at w.hands c) c
-client_in_hand who w = None
 
 -- the lines that are left behind so many, at a moment: all of a script, or those that come with the nodes up
 abbrev pub AreLeft : ℕ → ℤ → List Line → Type 0

@@ -9,16 +9,17 @@ ghost use Rattle.ckpt_machine.specs.Runs.{last};
 ghost use Rattle.world_core.specs.declared.world.Event.TheVariants as happenings;
 ghost use Rattle.world_core.specs.Runs.{IsRunTo, IsScriptClient, Happens, MayBeStepped};
 ghost use Rattle.world_core.specs.StepsLeft.{ComesNearer, left_of};
-ghost use Rattle.world_core.specs.Shows.{hand_at};
+ghost use Rattle.world_core.specs.HandsState.{hand_at};
 ghost use Rattle.session_run.specs.Follows.{AreSteps, IsBegunCall, IsWholeCall, StepsToEnd, StepsUpTo, stepped_call};
-ghost use Rattle.session_run.specs.Growing.{client_in_hand, GrowsBy, GrowsTowards, IsFinish, IsStepping};
+ghost use Rattle.session_run.specs.Growing.{GrowsBy, GrowsTowards, IsFinish, IsStepping};
 
 use ckpt_types::{ActorName, Op, Who};
 use run_labels::RunLog;
 use std::alloc::{AllocError, Global};
 use world_core::{Event, World};
 
-/// A call of a client, from its beginning to its end; where it has one in hand, the word that says so.
+/// A call of a client, from its beginning to its end, and of an asynchronous one its beginning alone; where the client
+/// has one in hand, the word that says so.
 pub(crate) fn play_call(
     alloc: Global,
     client: u8,
@@ -36,11 +37,12 @@ pub(crate) fn play_call(
     ensures answers { OnOk result (GrowsBy log.old.labels log.new.labels (IsWholeCall (last log.old.labels) (Client client) op.now)) }
     ensures front { GrowsTowards log.old.labels log.new.labels (IsWholeCall (last log.old.labels) (Client client) op.now) }
 {
-    if world.in_hand(client) {
+    let who = Who::Actor(ActorName::Client(client));
+    if world.in_hand(who) {
         return begin(alloc, client, op, log, world);
     }
     begin(alloc, client, op, log, world)?;
-    finish(alloc, client, log, world)
+    finish(alloc, who, log, world)
 }
 
 /// The beginning of a call, or the word that answers its line. Only clients begin calls yet.
@@ -146,10 +148,10 @@ pub(crate) fn steps_of(
     ensures answers { OnOk result (GrowsBy log.old.labels log.new.labels (AreSteps (stepped_call (last log.old.labels) who) who linewords.Step (λ call. StepsUpTo call most None))) }
     ensures front { GrowsTowards log.old.labels log.new.labels (AreSteps (stepped_call (last log.old.labels) who) who linewords.Step (λ call. StepsUpTo call most None)) }
 {
-    match client_in_hand(who, world) {
-        Some(client) => steps(alloc, client, most, log, world),
-        None => world.event(alloc, Event::Step(who, false), log),
+    if !world.in_hand(who) {
+        return world.event(alloc, Event::Step(who, false), log);
     }
+    steps(alloc, who, most, log, world)
 }
 
 /// The steps of the call in hand that is named, to its end; where there is none, the word that says so.
@@ -168,81 +170,67 @@ pub(crate) fn finish_of(
     ensures answers { OnOk result (GrowsBy log.old.labels log.new.labels (AreSteps (stepped_call (last log.old.labels) who) who linewords.Finish (λ call. StepsToEnd call None))) }
     ensures front { GrowsTowards log.old.labels log.new.labels (AreSteps (stepped_call (last log.old.labels) who) who linewords.Finish (λ call. StepsToEnd call None)) }
 {
-    match client_in_hand(who, world) {
-        Some(client) => finish(alloc, client, log, world),
-        None => world.event(alloc, Event::Step(who, true), log),
+    if !world.in_hand(who) {
+        return world.event(alloc, Event::Step(who, true), log);
     }
+    finish(alloc, who, log, world)
 }
 
-// The client that is named, where it has a call in hand.
-fn client_in_hand(who: Who, world: &World) -> Option<u8>
-    ensures { result ≡ client_in_hand who world.now }
-{
-    let Who::Actor(ActorName::Client(client)) = who else {
-        return None;
-    };
-    if world.in_hand(client) {
-        Some(client)
-    } else {
-        None
-    }
-}
-
-// At most so many steps of the client's call in hand, fewer where it ends.
+// At most so many steps of the call in hand, fewer where it ends.
 fn steps(
     alloc: Global,
-    client: u8,
+    who: Who,
     most: u32,
     log: &mut RunLog,
     world: &mut World,
 ) -> Result<(), AllocError>
     requires run { IsRunTo world.old log.old.labels }
-    requires client { client < client_numbers }
-    requires room { length log.old.labels + left_of world.old (Client client) < 2 ^ 32 - 2 }
+    requires comes { MayBeStepped who }
+    requires room { length log.old.labels + left_of world.old who < 2 ^ 32 - 2 }
     ensures run { IsRunTo world.new log.new.labels }
-    ensures few { length log.new.labels ≤ length log.old.labels + left_of world.old (Client client) }
+    ensures few { length log.new.labels ≤ length log.old.labels + left_of world.old who }
     ensures moment { OnOk result (world.new.cluster.moment ≡ world.old.cluster.moment) }
-    ensures steps { OnOk result (GrowsBy log.old.labels log.new.labels (IsStepping most (hand_at world.old.hands client))) }
-    ensures front { GrowsTowards log.old.labels log.new.labels (IsStepping most (hand_at world.old.hands client)) }
+    ensures steps { OnOk result (GrowsBy log.old.labels log.new.labels (IsStepping most (hand_at world.old.hands who))) }
+    ensures front { GrowsTowards log.old.labels log.new.labels (IsStepping most (hand_at world.old.hands who)) }
 {
     for _done in 0..most {
-        if !world.in_hand(client) {
+        if !world.in_hand(who) {
             return Ok(());
         }
-        step(alloc, client, log, world)?;
+        step(alloc, who, log, world)?;
     }
     Ok(())
 }
 
-// The steps of the client's call in hand, to its end.
+// The steps of the call in hand, to its end.
 #[inline(always)]
-fn finish(alloc: Global, client: u8, log: &mut RunLog, world: &mut World) -> Result<(), AllocError>
+fn finish(alloc: Global, who: Who, log: &mut RunLog, world: &mut World) -> Result<(), AllocError>
     requires run { IsRunTo world.old log.old.labels }
-    requires client { client < client_numbers }
-    requires room { length log.old.labels + left_of world.old (Client client) < 2 ^ 32 - 2 }
+    requires comes { MayBeStepped who }
+    requires room { length log.old.labels + left_of world.old who < 2 ^ 32 - 2 }
     ensures run { IsRunTo world.new log.new.labels }
-    ensures few { length log.new.labels ≤ length log.old.labels + left_of world.old (Client client) }
+    ensures few { length log.new.labels ≤ length log.old.labels + left_of world.old who }
     ensures moment { OnOk result (world.new.cluster.moment ≡ world.old.cluster.moment) }
-    ensures steps { OnOk result (GrowsBy log.old.labels log.new.labels (IsFinish (hand_at world.old.hands client))) }
-    ensures front { GrowsTowards log.old.labels log.new.labels (IsFinish (hand_at world.old.hands client)) }
+    ensures steps { OnOk result (GrowsBy log.old.labels log.new.labels (IsFinish (hand_at world.old.hands who))) }
+    ensures front { GrowsTowards log.old.labels log.new.labels (IsFinish (hand_at world.old.hands who)) }
 {
-    'stepping: while world.in_hand(client) {
-        step(alloc, client, log, world)?;
+    'stepping: while world.in_hand(who) {
+        step(alloc, who, log, world)?;
     }
     Ok(())
 }
 
-// The next step of the client's call in hand.
+// The next step of the call in hand.
 #[inline(always)]
-fn step(alloc: Global, client: u8, log: &mut RunLog, world: &mut World) -> Result<(), AllocError>
+fn step(alloc: Global, who: Who, log: &mut RunLog, world: &mut World) -> Result<(), AllocError>
     requires run { IsRunTo world.old log.old.labels }
-    requires client { client < client_numbers }
+    requires comes { MayBeStepped who }
     requires room { length log.old.labels < 2 ^ 32 - 2 }
     ensures run { IsRunTo world.new log.new.labels }
-    ensures happens { OnOk result (Happens (happenings.Step (Actor (Client client)) false) world.old world.new log.old.labels log.new.labels) }
-    ensures nearer { OnOk result (ComesNearer (happenings.Step (Actor (Client client)) false) world.old world.new) }
+    ensures happens { OnOk result (Happens (happenings.Step who false) world.old world.new log.old.labels log.new.labels) }
+    ensures nearer { OnOk result (ComesNearer (happenings.Step who false) world.old world.new) }
     ensures err { OnErr result (log.new.labels ≡ log.old.labels) }
 {
-    let event = Event::Step(Who::Actor(ActorName::Client(client)), false);
+    let event = Event::Step(who, false);
     world.event(alloc, event, log)
 }

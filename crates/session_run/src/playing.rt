@@ -5,6 +5,10 @@ ghost use Rattle.script_lang.specs.Grammar.{moment_behind};
 ghost use Rattle.ckpt_machine.specs.Acknowledged.{AcknowledgedStay};
 ghost use Rattle.ckpt_machine.specs.Replays.{EffectsTellThroughout};
 ghost use Rattle.ckpt_machine.specs.Synchronized.{SynchronizedTell};
+ghost use Rattle.ckpt_machine.specs.WasAsked.{OnlyAskedThroughout};
+ghost use Rattle.ckpt_machine.specs.Owners.{OwnersInHandThroughout};
+ghost use Rattle.ckpt_machine.specs.ActivesSet.{ActivesAreSet};
+ghost use Rattle.ckpt_machine.specs.Causes.{EachEndIsAllowed};
 ghost use Rattle.ckpt_machine.specs.AllOrNone.{IsAllOrNoneThroughout};
 ghost use Rattle.ckpt_machine.specs.Refusals.{EachRefusalLeaves};
 ghost use Rattle.ckpt_machine.specs.Runs.{last};
@@ -60,6 +64,20 @@ pub fn session<R: Threads + Wait + Sync, G: Gate>(
     // Behind a synchronisation that was answered OK each complete replica has the checkpoint's generation, and first what
     // the active had when it was pulled.
     ensures synchronized { SynchronizedTell log.new.labels }
+
+    // Only what was asked for is done: each effect of each replica, and what is staged or marked there, is of a call that
+    // began in the log with this very update, of this very checkpoint.
+    ensures asked { OnlyAskedThroughout log.new.labels }
+
+    // Slots, marks, makings and holds are of calls in hand alone, so a call that has ended leaves none.
+    ensures owners { OwnersInHandThroughout log.new.labels }
+
+    // Behind the setting of an active that was answered OK, the client's node is the active, and has what the one before it
+    // had.
+    ensures actives { ActivesAreSet log.new.labels }
+
+    // Each end of a call is allowed where it comes, so its cause is there.
+    ensures causes { EachEndIsAllowed log.new.labels }
 {
     // Where room is refused at once, it is asked for again as it is needed.
     let _ = log.reserve(LABELS_A_LINE * script.as_slice().len());

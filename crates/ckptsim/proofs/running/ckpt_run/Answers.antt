@@ -4,7 +4,7 @@ use Rattle.run_labels.specs.declared.labels.Label.{Label}
 use Rattle.session_run.proofs.Playable.{playable}
 use Rattle.ckptsim.specs.Headline.{asks_steps, printed}
 use Rattle.ckptsim.specs.Reading.{HasRead}
-use Rattle.ckptsim.proofs.Played.{read_too_long, none_refused, all_of_none, stays_of_none, tell_of_none, synchronized_of_none}
+use Rattle.ckptsim.proofs.Played.{read_too_long, none_refused, all_of_none, stays_of_none, tell_of_none, synchronized_of_none, asked_of_none, owners_of_none, actives_of_none, causes_of_none}
 use Rattle.ckptsim.proofs.Written.{part_of_all}
 use Rattle.ckptsim.proofs.running.ckpt_run.Goals as goal
 
@@ -124,3 +124,75 @@ returns-in-Err-Fault-clause-synchronized g c = synchronized_of_none c.args.log.n
 
 pub returns-in-Err-NoMemory-clause-synchronized : goal.returns-in-Err-NoMemory-clause-synchronized
 returns-in-Err-NoMemory-clause-synchronized g c = synchronized_of_none c.args.log.now.labels c.requires.log
+
+pub returns-then-not-is_command-clause-asked : goal.returns-then-not-is_command-clause-asked
+returns-then-not-is_command-clause-asked g c = asked_of_none c.args.log.now.labels c.requires.log
+
+pub returns-in-Err-Failed-clause-asked : goal.returns-in-Err-Failed-clause-asked
+returns-in-Err-Failed-clause-asked g c = asked_of_none c.args.log.now.labels c.requires.log
+
+pub returns-in-Err-Memory-clause-asked : goal.returns-in-Err-Memory-clause-asked
+returns-in-Err-Memory-clause-asked g c = asked_of_none c.args.log.now.labels c.requires.log
+
+pub returns-in-TooLong-clause-asked : goal.returns-in-TooLong-clause-asked
+returns-in-TooLong-clause-asked g c = asked_of_none c.args.log.now.labels c.requires.log
+
+pub returns-in-Err-Fault-clause-asked : goal.returns-in-Err-Fault-clause-asked
+returns-in-Err-Fault-clause-asked g c = asked_of_none c.args.log.now.labels c.requires.log
+
+pub returns-in-Err-NoMemory-clause-asked : goal.returns-in-Err-NoMemory-clause-asked
+returns-in-Err-NoMemory-clause-asked g c = asked_of_none c.args.log.now.labels c.requires.log
+
+pub returns-then-not-is_command-clause-owners : goal.returns-then-not-is_command-clause-owners
+returns-then-not-is_command-clause-owners g c = owners_of_none c.args.log.now.labels c.requires.log
+
+pub returns-in-Err-Failed-clause-owners : goal.returns-in-Err-Failed-clause-owners
+returns-in-Err-Failed-clause-owners g c = owners_of_none c.args.log.now.labels c.requires.log
+
+pub returns-in-Err-Memory-clause-owners : goal.returns-in-Err-Memory-clause-owners
+returns-in-Err-Memory-clause-owners g c = owners_of_none c.args.log.now.labels c.requires.log
+
+pub returns-in-TooLong-clause-owners : goal.returns-in-TooLong-clause-owners
+returns-in-TooLong-clause-owners g c = owners_of_none c.args.log.now.labels c.requires.log
+
+pub returns-in-Err-Fault-clause-owners : goal.returns-in-Err-Fault-clause-owners
+returns-in-Err-Fault-clause-owners g c = owners_of_none c.args.log.now.labels c.requires.log
+
+pub returns-in-Err-NoMemory-clause-owners : goal.returns-in-Err-NoMemory-clause-owners
+returns-in-Err-NoMemory-clause-owners g c = owners_of_none c.args.log.now.labels c.requires.log
+
+pub returns-then-not-is_command-clause-actives : goal.returns-then-not-is_command-clause-actives
+returns-then-not-is_command-clause-actives g c = actives_of_none c.args.log.now.labels c.requires.log
+
+pub returns-in-Err-Failed-clause-actives : goal.returns-in-Err-Failed-clause-actives
+returns-in-Err-Failed-clause-actives g c = actives_of_none c.args.log.now.labels c.requires.log
+
+pub returns-in-Err-Memory-clause-actives : goal.returns-in-Err-Memory-clause-actives
+returns-in-Err-Memory-clause-actives g c = actives_of_none c.args.log.now.labels c.requires.log
+
+pub returns-in-TooLong-clause-actives : goal.returns-in-TooLong-clause-actives
+returns-in-TooLong-clause-actives g c = actives_of_none c.args.log.now.labels c.requires.log
+
+pub returns-in-Err-Fault-clause-actives : goal.returns-in-Err-Fault-clause-actives
+returns-in-Err-Fault-clause-actives g c = actives_of_none c.args.log.now.labels c.requires.log
+
+pub returns-in-Err-NoMemory-clause-actives : goal.returns-in-Err-NoMemory-clause-actives
+returns-in-Err-NoMemory-clause-actives g c = actives_of_none c.args.log.now.labels c.requires.log
+
+pub returns-then-not-is_command-clause-causes : goal.returns-then-not-is_command-clause-causes
+returns-then-not-is_command-clause-causes g c = causes_of_none c.args.log.now.labels c.requires.log
+
+pub returns-in-Err-Failed-clause-causes : goal.returns-in-Err-Failed-clause-causes
+returns-in-Err-Failed-clause-causes g c = causes_of_none c.args.log.now.labels c.requires.log
+
+pub returns-in-Err-Memory-clause-causes : goal.returns-in-Err-Memory-clause-causes
+returns-in-Err-Memory-clause-causes g c = causes_of_none c.args.log.now.labels c.requires.log
+
+pub returns-in-TooLong-clause-causes : goal.returns-in-TooLong-clause-causes
+returns-in-TooLong-clause-causes g c = causes_of_none c.args.log.now.labels c.requires.log
+
+pub returns-in-Err-Fault-clause-causes : goal.returns-in-Err-Fault-clause-causes
+returns-in-Err-Fault-clause-causes g c = causes_of_none c.args.log.now.labels c.requires.log
+
+pub returns-in-Err-NoMemory-clause-causes : goal.returns-in-Err-NoMemory-clause-causes
+returns-in-Err-NoMemory-clause-causes g c = causes_of_none c.args.log.now.labels c.requires.log

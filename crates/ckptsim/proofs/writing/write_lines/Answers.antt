@@ -17,7 +17,7 @@ returns-then-is_err-2-clause-part g c =
     let labels = c.args.labels.now in
     let next = wrote_next c.args.steps _ _ _ _ labels c.loop-label.label-index c.label-item.result
     (slice_get_read labels (length labels) c.loop-label.label-index c.label-item.result refl c.loop-label-test.true c.label-item.is)
-    (at_ok c.append_line.result c.if-is_err.ensures.value c.append_line.ensures) c.loop-label.invariant.wrote in
+    (at_ok c.append_label.result c.if-is_err.ensures.value c.append_label.ensures) c.loop-label.invariant.wrote in
     let part = at_error c.write_all.result c.if-is_err-2.ensures.value c.write_all.ensures.part in
     wrote_front c.args.steps _ _ _ _ labels (c.loop-label.label-index + 1) next
     (subst (WritesPart (held c.loop-label.sink) (held c.write_all.new.sink)) c.as_slice.ensures.value part)
@@ -27,14 +27,14 @@ loop-label-preserved g c =
     let held = g.K.Sink.held in
     let labels = c.args.labels.now in
     let i : ℕ = c.loop-label.label-index in
-    let next = wrote_next c.args.steps (held c.args.sink.now) (held c.loop-label.sink) c.loop-label.text.items c.append_line.new.out.items labels i c.label-item.result
+    let next = wrote_next c.args.steps (held c.args.sink.now) (held c.loop-label.sink) c.loop-label.text.items c.append_label.new.text.items labels i c.label-item.result
     (slice_get_read labels (length labels) i c.label-item.result refl c.loop-label-test.true c.label-item.is)
-    (at_ok c.append_line.result c.if-is_err.ensures.value c.append_line.ensures) c.loop-label.invariant.wrote in
+    (at_ok c.append_label.result c.if-is_err.ensures.value c.append_label.ensures) c.loop-label.invariant.wrote in
     elim c.if-len-ge-PIECE.branch [
       | then-len-ge-PIECE+else-is_err-2 w ↦
           let lines = printed c.args.steps (take (i + 1) labels) in
           let all = at_ok w.write_all.result w.if-is_err-2.ensures.value w.write_all.ensures.written in
-          let wrote = wrote_text (held c.args.sink.now) (held c.loop-label.sink) (held w.write_all.new.sink) c.append_line.new.out.items lines next
+          let wrote = wrote_text (held c.args.sink.now) (held c.loop-label.sink) (held w.write_all.new.sink) c.append_label.new.text.items lines next
           (subst (Appends (held c.loop-label.sink) (held w.write_all.new.sink)) w.as_slice.ensures.value all) in
           record {
             later = subst (λ sink. g.K.Sink.faults c.args.sink.now ≤ g.K.Sink.faults sink) (sym w.sink-is) (le_trans c.loop-label.invariant.later w.write_all.ensures.later);

@@ -1,16 +1,15 @@
 use Rattle.std.proofs.Common.{◌≡◌, ◌+◌, ◌-◌, ◌≤◌, List, ◌++◌, length}
-use Rattle.ckpt_types.specs.declared.identities.ActorName.TheVariants.{Client}
 use Rattle.run_labels.specs.declared.labels.Label.{Label}
 use Rattle.world_core.specs.Runs.{IsRunTo}
 use Rattle.world_core.specs.StepsLeft.{left_of}
-use Rattle.world_core.specs.Shows.{hand_at}
+use Rattle.world_core.specs.HandsState.{hand_at}
 use Rattle.session_run.specs.Growing.{GrowsBy, IsStepping}
 use Rattle.session_run.proofs.calls.steps.Given as goal
 
 abbrev pub invariant-loop-done : goal.invariant-loop-done
 invariant-loop-done l = record {
   run : IsRunTo l.world l.log.labels;
-  few : length l.log.labels + left_of l.world (Client l.client) ≤ length l.initial.log.labels + left_of l.initial.world (Client l.client);
+  few : length l.log.labels + left_of l.world l.who ≤ length l.initial.log.labels + left_of l.initial.world l.who;
   moment : l.world.cluster.moment ≡ l.initial.world.cluster.moment;
-  steps : (more : List Label) → IsStepping (l.most - l._done) (hand_at l.world.hands l.client) more → GrowsBy l.initial.log.labels (l.log.labels ++ more) (IsStepping l.most (hand_at l.initial.world.hands l.client));
+  steps : (more : List Label) → IsStepping (l.most - l._done) (hand_at l.world.hands l.who) more → GrowsBy l.initial.log.labels (l.log.labels ++ more) (IsStepping l.most (hand_at l.initial.world.hands l.who));
 }

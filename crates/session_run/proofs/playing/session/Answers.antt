@@ -3,6 +3,10 @@ use Rattle.ckpt_machine.proofs.AllOrNone.{on_all_or_none}
 use Rattle.ckpt_machine.proofs.EffectsTell.{effects_tell}
 use Rattle.ckpt_machine.proofs.RefusedRuns.{run_leaves}
 use Rattle.ckpt_machine.proofs.Synchronized.{synchronisations_tell}
+use Rattle.ckpt_machine.proofs.OnlyAsked.{only_asked}
+use Rattle.ckpt_machine.proofs.OwnersInHand.{owners_in_hand}
+use Rattle.ckpt_machine.proofs.ActivesSet.{actives_are_set}
+use Rattle.ckpt_machine.proofs.Causes.{ends_allowed}
 use Rattle.session_run.proofs.playing.session.Goals as goal
 
 pub returns-clause-refused : goal.returns-clause-refused
@@ -19,3 +23,15 @@ returns-clause-effects g c = effects_tell c.play.new.log.labels c.play.ensures.r
 
 pub returns-clause-synchronized : goal.returns-clause-synchronized
 returns-clause-synchronized g c = synchronisations_tell c.play.new.log.labels c.play.ensures.run.run
+
+pub returns-clause-asked : goal.returns-clause-asked
+returns-clause-asked g c = only_asked c.play.new.log.labels c.play.ensures.run.run
+
+pub returns-clause-owners : goal.returns-clause-owners
+returns-clause-owners g c = owners_in_hand c.play.new.log.labels c.play.ensures.run.run
+
+pub returns-clause-actives : goal.returns-clause-actives
+returns-clause-actives g c = actives_are_set c.play.new.log.labels c.play.ensures.run.run
+
+pub returns-clause-causes : goal.returns-clause-causes
+returns-clause-causes g c = ends_allowed c.play.new.log.labels c.play.ensures.run.run
