@@ -18,7 +18,7 @@ const C0_5: CallId = CallId {
     number: 5,
 };
 
-fn client(client: u8, number: u32) -> CallId {
+pub(crate) fn client(client: u8, number: u32) -> CallId {
     CallId {
         actor: ActorName::Client(client),
         number,
@@ -200,6 +200,7 @@ fn a_call_prints_its_steps_only_where_they_are_asked_for(rt: HostRuntime) -> Res
             Shared::new(alloc, None)?,
         ),
         end: None,
+        details: Details::Nothing,
     };
     prints(alloc, begins, "+ c0.2 begin open\n", "")?;
     let stages = step(client(0, 3), Verb::Stage, 0, StepReply::Ok);
@@ -485,6 +486,7 @@ fn began(call: CallId, op: Op, end: Outcome) -> Label {
         call,
         op,
         end: Some(end),
+        details: Details::Nothing,
     }
 }
 
@@ -507,9 +509,6 @@ fn a_call_that_ends_where_it_begins_prints_its_result(rt: HostRuntime) -> Result
         "+ c0.4 begin syncasync\n",
         "c0.4 syncasync OK\n",
     )?;
-    let pulled = Outcome::Done(Answer::Pulled(1));
-    let ends = ended(client(0, 4), OpWord::SyncAsync, pulled);
-    prints(alloc, ends, "+ c0.4 look done\n", "")?;
     let name = Shared::new(alloc, Bytes::from_slice(alloc, b"ck")?)?;
     let open = Op::OpenAsync(0, 100, name, 3, Shared::new(alloc, None)?);
     let opens = began(client(1, 2), open, nothing);
@@ -518,13 +517,21 @@ fn a_call_that_ends_where_it_begins_prints_its_result(rt: HostRuntime) -> Result
         opens,
         "+ c1.2 begin openasync\n",
         "c1.2 openasync OK\n",
-    )?;
-    let opened = ended(
-        client(1, 2),
-        OpWord::OpenAsync,
-        Outcome::Done(Answer::Opened(1)),
-    );
-    prints(alloc, opened, "+ c1.2 look done\n", "")
+    )
+}
+
+#[test]
+fn the_end_of_an_asynchronous_operation_prints_no_line(rt: HostRuntime) -> Result<(), Fail> {
+    let alloc = rt.alloc();
+    let pulled = Outcome::Done(Answer::Pulled(1));
+    let synced = ended(client(0, 4), OpWord::SyncAsync, pulled);
+    prints(alloc, synced, "+ c0.4 look done\n", "")?;
+    let opened = Outcome::Done(Answer::Opened(1));
+    let opens = ended(client(1, 2), OpWord::OpenAsync, opened);
+    prints(alloc, opens, "+ c1.2 look done\n", "")?;
+    let full = Outcome::Refused(AisError::NoResources, Cause::Count(16));
+    let refused = ended(client(1, 3), OpWord::OpenAsync, full);
+    prints(alloc, refused, "+ c1.3 look done\n", "")
 }
 
 /// This is printed of a moment that was set.

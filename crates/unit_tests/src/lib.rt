@@ -2,7 +2,11 @@
 #![tactic(auto)]
 
 #[cfg(test)]
+mod callbacks;
+#[cfg(test)]
 mod cluster;
+#[cfg(test)]
+mod dispatches;
 #[cfg(test)]
 mod handles;
 #[cfg(test)]
