@@ -28,13 +28,13 @@ use Rattle.cluster_record.specs.Identities.{IdentitiesRise, AllUpTo}
 use Rattle.cluster_record.specs.Places.{put2}
 use Rattle.cluster_record.specs.RecordState.{RecordState, entry_of, complete_of, stays, swept, moved, entered, finished, home_of, opened_with, opened, closed, unlinked, unreferred, unnamed, departed, undone, with_hold, hold_set, active_set}
 use Rattle.cluster_record.proofs.IdentityLaws.{IdentitiesRise-filter}
-use Rattle.ckpt_machine.specs.Acknowledged.{IsUpdateWord, Acknowledges, ckpt_named, HasBegun, IsUpdateBy, HasUpdate, IsToHave, IsOnItsReplicas}
+use Rattle.ckpt_machine.specs.Acknowledged.{IsUpdateWord, Acknowledges, ckpt_named, HasBegun, IsUpdateBy, HasUpdate, IsToHave, IsOnItsReplicas, AcknowledgedStay}
 use Rattle.ckpt_machine.specs.AllOrNone.{OneUpdate, IsOfOne}
 use Rattle.ckpt_types.specs.Asks.{asked, update_asked, update_of}
 use Rattle.ckpt_machine.specs.Complete.{with_replica, replicas_from, complete_replicas}
 use Rattle.ckpt_machine.specs.Guards.{OnEach, OnAll, CommitOk, ApplyOk, AreMarksOf, IsOnOwn, Row, Allowed, ends_update}
 use Rattle.ckpt_machine.specs.Invariant.{Invariant}
-use Rattle.ckpt_machine.specs.Laws.{AcknowledgedStays}
+use Rattle.ckpt_machine.specs.Laws.{OfEachRun}
 use Rattle.ckpt_machine.specs.Listing.{is_active}
 use Rattle.ckpt_machine.specs.Machine.{Machine, Applied, Effect, ReplicaState, Snapshot, Staged, CallState, who}
 use Rattle.ckpt_machine.specs.Options.{is_all}
@@ -548,7 +548,7 @@ module _ (log : List Label) (run : IsRun log) (inv : Invariant (last log)) (hist
   acknowledged l allowed due call acks = absurd acks
 
 -- THE LAW: what was answered OK stays
-pub acknowledged_stay : AcknowledgedStays
+pub acknowledged_stay : OfEachRun AcknowledgedStay
 acknowledged_stay log run front more back l call is acks =
     let (before, allowed, due) = run_before _ front l (run_front log (front ++ l ∷ []) (more ++ back) (is ∙ sym (append_assoc front (l ∷ []) (more ++ back))) run) in
     let (inv, history) = run_history front before in

@@ -28,14 +28,14 @@ use Rattle.cluster_record.specs.Places.{find_key}
 use Rattle.cluster_record.specs.RecordState.{RecordState, entry_of, client_key, node_of_client, home_of, is_live_client, stays, generation_under, with_active, active_set}
 use Rattle.cluster_record.specs.StepDone.{generation_in}
 use Rattle.ckpt_machine.specs.Acknowledged.{HasBegun}
-use Rattle.ckpt_machine.specs.ActivesSet.{SetsActive, IsHoldOf, WasActiveWith, HasHeld, HadNoOther, IsActiveSet}
+use Rattle.ckpt_machine.specs.ActivesSet.{SetsActive, IsHoldOf, WasActiveWith, HasHeld, HadNoOther, IsActiveSet, ActivesAreSet}
 use Rattle.ckpt_machine.specs.Beginning.{Standing}
 use Rattle.ckpt_machine.specs.BeginRows.{BeginRow}
 use Rattle.ckpt_machine.specs.Drivers as drivers
 use Rattle.ckpt_machine.specs.Guards.{HoldOk, HoldKeptOff, MayLead, ActivateOk, LookDone, LookRow, IsOnOwn, Row, Allowed}
 use Rattle.ckpt_machine.specs.InHand.{is_enter, IsSettingIn}
 use Rattle.ckpt_machine.specs.Invariant.{Invariant}
-use Rattle.ckpt_machine.specs.Laws.{SettingsOfActives}
+use Rattle.ckpt_machine.specs.Laws.{OfEachRun}
 use Rattle.ckpt_machine.specs.Machine.{Machine, ReplicaState, Snapshot, CallState, empty_cluster, who}
 use Rattle.ckpt_machine.specs.Runs.{last, IsRun}
 use Rattle.ckpt_machine.specs.Shape.{IsCompleteOn}
@@ -302,7 +302,7 @@ sets log run (labels.Stepped d opwords.Active verb j q reply (Some (Done answer)
 sets log run l allowed due call is = absurd is
 
 -- THE LAW: what the setting of an active leaves that was answered OK
-pub actives_are_set : SettingsOfActives
+pub actives_are_set : OfEachRun ActivesAreSet
 actives_are_set log run front back l call is answers =
     let (before, allowed, due) = run_before empty_cluster front l (run_front log (front ++ l ∷ []) back (is ∙ sym (append_assoc front (l ∷ []) back)) run) in
     sets front before l allowed due call answers

@@ -7,8 +7,8 @@ use Rattle.cluster_record.specs.RecordState.{entry_of}
 use Rattle.ckpt_machine.specs.Machine.{Machine, Applied, ReplicaState}
 use Rattle.ckpt_machine.specs.Shape.{Shape, IsCompleteOn, IsShaped, IsSpread, sections_by, effects_by}
 use Rattle.ckpt_machine.specs.Invariant.{IsGoodIn, Invariant}
-use Rattle.ckpt_machine.specs.AllOrNone.{OneUpdate, IsOfOne, AreEqual, AreOfOne, AllOrNone}
-use Rattle.ckpt_machine.specs.Laws.{IsOnAllOrNone}
+use Rattle.ckpt_machine.specs.AllOrNone.{OneUpdate, IsOfOne, AreEqual, AreOfOne, AllOrNone, IsAllOrNoneThroughout}
+use Rattle.ckpt_machine.specs.Laws.{OfEachRun}
 use Rattle.ckpt_machine.specs.Options.{is_all}
 use Rattle.ckpt_machine.specs.Runs.{last}
 use Rattle.ckpt_machine.proofs.RunLaws.{run_has}
@@ -61,5 +61,5 @@ pub all_or_none : (m : Machine) → Invariant m → AllOrNone m
 all_or_none m inv k e found none all = together m k (inv.shapes k) e found (subst (λ maker. IsGoodIn m k (inv.shapes k) e maker) none (inv.holds.entries k e found)) all
 
 -- so after each front of a run
-pub on_all_or_none : IsOnAllOrNone
+pub on_all_or_none : OfEachRun IsAllOrNoneThroughout
 on_all_or_none log run front back is = all_or_none (last front) (run_has front (run_front log front back is run)).0

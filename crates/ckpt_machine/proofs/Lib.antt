@@ -121,6 +121,7 @@ pub mod SameClients
 pub mod SettingHeld
 pub mod ActivesSet
 pub mod Causes
+pub mod Promises
 pub mod HeldBy
 pub mod EntrySteps
 pub mod SettingActive

@@ -8,13 +8,13 @@ use Rattle.run_labels.specs.declared.labels.Label.{Label}
 use Rattle.weak_marks.specs.Marks.{Marked, is_left}
 use Rattle.cluster_record.specs.declared.entries.Entry.{Entry}
 use Rattle.cluster_record.specs.RecordState.{entry_of, identity_of}
-use Rattle.ckpt_machine.specs.Laws.{OnlyWhatWasAsked}
+use Rattle.ckpt_machine.specs.Laws.{OfEachRun}
 use Rattle.ckpt_machine.specs.Machine.{Machine, Effect, Applied, Staged, ReplicaState, Snapshot}
 use Rattle.ckpt_machine.specs.Runs.{last, IsRun}
 use Rattle.ckpt_machine.specs.Shape.{IsCompleteOn}
 use Rattle.ckpt_machine.specs.Propagation.{replica_from}
 use Rattle.ckpt_machine.specs.Steps.{opened_state, having_taken, committed_slot, next_element_written, marks_ended, with_lead, with_marks, effect_of, staged_moment}
-use Rattle.ckpt_machine.specs.WasAsked.{WasAsked, EffectWasAsked, EachWasAsked, HasOnlyAsked}
+use Rattle.ckpt_machine.specs.WasAsked.{WasAsked, EffectWasAsked, EachWasAsked, HasOnlyAsked, OnlyAskedThroughout}
 use Rattle.ckpt_machine.proofs.Copying.{IsOfSource}
 use Rattle.ckpt_machine.proofs.EachReplica.{IsKept, Each, run_each}
 use Rattle.ckpt_machine.proofs.EntryLists.{find_key-key}
@@ -108,7 +108,7 @@ module _ (log : List Label) where
   }
 
 -- THE LAW: after each front of a run
-pub only_asked : OnlyWhatWasAsked
+pub only_asked : OfEachRun OnlyAskedThroughout
 only_asked log run front back is = record { replicas = replicas; snapshots = snapshots }
   where
     before : IsRun front

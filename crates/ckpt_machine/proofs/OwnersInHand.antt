@@ -5,9 +5,9 @@ use Rattle.ckpt_types.specs.declared.identities.CallId.{CallId}
 use Rattle.cluster_record.specs.declared.entries.Entry.{Entry}
 use Rattle.cluster_record.specs.RecordState.{entry_of}
 use Rattle.ckpt_machine.specs.Invariant.{IsMaker, IsGoodIn, Invariant}
-use Rattle.ckpt_machine.specs.Laws.{OwnersAreInHand}
+use Rattle.ckpt_machine.specs.Laws.{OfEachRun}
 use Rattle.ckpt_machine.specs.Machine.{Machine, who}
-use Rattle.ckpt_machine.specs.Owners.{IsCallInHand, OwnersInHand}
+use Rattle.ckpt_machine.specs.Owners.{IsCallInHand, OwnersInHand, OwnersInHandThroughout}
 use Rattle.ckpt_machine.specs.Runs.{last}
 use Rattle.ckpt_machine.specs.Shape.{Shape, IsOwner, IsMarker, IsHolder}
 use Rattle.ckpt_machine.proofs.Histories.{HasHistory, slot_owned, marks_owned, run_history}
@@ -55,5 +55,5 @@ module _ (m : Machine) (inv : Invariant m) (history : HasHistory m) where
   }
 
 -- THE LAW: after each front of a run
-pub owners_in_hand : OwnersAreInHand
+pub owners_in_hand : OfEachRun OwnersInHandThroughout
 owners_in_hand log run front back is = let (inv, history) = run_history front (run_front log front back is run) in in_hand (last front) inv history

@@ -20,7 +20,7 @@ use Rattle.ckpt_machine.specs.Guards.{IsMadeBy, CommitRow, Row, Allowed}
 use Rattle.ckpt_machine.specs.Invariant.{IsGoodIn, Invariant}
 use Rattle.ckpt_machine.specs.Machine.{Machine, ReplicaState, Snapshot, CallState, who}
 use Rattle.ckpt_machine.specs.Owned.{OwnsNothing, HasNoEffect, HasNothing}
-use Rattle.ckpt_machine.specs.Refusals.{IsRefused, IsRefusal, LeavesAll, UndoesOwn, LeavesBy, end_kept, unmade, unmade_swept, Refuses, call_told}
+use Rattle.ckpt_machine.specs.Refusals.{IsRefused, IsRefusal, LeavesAll, UndoesOwn, LeavesBy, end_kept, unmade, unmade_swept, Refuses, call_told, EachRefusalLeaves}
 use Rattle.ckpt_machine.specs.Runs.{last}
 use Rattle.ckpt_machine.specs.Shape.{IsCompleteOn, IsSpread}
 use Rattle.ckpt_machine.specs.Steps.{Told, IsDone, IsDue, due, after_beginning, call_begun, changed, kept_behind, step_of, after, replica_under, replicas_under, reservation_under, snapshot_under, opened_state}
@@ -32,7 +32,7 @@ use Rattle.ckpt_machine.proofs.Histories.{HasHistory, commits_by, commit, gone, 
 use Rattle.ckpt_machine.proofs.Lawful.{lawful}
 use Rattle.ckpt_machine.proofs.EntryLists.{find_key-without, AllStay-filter, swept-all}
 use Rattle.ckpt_machine.proofs.Refusing.{at_node, commit_ends, left_none, none_begun, refusal_leaves}
-use Rattle.ckpt_machine.specs.Laws.{RefusedHasNothing}
+use Rattle.ckpt_machine.specs.Laws.{OfEachRun}
 use Rattle.ckpt_machine.proofs.Runs.{last-push, run_before, run_front}
 use Rattle.call_dispatch.specs.PendingCalls.{PendingCalls}
 use Rattle.ckpt_types.specs.declared.identities.ActorName.{ActorName}
@@ -288,7 +288,7 @@ front_with : (log front back : List Label) (l : Label) → log ≡ front ++ l �
 front_with log front back l is = is ∙ sym (append_assoc front (l ∷ []) back)
 
 -- THE LAW: a call that ends with a refusal has nothing after it, and leaves all else as it was
-pub run_leaves : RefusedHasNothing
+pub run_leaves : OfEachRun EachRefusalLeaves
 run_leaves log run front back l is refused =
     let (before, allowed, due) = run_before _ front l (run_front log (front ++ l ∷ []) back (front_with log front back l is) run) in
     let (inv, history) = run_history front before in

@@ -32,14 +32,14 @@ use Rattle.ckpt_machine.specs.Acknowledged.{HasBegun}
 use Rattle.ckpt_machine.specs.Driving.{Kept}
 use Rattle.ckpt_machine.specs.Guards.{PullOk, PullHeld, InstallOk, SyncDone, OnLed, LookDone, LookRow, IsOnOwn, Row, Allowed, serves, all_served, steps_with}
 use Rattle.ckpt_machine.specs.Invariant.{Invariant}
-use Rattle.ckpt_machine.specs.Laws.{SynchronisationsTell}
+use Rattle.ckpt_machine.specs.Laws.{OfEachRun}
 use Rattle.ckpt_machine.specs.Machine.{Machine, Effect, ReplicaState, Snapshot, CallState, empty_cluster, who}
 use Rattle.ckpt_machine.specs.Propagation.{copied}
 use Rattle.ckpt_machine.specs.Replays.{IsPrefix}
 use Rattle.ckpt_machine.specs.Runs.{last, IsRun}
 use Rattle.ckpt_machine.specs.Shape.{IsCompleteOn}
 use Rattle.ckpt_machine.specs.Steps.{Told, IsDue, due, change_replica, with_installed, changed, counted_at, kept_behind, stepped, step_of, call_begun, after}
-use Rattle.ckpt_machine.specs.Synchronized.{Synchronizes, IsPullOf, HaveFirst, IsSynchronized}
+use Rattle.ckpt_machine.specs.Synchronized.{Synchronizes, IsPullOf, HaveFirst, IsSynchronized, SynchronizedTell}
 use Rattle.ckpt_machine.proofs.BegunBefore.{begun_longer, all_began}
 use Rattle.ckpt_machine.proofs.BegunOnce.{step_begun}
 use Rattle.ckpt_machine.specs.BeginRows.{BeginRow}
@@ -378,7 +378,7 @@ tells log run (labels.Stepped d opwords.SyncAsync verb j q reply (Some (Done tol
 tells log run l allowed due call answer is = absurd is
 
 -- THE LAW: what a synchronisation that was answered OK promises
-pub synchronisations_tell : SynchronisationsTell
+pub synchronisations_tell : OfEachRun SynchronizedTell
 synchronisations_tell log run front back l call answer is answers =
     let (before, allowed, due) = run_before empty_cluster front l (run_front log (front ++ l ∷ []) back (is ∙ sym (append_assoc front (l ∷ []) back)) run) in
     tells front before l allowed due call answer answers

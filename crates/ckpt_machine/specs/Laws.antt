@@ -9,8 +9,6 @@ use Rattle.run_labels.specs.declared.labels.Label.TheVariants as labels
 use Rattle.ckpt_types.specs.declared.words.OpWord.{OpWord}
 use Rattle.ckpt_types.specs.OpWord.{stepped_as}
 use Rattle.cluster_record.specs.StepDone.{done_of, counting}
-use Rattle.ckpt_machine.specs.Acknowledged.{AcknowledgedStay}
-use Rattle.ckpt_machine.specs.AllOrNone.{IsAllOrNoneThroughout}
 use Rattle.ckpt_machine.specs.Invariant.{Invariant}
 use Rattle.ckpt_machine.specs.Driving.{driver_taken}
 use Rattle.ckpt_machine.specs.Endings.{EndsKnown}
@@ -18,13 +16,8 @@ use Rattle.ckpt_machine.specs.Facts.{Facts}
 use Rattle.ckpt_machine.specs.Guards.{Allowed}
 use Rattle.ckpt_machine.specs.Left.{steps_left}
 use Rattle.ckpt_machine.specs.Machine.{Machine, CallState, empty_cluster}
-use Rattle.ckpt_machine.specs.Replays.{EffectsTellThroughout}
-use Rattle.ckpt_machine.specs.Refusals.{IsRefusal, LeavesBy, EachRefusalLeaves, unmade_swept}
-use Rattle.ckpt_machine.specs.Synchronized.{SynchronizedTell}
-use Rattle.ckpt_machine.specs.Owners.{OwnersInHandThroughout}
-use Rattle.ckpt_machine.specs.ActivesSet.{ActivesAreSet}
-use Rattle.ckpt_machine.specs.Causes.{EachEndIsAllowed}
-use Rattle.ckpt_machine.specs.WasAsked.{OnlyAskedThroughout}
+use Rattle.ckpt_machine.specs.Promises.{KeepsPromises}
+use Rattle.ckpt_machine.specs.Refusals.{IsRefusal, LeavesBy, unmade_swept}
 use Rattle.ckpt_machine.specs.Runs.{last, IsRun, Counts}
 use Rattle.ckpt_machine.specs.Steps.{IsDue, after, driver_of, counted_at}
 
@@ -57,42 +50,14 @@ BringsNearer = (m : Machine) (call : CallId) (op : OpWord) (verb : Verb) (k r : 
 abbrev pub RefusalsLeave : Type 0
 RefusalsLeave = (m : Machine) (l : Label) → Allowed m l → IsRefusal l → LeavesBy unmade_swept l m (after m l)
 
--- in a run it does so, where nothing but the making is undone, and the call has nothing then: no slot, no marks, no making and no hold, and no replica has an effect of it
-abbrev pub RefusedHasNothing : Type 0
-RefusedHasNothing = (log : List Label) → IsRun log → EachRefusalLeaves log
-
 -- a call that is allowed to end was answered OK, was refused by a row that names its cause, or lacked the memory that it takes
 abbrev pub EndsAsItMay : Type 0
 EndsAsItMay = (m : Machine) (l : Label) → Allowed m l → EndsKnown l
 
--- at every time of a run, an update on all replicas is on all complete replicas of its checkpoint, or on none
-abbrev pub IsOnAllOrNone : Type 0
-IsOnAllOrNone = (log : List Label) → IsRun log → IsAllOrNoneThroughout log
+-- a claim about a log holds of each run
+abbrev pub OfEachRun : (List Label → Type 0) → Type 0
+OfEachRun P = (log : List Label) → IsRun log → P log
 
--- what was answered OK is on each complete replica of its checkpoint from then on, or where updates go to the active alone, on the active's
-abbrev pub AcknowledgedStays : Type 0
-AcknowledgedStays = (log : List Label) → IsRun log → AcknowledgedStay log
-
--- at every time of a run, each replica is the replay of its effects, of each call one at most, and where updates go to the active alone, each that follows the active has only what this has taken first
-abbrev pub RunEffectsTell : Type 0
-RunEffectsTell = (log : List Label) → IsRun log → EffectsTellThroughout log
-
--- what was answered OK to a synchronisation is so: each complete replica has the checkpoint's generation, and first what the active had when it was pulled
-abbrev pub SynchronisationsTell : Type 0
-SynchronisationsTell = (log : List Label) → IsRun log → SynchronizedTell log
-
--- at every time of a run, each effect of each replica, what is staged and what is marked there is of a call that began with this very update, of this checkpoint
-abbrev pub OnlyWhatWasAsked : Type 0
-OnlyWhatWasAsked = (log : List Label) → IsRun log → OnlyAskedThroughout log
-
--- at every time of a run, who owns a slot, whose marks stand, and who makes or holds a checkpoint is in hand
-abbrev pub OwnersAreInHand : Type 0
-OwnersAreInHand = (log : List Label) → IsRun log → OwnersInHandThroughout log
-
--- where the setting of an active was answered OK, the node of its client is the active, with the effects that the old active had when it was held
-abbrev pub SettingsOfActives : Type 0
-SettingsOfActives = (log : List Label) → IsRun log → ActivesAreSet log
-
--- each label of a run that ends a call is allowed where it comes
-abbrev pub EachEndHasItsCause : Type 0
-EachEndHasItsCause = (log : List Label) → IsRun log → EachEndIsAllowed log
+-- each run keeps all that a run promises
+abbrev pub RunsKeepPromises : Type 0
+RunsKeepPromises = OfEachRun KeepsPromises

@@ -30,4 +30,5 @@ pub mod WasAsked
 pub mod Owners
 pub mod ActivesSet
 pub mod Causes
+pub mod Promises
 pub mod Laws

@@ -5,25 +5,6 @@ use Rattle.ckpt_types.specs.Limits.{script_bytes_max}
 use Rattle.run_labels.specs.declared.labels.Label.{Label}
 use Rattle.script_words.specs.declared.reason.Reason.TheVariants.{Length}
 use Rattle.script_lang.specs.Grammar.{script_of, text_lines, start, take_lines, whole_script, fault, if_no_fault}
-use Rattle.ckpt_machine.specs.Acknowledged.{AcknowledgedStay}
-use Rattle.ckpt_machine.specs.AllOrNone.{IsAllOrNoneThroughout}
-use Rattle.ckpt_machine.specs.Refusals.{EachRefusalLeaves}
-use Rattle.ckpt_machine.specs.Replays.{EffectsTellThroughout}
-use Rattle.ckpt_machine.specs.Synchronized.{SynchronizedTell}
-use Rattle.ckpt_machine.specs.WasAsked.{OnlyAskedThroughout}
-use Rattle.ckpt_machine.specs.Owners.{OwnersInHandThroughout}
-use Rattle.ckpt_machine.specs.ActivesSet.{ActivesAreSet}
-use Rattle.ckpt_machine.specs.Causes.{EachEndIsAllowed}
-use Rattle.ckpt_machine.specs.Runs.{IsRun}
-use Rattle.ckpt_machine.proofs.Acknowledged.{acknowledged_stay}
-use Rattle.ckpt_machine.proofs.AllOrNone.{on_all_or_none}
-use Rattle.ckpt_machine.proofs.EffectsTell.{effects_tell}
-use Rattle.ckpt_machine.proofs.Synchronized.{synchronisations_tell}
-use Rattle.ckpt_machine.proofs.OnlyAsked.{only_asked}
-use Rattle.ckpt_machine.proofs.OwnersInHand.{owners_in_hand}
-use Rattle.ckpt_machine.proofs.ActivesSet.{actives_are_set}
-use Rattle.ckpt_machine.proofs.Causes.{ends_allowed}
-use Rattle.ckpt_machine.proofs.RefusedRuns.{run_leaves}
 use Rattle.world_core.specs.declared.world.World.{World}
 use Rattle.world_core.specs.Runs.{IsNew, IsRunTo}
 use Rattle.world_core.proofs.New.{new_run}
@@ -49,31 +30,3 @@ read_too_long Q (Some input) (Some rest) bytes read = λ is_script.
     let size : length input ≡ length bytes + length rest = ap length read.0 ∙ length-append bytes rest in
     let is_none : is_ok (script_of input) ≡ false = too_long input (omega (arith, size, read.1)) in
     absurd (cc)
-
--- in a log without labels nothing is refused, no checkpoint is there, nothing was answered, and no replica is there
-pub none_refused : (log : List Label) → log ≡ [] → EachRefusalLeaves log
-none_refused log none = run_leaves log (subst IsRun (sym none) tt)
-
-pub all_of_none : (log : List Label) → log ≡ [] → IsAllOrNoneThroughout log
-all_of_none log none = on_all_or_none log (subst IsRun (sym none) tt)
-
-pub stays_of_none : (log : List Label) → log ≡ [] → AcknowledgedStay log
-stays_of_none log none = acknowledged_stay log (subst IsRun (sym none) tt)
-
-pub tell_of_none : (log : List Label) → log ≡ [] → EffectsTellThroughout log
-tell_of_none log none = effects_tell log (subst IsRun (sym none) tt)
-
-pub synchronized_of_none : (log : List Label) → log ≡ [] → SynchronizedTell log
-synchronized_of_none log none = synchronisations_tell log (subst IsRun (sym none) tt)
-
-pub asked_of_none : (log : List Label) → log ≡ [] → OnlyAskedThroughout log
-asked_of_none log none = only_asked log (subst IsRun (sym none) tt)
-
-pub owners_of_none : (log : List Label) → log ≡ [] → OwnersInHandThroughout log
-owners_of_none log none = owners_in_hand log (subst IsRun (sym none) tt)
-
-pub actives_of_none : (log : List Label) → log ≡ [] → ActivesAreSet log
-actives_of_none log none = actives_are_set log (subst IsRun (sym none) tt)
-
-pub causes_of_none : (log : List Label) → log ≡ [] → EachEndIsAllowed log
-causes_of_none log none = ends_allowed log (subst IsRun (sym none) tt)

@@ -105,7 +105,6 @@ fn wants_steps(words: &[String]) -> bool
 }
 
 /// Reads a script from the source, plays it on the cluster, and writes the lines of its log to the sink.
-#[tactic(auto, using(crate::proofs::Played::nothing_ran))]
 pub fn ckpt_run<R: Threads + Wait + Sync, S: Source, K: Sink, G: Gate>(
     rt: &R,
     alloc: Global,
@@ -122,35 +121,15 @@ pub fn ckpt_run<R: Threads + Wait + Sync, S: Source, K: Sink, G: Gate>(
     // Whatever the answer, the log is a run of the checkpoint machine, and the world shows its last state.
     ensures run { IsRunTo world.new log.new.labels }
 
-    // Each refusal leaves all but the making of its own call as it was, and its call has nothing then; and after each
-    // front of the log an update of all replicas is on all complete ones of its checkpoint or on none.
+    // What a run promises, each told in full at its field of KeepsPromises, in ckpt_machine.
     ensures refused { EachRefusalLeaves log.new.labels }
     ensures all_or_none { IsAllOrNoneThroughout log.new.labels }
-
-    // What was answered OK is on each complete replica from then on, or where updates go to the active alone, on the
-    // active's.
     ensures acknowledged { AcknowledgedStay log.new.labels }
-
-    // Each replica is the replay of the updates that it has taken, each once; where they go to the active alone, of the
-    // active's first ones, if it follows the active.
     ensures effects { EffectsTellThroughout log.new.labels }
-
-    // Behind a synchronisation that was answered OK each complete replica has the checkpoint's generation, and first what
-    // the active had when it was pulled.
     ensures synchronized { SynchronizedTell log.new.labels }
-
-    // Only what was asked for is done: each effect of each replica, and what is staged or marked there, is of a call that
-    // began in the log with this very update, of this very checkpoint.
     ensures asked { OnlyAskedThroughout log.new.labels }
-
-    // Slots, marks, makings and holds are of calls in hand alone, so a call that has ended leaves none.
     ensures owners { OwnersInHandThroughout log.new.labels }
-
-    // Behind the setting of an active that was answered OK, the client's node is the active, and has what the one before it
-    // had.
     ensures actives { ActivesAreSet log.new.labels }
-
-    // Each end of a call is allowed where it comes, so its cause is there.
     ensures causes { EachEndIsAllowed log.new.labels }
 
     // The log follows the script that was read, all of it or a front; or nothing was played.
@@ -169,6 +148,36 @@ pub fn ckpt_run<R: Threads + Wait + Sync, S: Source, K: Sink, G: Gate>(
     ensures write { result ≡ Status.WriteFault → Rose (K.faults sink.old) (K.faults sink.new) }
 
     // A command, a script and no fault: it ran, or memory ran out.
+    ensures complete { IsCommand words.now → IfSome (S.left source.old) (λ input. IsOk (script_of input) →
+        (Rose (S.faults source.old) (S.faults source.new) → ⊥) → (Rose (K.faults sink.old) (K.faults sink.new) → ⊥) → RanOrNoMemory result) }
+{
+    run_command(rt, alloc, words, source, sink, gate, log, world)
+}
+
+// All of the run. Each way out tells that the log is one; what a run promises is read off that, once, by its caller.
+#[tactic(auto, using(crate::proofs::Played::nothing_ran))]
+fn run_command<R: Threads + Wait + Sync, S: Source, K: Sink, G: Gate>(
+    rt: &R,
+    alloc: Global,
+    words: &[String],
+    source: &mut S,
+    sink: &mut K,
+    gate: &G,
+    log: &mut RunLog,
+    world: &mut World,
+) -> Status
+    requires log { log.old.labels ≡ [] }
+    requires world { IsNew world.old }
+    ensures run { IsRunTo world.new log.new.labels }
+    ensures played { HasPlayed result (S.left source.old) (S.left source.new) log.new.labels }
+    ensures kept { PlayedNothing result → (sink.new ≡ sink.old) × (world.new ≡ world.old) }
+    ensures written { result ≡ Status.Ran → Appends (K.held sink.old) (K.held sink.new) (printed (asks_steps words.now) log.new.labels) }
+    ensures part { WritesPart (K.held sink.old) (K.held sink.new) (printed (asks_steps words.now) log.new.labels) }
+    ensures usage { (result ≡ Status.Usage → IsCommand words.now → ⊥) × ((IsCommand words.now → ⊥) → result ≡ Status.Usage) }
+    ensures unread { result ≡ Status.Usage → source.new ≡ source.old }
+    ensures script { (fault : ScriptFault) → result ≡ Status.Script fault → HasFault (S.left source.old) (S.left source.new) fault }
+    ensures read { result ≡ Status.ReadFault → Rose (S.faults source.old) (S.faults source.new) }
+    ensures write { result ≡ Status.WriteFault → Rose (K.faults sink.old) (K.faults sink.new) }
     ensures complete { IsCommand words.now → IfSome (S.left source.old) (λ input. IsOk (script_of input) →
         (Rose (S.faults source.old) (S.faults source.new) → ⊥) → (Rose (K.faults sink.old) (K.faults sink.new) → ⊥) → RanOrNoMemory result) }
 {

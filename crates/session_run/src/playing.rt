@@ -2,15 +2,7 @@
 ghost use Rattle.std.specs.Prelude.{◌≡◌, ◌+◌, ◌-◌, ◌*◌, ◌<◌, ◌≤◌, ◌^◌, [], length, OnOk};
 ghost use Rattle.ckpt_types.specs.Limits.{built_line_labels, played_lines_max};
 ghost use Rattle.script_lang.specs.Grammar.{moment_behind};
-ghost use Rattle.ckpt_machine.specs.Acknowledged.{AcknowledgedStay};
-ghost use Rattle.ckpt_machine.specs.Replays.{EffectsTellThroughout};
-ghost use Rattle.ckpt_machine.specs.Synchronized.{SynchronizedTell};
-ghost use Rattle.ckpt_machine.specs.WasAsked.{OnlyAskedThroughout};
-ghost use Rattle.ckpt_machine.specs.Owners.{OwnersInHandThroughout};
-ghost use Rattle.ckpt_machine.specs.ActivesSet.{ActivesAreSet};
-ghost use Rattle.ckpt_machine.specs.Causes.{EachEndIsAllowed};
-ghost use Rattle.ckpt_machine.specs.AllOrNone.{IsAllOrNoneThroughout};
-ghost use Rattle.ckpt_machine.specs.Refusals.{EachRefusalLeaves};
+ghost use Rattle.ckpt_machine.specs.Promises.{KeepsPromises};
 ghost use Rattle.ckpt_machine.specs.Runs.{last};
 ghost use Rattle.world_core.specs.Runs.{IsNew, IsRunTo};
 ghost use Rattle.session_run.specs.Follows.{AnswersLine, Follows, FollowsFront};
@@ -48,36 +40,8 @@ pub fn session<R: Threads + Wait + Sync, G: Gate>(
     ensures follows { OnOk result (Follows script.now log.new.labels) }
     ensures front { FollowsFront script.now log.new.labels }
 
-    // Each refusal leaves all but the making of its own call as it was; and after each front of the log an update of
-    // all replicas is on all of its checkpoint or on none.
-    ensures refused { EachRefusalLeaves log.new.labels }
-    ensures all_or_none { IsAllOrNoneThroughout log.new.labels }
-
-    // What was answered OK is on each complete replica from then on, or where updates go to the active alone, on the
-    // active's.
-    ensures acknowledged { AcknowledgedStay log.new.labels }
-
-    // Each replica is the replay of the updates that it has taken, each once; where they go to the active alone, of the
-    // active's first ones, if it follows the active.
-    ensures effects { EffectsTellThroughout log.new.labels }
-
-    // Behind a synchronisation that was answered OK each complete replica has the checkpoint's generation, and first what
-    // the active had when it was pulled.
-    ensures synchronized { SynchronizedTell log.new.labels }
-
-    // Only what was asked for is done: each effect of each replica, and what is staged or marked there, is of a call that
-    // began in the log with this very update, of this very checkpoint.
-    ensures asked { OnlyAskedThroughout log.new.labels }
-
-    // Slots, marks, makings and holds are of calls in hand alone, so a call that has ended leaves none.
-    ensures owners { OwnersInHandThroughout log.new.labels }
-
-    // Behind the setting of an active that was answered OK, the client's node is the active, and has what the one before it
-    // had.
-    ensures actives { ActivesAreSet log.new.labels }
-
-    // Each end of a call is allowed where it comes, so its cause is there.
-    ensures causes { EachEndIsAllowed log.new.labels }
+    // The log is a run, so it keeps all that a run promises.
+    ensures promises { KeepsPromises log.new.labels }
 {
     // Where room is refused at once, it is asked for again as it is needed.
     let _ = log.reserve(LABELS_A_LINE * script.as_slice().len());

@@ -4,15 +4,7 @@ ghost use Rattle.world_core.specs.Shows.{IsShown, HasNumbersLeft};
 ghost use Rattle.world_core.specs.Parts.{record_in, call_in_hand};
 ghost use Rattle.world_core.specs.Happenings.{Adds, ComesNow, IsAnswered};
 ghost use Rattle.world_core.specs.Runs.{IsNew, IsRunTo, MayHappen, Happens};
-ghost use Rattle.ckpt_machine.specs.Acknowledged.{AcknowledgedStay};
-ghost use Rattle.ckpt_machine.specs.Replays.{EffectsTellThroughout};
-ghost use Rattle.ckpt_machine.specs.Synchronized.{SynchronizedTell};
-ghost use Rattle.ckpt_machine.specs.WasAsked.{OnlyAskedThroughout};
-ghost use Rattle.ckpt_machine.specs.Owners.{OwnersInHandThroughout};
-ghost use Rattle.ckpt_machine.specs.ActivesSet.{ActivesAreSet};
-ghost use Rattle.ckpt_machine.specs.Causes.{EachEndIsAllowed};
-ghost use Rattle.ckpt_machine.specs.AllOrNone.{IsAllOrNoneThroughout};
-ghost use Rattle.ckpt_machine.specs.Refusals.{EachRefusalLeaves};
+ghost use Rattle.ckpt_machine.specs.Promises.{KeepsPromises};
 ghost use Rattle.world_core.specs.StepsLeft.{ComesNearer};
 
 use crate::hands::Hands;
@@ -95,42 +87,24 @@ impl World {
         requires { MayHappen self.old log.old.labels event }
         ensures run { IsRunTo self.new log.new.labels }
         ensures happens { OnOk result (Happens event self.old self.new log.old.labels log.new.labels) }
-
-        // A call that is refused, or is refused its own memory, leaves all as it was but a making of its own, which is
-        // undone; it owns nothing then, and no replica has an effect of it.
-        ensures refused { EachRefusalLeaves log.new.labels }
-
-        // Where updates are on all replicas, one is on all of its checkpoint or on none, after each front of the log.
-        ensures all_or_none { IsAllOrNoneThroughout log.new.labels }
-
-        // What was answered OK is on each complete replica from then on, or where updates go to the active alone, on
-        // the active's.
-        ensures acknowledged { AcknowledgedStay log.new.labels }
-
-        // Each replica is the replay of the updates that it has taken, each once; where they go to the active alone, of the
-        // active's first ones, if it follows the active.
-        ensures effects { EffectsTellThroughout log.new.labels }
-
-        // Behind a synchronisation that was answered OK each complete replica has the checkpoint's generation, and first what
-        // the active had when it was pulled.
-        ensures synchronized { SynchronizedTell log.new.labels }
-
-        // Only what was asked for is done: each effect of each replica, and what is staged or marked there, is of a call that
-        // began in the log with this very update, of this very checkpoint.
-        ensures asked { OnlyAskedThroughout log.new.labels }
-
-        // Slots, marks, makings and holds are of calls in hand alone, so a call that has ended leaves none.
-        ensures owners { OwnersInHandThroughout log.new.labels }
-
-        // Behind the setting of an active that was answered OK, the client's node is the active, and has what the one before it
-        // had.
-        ensures actives { ActivesAreSet log.new.labels }
-
-        // Each end of a call is allowed where it comes, so its cause is there.
-        ensures causes { EachEndIsAllowed log.new.labels }
         ensures err { OnErr result ((self.new ≡ self.old) × (log.new.labels ≡ log.old.labels)) }
 
+        // The log is a run, so it keeps all that a run promises.
+        ensures promises { KeepsPromises log.new.labels }
+
         // For whoever steps a call to its end.
+        ensures nearer { OnOk result (ComesNearer event self.old self.new) }
+    {
+        self.run_on(alloc, event, log)
+    }
+
+    // The run goes on by one label, which answers the event, or stays as it is.
+    #[inline(always)]
+    fn run_on(&mut self, alloc: Global, event: Event, log: &mut RunLog) -> Result<(), AllocError>
+        requires { MayHappen self.old log.old.labels event }
+        ensures run { IsRunTo self.new log.new.labels }
+        ensures happens { OnOk result (Happens event self.old self.new log.old.labels log.new.labels) }
+        ensures err { OnErr result ((self.new ≡ self.old) × (log.new.labels ≡ log.old.labels)) }
         ensures nearer { OnOk result (ComesNearer event self.old self.new) }
     {
         log.reserve(1)?;
