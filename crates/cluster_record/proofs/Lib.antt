@@ -13,3 +13,4 @@ pub mod EntryLaws
 pub mod ClientLaws
 pub mod NoneAbove
 pub mod Rows
+pub mod RecordRows
