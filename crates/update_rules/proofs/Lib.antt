@@ -4,3 +4,4 @@ pub mod Singles
 pub mod Sizes
 pub mod ToldLemmas
 pub mod WriteLemmas
+pub mod RuleRows
