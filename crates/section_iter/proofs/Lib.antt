@@ -1,3 +1,4 @@
 pub mod ChosenLemmas
 pub mod GivenLemmas
 pub mod IdsLemmas
+pub mod IterationRows
