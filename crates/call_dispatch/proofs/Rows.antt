@@ -147,3 +147,35 @@ all_dispatched = refl
 -- a callback tells the kind, the invocation and the outcome
 tells_of_open : callback_of (ended_call (Some 9) opened (open_of 4)) ≡ record { kind = Open 1; invocation = 4; outcome = opened }
 tells_of_open = refl
+
+-- ---- dispatches one behind another
+
+-- the call 6 is dispatched, and then the call 5 ends, behind the call 4
+abbrev then_5_ends : PendingCalls
+then_5_ends = ended_in (call 5) None synchronised (dispatched (given_number 1 two_ended) two_ended)
+
+the_others_in_the_order_of_their_ends : given_by 2 then_5_ends ≡ ended_call (Some 9) opened (open_of 4) ∷ ended_call None synchronised (sync_of 5 2) ∷ []
+the_others_in_the_order_of_their_ends = refl
+
+counts_the_others : given_answer 2 then_5_ends ≡ Ok (record { given = 2; left = 0 })
+counts_the_others = refl
+
+none_twice : given_answer 2 (dispatched (given_number 2 then_5_ends) then_5_ends) ≡ Ok (record { given = 0; left = 0 })
+none_twice = refl
+
+-- a call that has ended keeps its place till it is dispatched
+abbrev one_of_16_ended : PendingCalls
+one_of_16_ended = ended_in (call 7) (Some 1) opened (with_begun (open_of 7) (alike 15))
+
+ended_keeps_its_place : begun_answer one_of_16_ended ≡ Err (record { count = 16 })
+ended_keeps_its_place = refl
+
+its_callback_leaves_a_place : given_answer 1 one_of_16_ended ≡ Ok (record { given = 1; left = 0 })
+its_callback_leaves_a_place = refl
+
+then_one_may_begin : begun_answer (dispatched 1 one_of_16_ended) ≡ Ok tt
+then_one_may_begin = refl
+
+-- the synchronisation over the handle 5 goes, and then the open by its name
+what_was_forgotten_is_not_given : given_answer 2 (forgotten (call 4) (forgotten_over 5 two_ended)) ≡ Ok (record { given = 0; left = 0 })
+what_was_forgotten_is_not_given = refl

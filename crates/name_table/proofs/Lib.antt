@@ -1,2 +1,3 @@
 pub mod MoveLemmas
 pub mod TableLemmas
+pub mod NameRows
