@@ -8,3 +8,5 @@ pub mod ListedLemmas
 pub mod NumberedLaws
 pub mod RisingLaws
 pub mod TakenHandles
+pub mod HandleRows
+pub mod IterationRows
