@@ -9,3 +9,4 @@ pub mod Placing
 pub mod Presence
 pub mod Pushing
 pub mod Rows
+mod TypeRows

@@ -1,3 +1,5 @@
 mod Decimals
 mod Encoded
 pub mod EachText
+mod LineRows
+mod CallbackRows
