@@ -4,7 +4,7 @@ ghost use Rattle.ckpt_types.specs.AisError.{code_of, error_text};
 
 /// A code of the Application Interface Specification, as a call answers it. No other code of the
 /// standard is answered.
-#[derive(Clone, Copy, Debug, PartialEq, Eq, Hash)]
+#[derive(Clone, Copy, Debug, PartialEq, Eq)]
 pub enum AisError {
     /// The call was done.
     Ok,

@@ -6,7 +6,7 @@ use crate::attributes::has_flag;
 use crate::limits::{CHECKPOINT_CREATE, CHECKPOINT_READ, CHECKPOINT_WRITE, OPEN_FLAGS_ALL};
 
 /// What a checkpoint is opened for.
-#[derive(Clone, Copy, Debug, PartialEq, Eq, Hash)]
+#[derive(Clone, Copy, Debug, PartialEq, Eq)]
 pub struct OpenFlags {
     /// The handle may read.
     pub read: bool,

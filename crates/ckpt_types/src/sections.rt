@@ -6,7 +6,7 @@ use crate::identities::Moment;
 use crate::section_id::SectionId;
 
 /// Whether a section has what was written into it.
-#[derive(Clone, Copy, Debug, PartialEq, Eq, Hash)]
+#[derive(Clone, Copy, Debug, PartialEq, Eq)]
 pub enum SectionState {
     /// It has what was written.
     Valid = 1,
@@ -15,7 +15,7 @@ pub enum SectionState {
 }
 
 /// Which sections an iteration goes over.
-#[derive(Clone, Copy, Debug, PartialEq, Eq, Hash)]
+#[derive(Clone, Copy, Debug, PartialEq, Eq)]
 pub struct Choice {
     /// One of the five choices; others choose nothing.
     pub chosen: u32,
