@@ -6,3 +6,4 @@ pub mod Reading
 pub mod Expiring
 pub mod KeyLemmas
 pub mod SummaryLemmas
+pub mod StoreRows
