@@ -1,3 +1,4 @@
+pub mod Computing
 mod Ends
 pub mod Fits
 pub mod Numbers
@@ -6,3 +7,4 @@ pub mod Places
 pub mod Plain
 pub mod Said
 mod Spelled
+mod WordRows
