@@ -8,6 +8,7 @@ mod Marking
 mod Plain
 mod Rows
 mod Saying
+mod ScriptRows
 mod Steps
 mod Texts
 mod Told
