@@ -2,7 +2,7 @@
 use ckpt_types::{CallId, CkptId, Moment};
 
 /// A node's part of a step of the record.
-#[derive(Clone, Copy, Debug)]
+#[derive(Clone, Copy)]
 pub enum NodeChange {
     /// A replica is added, with the opening sections and this generation.
     Add(CkptId, u64),

@@ -2,7 +2,7 @@
 use ckpt_types::{Apart, Callback, CheckpointDescriptor, Pieces, SectionDescriptor, Vector};
 
 /// The details of an answer, which are told beside the outcome of the call. Most come beside the reply that ends it.
-#[derive(Debug, Drop)]
+#[derive(Drop)]
 pub enum Details {
     /// Nothing is told beside it.
     Nothing,

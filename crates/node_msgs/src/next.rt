@@ -6,7 +6,7 @@ use crate::steps::Verb;
 use ckpt_types::{CkptId, Moment, NodeId, Outcome};
 
 /// A step of the record of the cluster.
-#[derive(Clone, Copy, Debug)]
+#[derive(Clone, Copy)]
 pub enum RecordStep {
     /// The client becomes live.
     Enter,
@@ -59,7 +59,7 @@ impl RecordStep {
 }
 
 /// What a call does next.
-#[derive(Clone, Copy, Debug)]
+#[derive(Clone, Copy)]
 pub enum Next {
     /// A node serves a request.
     Serve(NodeId, Request),

@@ -5,7 +5,7 @@ use crate::steps::StepReply;
 use ckpt_types::{AisError, Answer, CallId};
 
 /// What a node answers to a request.
-#[derive(Clone, Copy, Debug)]
+#[derive(Clone, Copy)]
 pub enum Reply {
     /// It was done.
     Done(Answer),

@@ -6,7 +6,7 @@ use ckpt_types::{CallId, Choice, CkptId, Moment};
 
 /// What a call asks of one replica. The update of `Stage`, `Apply` and `Mark`, the elements of `Read`, the
 /// iteration of `Iterate` and `Next` and the snapshot of `Pull` and `Install` travel beside it.
-#[derive(Clone, Copy, Debug)]
+#[derive(Clone, Copy)]
 pub enum Request {
     /// Takes all the storage of a replica.
     Reserve(CkptId),

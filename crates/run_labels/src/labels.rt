@@ -29,7 +29,7 @@ pub enum PutReply {
 }
 
 /// One event of a run.
-#[derive(Debug, Drop)]
+#[derive(Drop)]
 pub enum Label {
     /// A call began, and may have ended at once.
     Began {

@@ -6,7 +6,7 @@ use std::alloc::{AllocError, Global};
 use std::marker::Model;
 
 /// The labels of a run, in order, in room that may be taken before.
-#[derive(Debug, Drop)]
+#[derive(Drop)]
 pub struct RunLog {
     items: Vec<Label>,
 }

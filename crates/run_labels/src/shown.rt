@@ -13,7 +13,7 @@ pub enum ShownSlot {
 }
 
 /// A section as a `show` line prints it.
-#[derive(Debug, Drop)]
+#[derive(Drop)]
 pub struct ShownSection {
     /// What it is.
     pub descriptor: SectionDescriptor,
@@ -25,7 +25,7 @@ pub struct ShownSection {
 pub type ShownSections = Vector<ShownSection>;
 
 /// A replica as a `show` line prints it.
-#[derive(Debug, Drop)]
+#[derive(Drop)]
 pub struct ShownReplica {
     /// The node that it is on.
     pub node: NodeId,
