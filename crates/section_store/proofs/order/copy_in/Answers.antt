@@ -1,3 +1,4 @@
+use Rattle.std.proofs.lemmas.Grind.{common_steps}
 use Rattle.std.proofs.Common.{◌≡◌, ◌+◌, ◌<◌, suc, length, take, ap, ◌∙◌, subst, arith}
 use Rattle.std.specs.Prelude.{insert}
 use Rattle.std.proofs.lemmas.Option.{get_or_from_slice_get, slice_get_within}
@@ -30,3 +31,6 @@ loop-place-preserved g c =
       kept_capacity = omega (arith, c.put_in.ensures.kept_capacity, was.kept_capacity);
       spare_capacity = c.put_in.ensures.spare_capacity ∙ was.spare_capacity;
     }
+
+pub returns-clause-sections : goal.returns-clause-sections
+returns-clause-sections g c = grind (arith, common_steps)

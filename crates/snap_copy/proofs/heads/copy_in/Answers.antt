@@ -1,3 +1,4 @@
+use Rattle.std.proofs.lemmas.Grind.{common_steps}
 use Rattle.std.proofs.Common.{◌++◌, ◌∷◌, [], ap, ◌∙◌, sym, arith}
 use Rattle.ckpt_types.specs.Sections.{section_of}
 use Rattle.snap_copy.proofs.TakenLemmas.{take-next, memory_used-next, memory_used-room}
@@ -25,3 +26,6 @@ loop-place-preserved g c =
       bytes_capacity = omega (arith, c.add.ensures.bytes_capacity, was.bytes_capacity);
       heads_capacity = omega (arith, c.add.ensures.heads_capacity, was.heads_capacity);
     }
+
+pub returns-clause-sections : goal.returns-clause-sections
+returns-clause-sections g c = grind (arith, common_steps)

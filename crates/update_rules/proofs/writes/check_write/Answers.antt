@@ -1,4 +1,4 @@
-use Rattle.std.proofs.Common.{FitsSigned, to_z, of_z, w64, sym, arith}
+use Rattle.std.proofs.Common.{FitsSigned, to_z, of_z, w64, sym, arith, rules}
 use Rattle.std.proofs.lemmas.Int.{to_z-of_z}
 use Rattle.std.proofs.lemmas.Result.{err_from_is_err_and}
 use Rattle.ckpt_types.specs.Sections.{present}
@@ -18,3 +18,6 @@ loop-place-preserved g c =
     let t = to_z w64 (of_z w64 c.args.now) in
     let goes_on = write_goes_on c.args.attrs.now t c.args.elements.now c.loop-place.place c.index-elements-place.result (present t (g.S.Sections.sections c.args.sections.now)) c.in_ok-used.used c.loop-place-test.true c.index-elements-place.is c.loop-place.invariant.rest c.in_ok-used.ensures.bytes in
     record { rest = goes_on.0; used = goes_on.1; small = omega (arith, c.in_ok-used.ensures.small) }
+
+pub loop-place-init : goal.loop-place-init
+loop-place-init g c = search rules

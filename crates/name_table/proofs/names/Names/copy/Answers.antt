@@ -1,4 +1,5 @@
-use Rattle.std.proofs.Common.{◌≡◌, ◌∷◌, None, length, ap, sym, subst, ◌∙◌, arith, length-append}
+use Rattle.std.proofs.lemmas.Grind.{common_steps}
+use Rattle.std.proofs.Common.{◌≡◌, ◌∷◌, None, length, ap, sym, subst, ◌∙◌, arith, length-append, rules}
 use Rattle.std.proofs.lemmas.List.{length-map}
 use Rattle.name_table.specs.Kept.{named_ckpt, table_of}
 use Rattle.name_table.specs.Table.{found, EachOnce}
@@ -17,3 +18,9 @@ link-requires-clause-absent c =
     let once = subst EachOnce (sym all) c.self.invariant.each_once in
     let absent : found c.in-Some.name.now c.loop-name.copy ≡ None = absent-before c.loop-name.copy (named_ckpt (c.in-Some.name.now, c.in-Some.id.now)) (table_of c.next.new.self) once in
     ap (λ name. found name c.loop-name.copy) (c.in_ok-from_slice.ensures ∙ c.as_slice.ensures) ∙ absent
+
+pub loop-name-preserved : goal.loop-name-preserved
+loop-name-preserved c = grind (arith, common_steps)
+
+pub loop-name-init : goal.loop-name-init
+loop-name-init c = search rules

@@ -1,4 +1,4 @@
-use Rattle.std.proofs.Common.{◌≡◌, ◌+◌, List, ℕ, Some, drop, ◌∙◌, ap, sym, FitsSigned, w64}
+use Rattle.std.proofs.Common.{◌≡◌, ◌+◌, List, ℕ, Some, drop, ◌∙◌, ap, sym, FitsSigned, w64, rules}
 use Rattle.std.specs.Option.{option_map}
 use Rattle.std.proofs.lemmas.Int.{to_z-of_z}
 use Rattle.ckpt_types.specs.Reads.{given, description}
@@ -33,3 +33,6 @@ returns-clause-kept g c =
     (λ i. later (same i) (c.self.view_is i))
     ∙ kept_after-rest c.args.self.now (given kept c.args.now sections) (drop n all) here
     ∙ ap (λ xs. kept_after c.args.self.now (given xs c.args.now sections)) ids
+
+pub returns-in_default-clause-kept : goal.returns-in_default-clause-kept
+returns-in_default-clause-kept g c = search rules
