@@ -8,7 +8,7 @@ use Rattle.run_labels.specs.declared.labels.Label.{Label}
 use Rattle.run_labels.specs.Lines.{lines_of}
 use Rattle.script_words.specs.declared.reason.Reason.TheVariants.{Length}
 use Rattle.script_lang.specs.declared.faults.ScriptFault.{ScriptFault}
-use Rattle.script_lang.specs.declared.lines.Line.{Line}
+use Rattle.script_lines.specs.declared.lines.Line.{Line}
 use Rattle.script_lang.specs.Grammar.{script_of}
 use Rattle.session_run.specs.Follows.{Follows, FollowsFront}
 use Rattle.ckptsim.specs.Reading.{HasRead, TakesFew}

@@ -9,16 +9,18 @@ use Rattle.ckpt_types.specs.Limits.{script_lines_max, script_bytes_max, script_r
 use Rattle.script_words.specs.declared.reason.Reason.{Reason}
 use Rattle.script_words.specs.declared.reason.Reason.TheVariants as reasons
 use Rattle.script_lang.specs.declared.faults.ScriptFault.{ScriptFault}
-use Rattle.script_lang.specs.declared.lines.Line.{Line}
+use Rattle.script_lines.specs.declared.lines.Line.{Line}
 use Rattle.script_words.specs.Words.{is_graphic, or_else}
-use Rattle.script_lang.specs.Table.{line_in}
-use Rattle.script_lang.specs.Grammar.{text_lines, is_space, is_empty, words_of, line_said, not_built, some_line, reading, fault_of, Progress, start, fault, with_line, if_allowed, after_reading, take_line, take_lines, if_no_fault, whole_script, script_of, block_of}
-use Rattle.script_lang.specs.Spelling.{line_words, line_text, spelling}
+use Rattle.script_lines.specs.Table.{line_in, is_empty, line_said, not_built}
+use Rattle.script_lang.specs.Grammar.{text_lines, is_space, words_of, some_line, reading, fault_of, Progress, start, fault, with_line, if_allowed, after_reading, take_line, take_lines, if_no_fault, whole_script, script_of, block_of}
+use Rattle.script_lines.specs.Spelling.{line_words, line_text}
+use Rattle.script_lang.specs.Spelling.{spelling}
 use Rattle.script_lang.specs.Grammar.{marks_of, order_fault, limit_fault, fault_after, asked_in}
-use Rattle.script_lang.specs.Scripts.{IsLine, Orderly, IsScript}
+use Rattle.script_lines.specs.Fitting.{IsLine}
+use Rattle.script_lang.specs.Scripts.{Orderly, IsScript}
 use Rattle.script_words.proofs.Plain.{both_pass}
-use Rattle.script_lang.proofs.Told.{ok_inj}
-use Rattle.script_lang.proofs.Rows.{AllPlain, no_hash, starts_no_comment, line_again, line_in-IsLine, words_plain, built, picked}
+use Rattle.script_lines.proofs.Told.{ok_inj}
+use Rattle.script_lines.proofs.Rows.{AllPlain, no_hash, starts_no_comment, line_again, line_in-IsLine, words_plain, built, picked}
 
 -- WORDS
 

@@ -14,11 +14,12 @@ use Rattle.script_words.specs.Fitting.{IsMoment}
 use Rattle.ckpt_types.specs.declared.words.FirstWord.{FirstWord}
 use Rattle.ckpt_types.specs.declared.words.FirstWord.TheVariants as words
 use Rattle.ckpt_types.specs.declared.words.OpWord.TheVariants as calls
-use Rattle.script_lang.specs.declared.lines.Line.{Line}
-use Rattle.script_lang.specs.declared.lines.Line.TheVariants as lines
-use Rattle.script_lang.specs.Table.{Values, LineValues, form, is_later, only_begun, attributes, attributes_of, io_group, io_element, read_group, read_element}
+use Rattle.script_lines.specs.declared.lines.Line.{Line}
+use Rattle.script_lines.specs.declared.lines.Line.TheVariants as lines
+use Rattle.script_lines.specs.Table.{Values, LineValues, form, is_later, only_begun, attributes, attributes_of, io_group, io_element, read_group, read_element}
 use Rattle.script_lang.specs.Grammar.{marks_of, moment_behind_all, order_fault, is_nodes, goes_back, asked_in}
-use Rattle.script_lang.specs.Scripts.{FitAll, FitMore, FitGroups, FitValues, IsLine, Orderly, IsScript}
+use Rattle.script_lines.specs.Fitting.{FitAll, FitMore, FitGroups, FitValues, IsLine}
+use Rattle.script_lang.specs.Scripts.{Orderly, IsScript}
 use Rattle.script_lang.specs.BuiltScripts.{HasNumbersInRange, HaveNumbersInRange, IsIoElement, IsReadElement, AreWrites, AreReads, IsBuiltLine, AreBuiltLines, AreFirstNodes, AreNodesFirst, IsBuiltScript}
 
 -- WHAT THE WORDS OF A LINE SAY IS IN ITS RANGE

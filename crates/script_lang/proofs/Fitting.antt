@@ -1,7 +1,7 @@
 -- What parse and print returned.
 use Rattle.std.proofs.Common.{◌≡◌, ◌≤◌, List, ℕ, length, Result, Ok, Err, IfOk, sym, subst}
 use Rattle.ckpt_types.specs.Limits.{script_bytes_max}
-use Rattle.script_lang.specs.declared.lines.Line.{Line}
+use Rattle.script_lines.specs.declared.lines.Line.{Line}
 use Rattle.script_lang.specs.declared.faults.ParseError.{ParseError}
 use Rattle.script_lang.specs.BuiltScripts.{IsBuiltScript}
 use Rattle.script_lang.specs.Faults.{Parses}

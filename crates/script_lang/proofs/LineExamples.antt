@@ -6,10 +6,10 @@ use Rattle.ckpt_types.specs.declared.operation.Op.TheVariants as ops
 use Rattle.script_words.specs.declared.reason.Reason.{Reason}
 use Rattle.script_words.specs.declared.reason.Reason.TheVariants as reasons
 use Rattle.script_words.specs.Words.{numeral, number_within, lettered, time_of, bytes_of, version_of, callbacks_of, read_word}
-use Rattle.script_lang.specs.declared.lines.Line.{Line}
-use Rattle.script_lang.specs.declared.lines.Line.TheVariants as lines
-use Rattle.script_lang.specs.Table.{word_of_first, word_of_second, first_word_of, said_by}
-use Rattle.script_lang.specs.Grammar.{line_said, reading}
+use Rattle.script_lines.specs.declared.lines.Line.{Line}
+use Rattle.script_lines.specs.declared.lines.Line.TheVariants as lines
+use Rattle.script_lines.specs.Table.{word_of_first, word_of_second, first_word_of, said_by, line_said}
+use Rattle.script_lang.specs.Grammar.{reading}
 
 -- the text says this line
 abbrev Says : List ℕ → Line → Type 0

@@ -16,18 +16,18 @@ use Rattle.ckpt_types.specs.declared.words.FirstWord.{FirstWord}
 use Rattle.ckpt_types.specs.declared.words.FirstWord.TheVariants as words
 use Rattle.ckpt_types.specs.declared.words.OpWord.TheVariants as calls
 use Rattle.ckpt_types.specs.FirstWord.{begin_text}
-use Rattle.script_lang.specs.declared.lines.Line.{Line}
-use Rattle.script_lang.specs.declared.lines.Line.TheVariants as lines
+use Rattle.script_lines.specs.declared.lines.Line.{Line}
+use Rattle.script_lines.specs.declared.lines.Line.TheVariants as lines
 use Rattle.script_lang.specs.declared.quick.Front.{Front}
 use Rattle.script_lang.specs.declared.quick.Quick.{Quick}
 use Rattle.script_lang.specs.declared.quick.Quick.TheVariants as quicks
-use Rattle.script_lang.specs.Table.{any_number, said_by, groups, first_word_of, word_of_first, is_later, may_begin, only_begun}
+use Rattle.script_lines.specs.Table.{any_number, said_by, groups, first_word_of, word_of_first, is_later, may_begin, only_begun, is_empty, line_said}
 use Rattle.ckpt_types.specs.declared.update.ReadElement.{ReadElement}
 use Rattle.ckpt_types.specs.declared.update.Update.{Update}
 use Rattle.ckpt_types.specs.Limits.{script_reads_max}
-use Rattle.script_lang.specs.Grammar.{is_space, is_empty, words_of, line_said, fault_after, order_fault, limit_fault, marks_after}
+use Rattle.script_lang.specs.Grammar.{is_space, words_of, fault_after, order_fault, limit_fault, marks_after}
 use Rattle.script_lang.specs.Plain.{SaysFirst, SaysFront, SaysBehind, SaysLine, OnlyAsks}
-use Rattle.script_lang.proofs.Groups.{rest_from}
+use Rattle.script_lines.proofs.Groups.{rest_from}
 
 digit_no_space : (d : ℕ) → is_ascii_digit d ≡ true → is_space d ≡ false
 digit_no_space d h = grind (arith, h)

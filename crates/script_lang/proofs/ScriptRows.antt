@@ -5,10 +5,11 @@ use Rattle.script_words.specs.declared.reason.Reason.{Reason}
 use Rattle.script_words.specs.declared.reason.Reason.TheVariants as reasons
 use Rattle.script_words.proofs.Computing.{script_words}
 use Rattle.script_lang.specs.declared.faults.ScriptFault.{ScriptFault}
-use Rattle.script_lang.specs.declared.lines.Line.{Line}
-use Rattle.script_lang.specs.Table.{word_of_first, word_of_second, word_of_third, first_word_of, groups, said_by}
-use Rattle.script_lang.specs.Grammar.{line_said, reading, marks_of, order_fault, limit_fault, fault_after, take_line, take_lines, script_of}
-use Rattle.script_lang.specs.Spelling.{line_text, spelling}
+use Rattle.script_lines.specs.declared.lines.Line.{Line}
+use Rattle.script_lines.specs.Table.{word_of_first, word_of_second, word_of_third, first_word_of, groups, said_by, line_said}
+use Rattle.script_lang.specs.Grammar.{reading, marks_of, order_fault, limit_fault, fault_after, take_line, take_lines, script_of}
+use Rattle.script_lines.specs.Spelling.{line_text}
+use Rattle.script_lang.specs.Spelling.{spelling}
 
 -- what the reading and the spelling of a script compute with
 scripts : Unit {0}

@@ -3,20 +3,8 @@ use Rattle.std.proofs.Common.{◌≡◌, refl, sym, ◌∙◌, ap, ℕ, suc, ◌
 use denote.Ref.{Bor}
 use Rattle.std.proofs.lemmas.List.Sums.{position_or_len_is}
 use Rattle.std.specs.List.{list_any, onto_first, position_or_len, before_first, after_first}
-use Rattle.script_words.specs.declared.reason.Reason.TheVariants as reasons
-use Rattle.script_lang.specs.Table.{texts}
-use Rattle.script_lang.specs.Grammar.{is_space, is_empty, words_of, text_lines, line_said}
+use Rattle.script_lang.specs.Grammar.{is_space, words_of, text_lines}
 use Rattle.script_words.proofs.Places.{cut_there, nothing_cut}
-
-pub any_texts : (ws : List (Bor (List ℕ))) → list_any is_empty (texts ws) ≡ list_any (λ w. is_empty w.now) ws
-any_texts [] = refl
-any_texts (w ∷ ws) = ap (λ b. is_empty w.now || b) (any_texts ws)
-
--- without a word there is no line
-pub no_words : (ws : List (Bor (List ℕ))) → length ws < 1 → line_said (texts ws) ≡ Err reasons.Word
-unfolding line_said
-no_words [] none = refl
-no_words (w ∷ ws) none = absurd (omega (arith, none))
 
 abbrev newline : ℕ → Bool
 newline b = b == 10

@@ -13,8 +13,8 @@ use Rattle.ckpt_types.specs.declared.update.Update.TheVariants as updates
 use Rattle.ckpt_types.specs.Asks.{IsBuilt}
 use Rattle.ckpt_types.specs.Limits.{nodes_max, client_numbers, section_id_max, line_elements_max, line_steps_max, script_reads_max, script_lines_max, end_of_time}
 use Rattle.script_words.specs.Fitting.{IsNewId, IsTime, IsVersion, IsWho}
-use Rattle.script_lang.specs.declared.lines.Line.{Line}
-use Rattle.script_lang.specs.declared.lines.Line.TheVariants as lines
+use Rattle.script_lines.specs.declared.lines.Line.{Line}
+use Rattle.script_lines.specs.declared.lines.Line.TheVariants as lines
 use Rattle.script_lang.specs.Grammar.{moment_behind}
 
 -- flags and a number of sections of 32 bits, and sizes of 64 bits

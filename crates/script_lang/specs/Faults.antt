@@ -1,16 +1,8 @@
 -- What the answers of the readers tell.
 use Rattle.std.specs.Prelude.{◌≡◌, Result, Ok, Err, ⊤}
-use Rattle.script_words.specs.declared.reason.Reason.{Reason}
-use Rattle.script_words.specs.declared.reason.LineError.{LineError}
-use Rattle.script_words.specs.Reasons.{Fails}
 use Rattle.script_lang.specs.declared.faults.ScriptFault.{ScriptFault}
 use Rattle.script_lang.specs.declared.faults.ParseError.{ParseError}
 use Rattle.script_lang.specs.declared.faults.ParseError.TheVariants as parse_errors
-
--- A reader whose answer is seen by a view answers what the definition says.
-abbrev pub Gives : {X Y : Type 0} → (X → Y) → Result X LineError → Result Y Reason → Type 0
-Gives view (Ok x) said = said ≡ Ok (view x)
-Gives view (Err e) said = Fails e said
 
 -- An error is the fault that the definition tells; want of memory may stand for any answer.
 abbrev pub Misses : {X : Type 0} → ParseError → Result X ScriptFault → Type 0

@@ -1,7 +1,7 @@
 -- The words of a line in a fixed number of places.
 use Rattle.std.specs.Prelude.{◌≡◌, ◌≤◌, ℕ, List, length, take}
 use denote.Ref.{Bor}
-use Rattle.script_lang.specs.Table.{texts}
+use Rattle.script_lines.specs.Table.{texts}
 use Rattle.script_lang.specs.Grammar.{words_of}
 
 -- the first places, so many, have the words of the line

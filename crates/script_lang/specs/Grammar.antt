@@ -1,19 +1,17 @@
 -- A script: its lines one after the other, and the first that is at fault.
-use Rattle.std.specs.Prelude.{ℕ, ◌+◌, ◌≤◌, Bool, true, false, not, cond, ◌&&◌, ◌||◌, List, [], ◌∷◌, length, reverse, ℤ, pos, Option, Some, None, is_some, option_map, Result, Ok, Err, nat_le, nat_lt, int_lt, ◌==◌, if◌then◌else◌, bytes_eq, sum_by}
-use Rattle.std.specs.List.{slice_split, onto_first, list_any}
+use Rattle.std.specs.Prelude.{ℕ, ◌+◌, ◌≤◌, Bool, true, false, not, cond, ◌&&◌, ◌||◌, List, [], ◌∷◌, length, reverse, ℤ, pos, Option, Some, None, is_some, option_map, Result, Ok, Err, nat_le, nat_lt, int_lt, ◌==◌, if◌then◌else◌, sum_by}
+use Rattle.std.specs.List.{slice_split, onto_first}
 use Rattle.ckpt_types.specs.declared.operation.Op.{Op}
 use Rattle.ckpt_types.specs.declared.operation.Op.TheVariants as ops
 use Rattle.ckpt_types.specs.Limits.{block_lines_max, script_reads_max, script_shows_max, script_lines_max, script_bytes_max}
 use Rattle.script_words.specs.declared.reason.Reason.{Reason}
 use Rattle.script_words.specs.declared.reason.Reason.TheVariants as reasons
 use Rattle.script_words.specs.Words.{or_else}
-use Rattle.ckpt_types.specs.FirstWord.{begin_text}
 use Rattle.script_lang.specs.declared.faults.ScriptFault.{ScriptFault}
-use Rattle.ckpt_types.specs.declared.words.FirstWord.{FirstWord}
-use Rattle.script_lang.specs.declared.lines.Line.{Line}
-use Rattle.script_lang.specs.declared.lines.Line.TheVariants as lines
+use Rattle.script_lines.specs.declared.lines.Line.{Line}
+use Rattle.script_lines.specs.declared.lines.Line.TheVariants as lines
 use Rattle.script_lang.specs.declared.marks.Marks.{Marks}
-use Rattle.script_lang.specs.Table.{first_word_of, is_later, line_in}
+use Rattle.script_lines.specs.Table.{line_said}
 
 -- the lines, each ended by the byte 10; the last may lack it
 abbrev pub text_lines : List ℕ → List (List ℕ)
@@ -24,32 +22,9 @@ text_lines (b ∷ bs) = if b == 10 then [] ∷ text_lines bs else onto_first b (
 abbrev pub is_space : ℕ → Bool
 is_space b = b == 32
 
--- a word with no byte, which no line may have
-abbrev pub is_empty : List ℕ → Bool
-is_empty w = length w == 0
-
 -- the words of a line: what stands between its spaces; one is empty where two spaces meet, or one stands at an end
 abbrev pub words_of : List ℕ → List (List ℕ)
 words_of line = slice_split is_space line
-
--- a first word whose lines are not built yet
-abbrev pub is_later_word : Option FirstWord → Bool
-is_later_word None = false
-is_later_word (Some k) = is_later k
-
--- the same of the word behind `begin`, where there is one
-abbrev pub begins_later : List (List ℕ) → Bool
-begins_later [] = false
-begins_later (w ∷ ws) = is_later_word (first_word_of w)
-
--- a line that is not built by its first word, or by the word behind `begin`
-abbrev pub not_built : List (List ℕ) → Bool
-not_built [] = false
-not_built (w ∷ ws) = if bytes_eq w begin_text then begins_later ws else is_later_word (first_word_of w)
-
--- the line that these words say
-unfoldable pub line_said : List (List ℕ) → Result Line Reason
-line_said ws = if not_built ws then Err reasons.NotBuilt else if list_any is_empty ws then Err reasons.Word else line_in ws
 
 -- a line that is there
 abbrev pub some_line : Result Line Reason → Result (Option Line) Reason

@@ -5,4 +5,3 @@ pub mod Grammar
 pub mod Plain
 pub mod Scripts
 pub mod Spelling
-pub mod Table

@@ -6,13 +6,13 @@ use Rattle.ckpt_types.specs.Limits.{script_reads_max}
 use Rattle.ckpt_types.specs.FirstWord.{begin_text}
 use Rattle.script_words.specs.Words.{Class, Meaning, read_word, a_client, a_place}
 use Rattle.ckpt_types.specs.declared.words.FirstWord.{FirstWord}
-use Rattle.script_lang.specs.declared.lines.Line.{Line}
-use Rattle.script_lang.specs.declared.lines.Line.TheVariants as lines
+use Rattle.script_lines.specs.declared.lines.Line.{Line}
+use Rattle.script_lines.specs.declared.lines.Line.TheVariants as lines
 use Rattle.script_lang.specs.declared.quick.Front.{Front}
 use Rattle.script_lang.specs.declared.quick.Quick.{Quick}
 use Rattle.script_lang.specs.declared.quick.Quick.TheVariants as quicks
-use Rattle.script_lang.specs.Table.{said_by, any_number, only_begun}
-use Rattle.script_lang.specs.Grammar.{is_empty, words_of, line_said, fault_after, marks_after}
+use Rattle.script_lines.specs.Table.{said_by, any_number, only_begun, is_empty, line_said}
+use Rattle.script_lang.specs.Grammar.{words_of, fault_after, marks_after}
 use Rattle.script_lang.specs.declared.marks.Marks.{Marks}
 
 -- the first word of the text says the value, and the others are those of the rest

@@ -1,20 +1,17 @@
 //! The reader and the printer of cluster scripts.
 #![tactic(auto)]
 
-mod call_forms;
-mod call_printing;
 mod faults;
-mod forms;
-mod line_forms;
-mod lines;
 mod marks;
 mod parser;
 mod printing;
 mod quick;
 mod reading;
+mod script;
 
 pub use faults::{ParseError, ScriptFault};
-pub use lines::{Line, Script};
 pub use parser::parse;
 pub use printing::{print, read_again};
+pub use script::Script;
+pub use script_lines::Line;
 pub use script_words::Reason;

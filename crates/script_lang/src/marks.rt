@@ -3,8 +3,8 @@ ghost use Rattle.std.specs.Prelude.{◌≡◌, ◌<◌, ◌≤◌, ◌+◌, OnOk
 ghost use Rattle.ckpt_types.specs.Limits.{block_lines_max, script_shows_max};
 ghost use Rattle.script_lang.specs.Grammar.{fault_after, marks_after, IsSmall, is_nodes, is_end, is_show, is_race as spec_is_race, goes_back, may_race_op as spec_may_race_op, may_race as spec_may_race, breaks_block, asked_in, moment_behind, block_after, block_size, shows_after};
 
-use crate::lines::Line;
 use ckpt_types::{BLOCK_LINES_MAX, Moment, Op, ReadElement, SCRIPT_READS_MAX, SCRIPT_SHOWS_MAX};
+use script_lines::Line;
 use script_words::Reason;
 
 /// What the lines of a script so far tell of themselves.

@@ -6,15 +6,17 @@ ghost use Rattle.script_lang.specs.declared.faults.ParseError.TheVariants as par
 ghost use Rattle.script_lang.specs.Faults.{Parses, Misses};
 ghost use Rattle.script_lang.specs.BuiltScripts.{IsBuiltScript};
 ghost use Rattle.script_lang.specs.Scripts.{IsScript};
-ghost use Rattle.script_lang.specs.Grammar.{start, take_line, take_lines, script_of, whole_script, if_allowed, fault_of, text_lines, after_reading, some_line, line_said, words_of, is_race as spec_is_race, IsSmall};
+ghost use Rattle.script_lines.specs.Table.{line_said};
+ghost use Rattle.script_lang.specs.Grammar.{start, take_line, take_lines, script_of, whole_script, if_allowed, fault_of, text_lines, after_reading, some_line, words_of, is_race as spec_is_race, IsSmall};
 ghost use Rattle.script_lang.specs.Plain.{OnlyAsks};
 
 use crate::faults::{ParseError, ScriptFault};
-use crate::lines::{Line, Script};
 use crate::marks::{Marks, is_race, next_marks};
 use crate::quick::{Quick, behind_begin, quick_line};
 use crate::reading::{first_line, read_line, says_nothing};
+use crate::script::Script;
 use ckpt_types::{ActorName, Op, SCRIPT_BYTES_MAX, SCRIPT_LINES_MAX, SCRIPT_READS_MAX, Vector};
+use script_lines::Line;
 use script_words::{LineError, Reason};
 use std::alloc::{AllocError, Global};
 use std::marker::Model;

@@ -1,17 +1,15 @@
 //! A line of bytes into words, and the line that they say.
-ghost use Rattle.std.specs.Prelude.{◌≡◌, ◌<◌, ◌≤◌, ◌-◌, ◌∷◌, [], IfOk, IfSome, IfNone, length, take, drop, ◌==◌, Ok, None};
+ghost use Rattle.std.specs.Prelude.{◌≡◌, ◌<◌, ◌≤◌, ◌∷◌, [], IfOk, IfSome, IfNone, length, take, drop, ◌==◌, Ok, None};
 ghost use Rattle.script_lang.specs.FewWords.{HasWords};
 ghost use Rattle.std.specs.Bool.{OnTrue, OnFalse};
-ghost use Rattle.std.specs.List.{list_any, position_or_len};
+ghost use Rattle.std.specs.List.{position_or_len};
 ghost use Rattle.script_words.specs.Reasons.{Reads};
-ghost use Rattle.script_lang.specs.Table.{texts};
-ghost use Rattle.script_lang.specs.Grammar.{text_lines, words_of, reading, some_line, is_empty, is_later_word as spec_is_later_word, begins_later as spec_begins_later, line_said as spec_line_of};
+ghost use Rattle.script_lines.specs.Table.{texts, line_said};
+ghost use Rattle.script_lang.specs.Grammar.{text_lines, words_of, reading, some_line};
 
-use crate::forms::{begin_line, is_later, plain_line, says, word_named};
-use crate::lines::Line;
-use ckpt_types::FirstWord;
 use memchr::memchr;
-use script_words::{LineError, Reason};
+use script_lines::Line;
+use script_words::LineError;
 use std::alloc::{AllocError, Global};
 
 // The words of most lines are no more.
@@ -21,7 +19,7 @@ const FEW: usize = 12;
 #[tactic(auto, unfolding(crate::specs::Grammar::reading))]
 pub fn says_nothing(line: &[u8]) -> bool
     ensures nothing { OnTrue result (reading line.now ≡ Ok None) }
-    ensures something { OnFalse result (reading line.now ≡ some_line (spec_line_of (words_of line.now))) }
+    ensures something { OnFalse result (reading line.now ≡ some_line (line_said (words_of line.now))) }
 {
     match line {
         [] => true,
@@ -31,92 +29,21 @@ pub fn says_nothing(line: &[u8]) -> bool
 
 /// The line that the words of a text say. Where they are few, it takes no memory for them.
 pub fn read_line(alloc: Global, text: &[u8]) -> Result<Line, LineError>
-    ensures { Reads result (spec_line_of (words_of text.now)) }
+    ensures { Reads result (line_said (words_of text.now)) }
 {
     let mut words: [&[u8]; FEW] = [&[]; FEW];
     match few_words(text, &mut words) {
-        Some(count) => line_of(alloc, &words[..count]),
+        Some(count) => script_lines::read_line(alloc, &words[..count]),
         None => line_of_many(alloc, text),
     }
 }
 
 // The line that any number of words say.
 fn line_of_many(alloc: Global, text: &[u8]) -> Result<Line, LineError>
-    ensures { Reads result (spec_line_of (words_of text.now)) }
+    ensures { Reads result (line_said (words_of text.now)) }
 {
     let words = words_in(alloc, text)?;
-    line_of(alloc, &words)
-}
-
-// The line that the words say.
-fn line_of(alloc: Global, words: &[&[u8]]) -> Result<Line, LineError>
-    ensures { Reads result (spec_line_of (texts words.now)) }
-{
-    let [first, rest @ ..] = words else {
-        return Err(LineError::Fault(Reason::Word));
-    };
-    line_from(alloc, first, rest)
-}
-
-// The line that the first word and those behind it say.
-#[tactic(auto, unfolding(crate::specs::Grammar::line_said))]
-fn line_from(alloc: Global, first: &[u8], rest: &[&[u8]]) -> Result<Line, LineError>
-    ensures { Reads result (spec_line_of (first.now ∷ texts rest.now)) }
-{
-    if says(first, b"begin") {
-        if begins_later(rest) {
-            return Err(LineError::Fault(Reason::NotBuilt));
-        }
-        if has_empty(first, rest) {
-            return Err(LineError::Fault(Reason::Word));
-        }
-        return begin_line(alloc, rest);
-    }
-    let word = word_named(first);
-    if is_later_word(word) {
-        return Err(LineError::Fault(Reason::NotBuilt));
-    }
-    if has_empty(first, rest) {
-        return Err(LineError::Fault(Reason::Word));
-    }
-    plain_line(alloc, word, rest)
-}
-
-// Whether the lines of this first word are not built yet.
-fn is_later_word(word: Option<FirstWord>) -> bool
-    ensures { result ≡ spec_is_later_word word }
-{
-    match word {
-        Some(word) => is_later(word),
-        None => false,
-    }
-}
-
-// Whether the lines of the first of these words, which stand behind `begin`, are not built yet.
-fn begins_later(words: &[&[u8]]) -> bool
-    ensures { result ≡ spec_begins_later (texts words.now) }
-{
-    match words {
-        [] => false,
-        [first, ..] => is_later_word(word_named(first)),
-    }
-}
-
-// Whether two spaces meet, or one stands at an end.
-#[tactic(auto, using(crate::proofs::Texts::any_texts))]
-fn has_empty(first: &[u8], rest: &[&[u8]]) -> bool
-    ensures { result ≡ list_any is_empty (first.now ∷ texts rest.now) }
-{
-    if first.is_empty() {
-        return true;
-    }
-    has_empty_behind(rest)
-}
-
-fn has_empty_behind(words: &[&[u8]]) -> bool
-    ensures { result ≡ list_any (λ w. is_empty w.now) words.now }
-{
-    words.iter().any(|word| word.is_empty())
+    script_lines::read_line(alloc, &words)
 }
 
 // What stands between the spaces of a line.

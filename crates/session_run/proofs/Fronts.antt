@@ -20,8 +20,8 @@ use Rattle.run_labels.specs.declared.labels.PullReply.TheVariants as pulls
 use Rattle.run_labels.specs.declared.labels.PutReply.TheVariants as puts
 use Rattle.ckpt_types.specs.Limits.{built_line_labels, nodes_max}
 use Rattle.ckpt_types.specs.OpWord.{word_of_op, is_async}
-use Rattle.script_lang.specs.declared.lines.Line.{Line}
-use Rattle.script_lang.specs.declared.lines.Line.TheVariants as lines
+use Rattle.script_lines.specs.declared.lines.Line.{Line}
+use Rattle.script_lines.specs.declared.lines.Line.TheVariants as lines
 use Rattle.script_lang.specs.Grammar.{moment_behind}
 use Rattle.world_core.specs.declared.hands.InHand.{InHand}
 use Rattle.ckpt_machine.specs.Machine.{Machine, CallState}

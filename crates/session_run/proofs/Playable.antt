@@ -5,8 +5,8 @@ use Rattle.ckpt_types.specs.declared.identities.ActorName.TheVariants.{Client, N
 use Rattle.ckpt_types.specs.declared.identities.Who.{Who}
 use Rattle.ckpt_types.specs.declared.identities.Who.TheVariants.{Actor, Call}
 use Rattle.run_labels.specs.declared.labels.Label.{Label}
-use Rattle.script_lang.specs.declared.lines.Line.{Line}
-use Rattle.script_lang.specs.declared.lines.Line.TheVariants as lines
+use Rattle.script_lines.specs.declared.lines.Line.{Line}
+use Rattle.script_lines.specs.declared.lines.Line.TheVariants as lines
 use Rattle.script_lang.specs.BuiltScripts.{IsStepped, IsBuiltLine, AreBuiltLines, AreNodesFirst}
 use Rattle.script_lang.specs.Grammar.{moment_behind}
 use Rattle.cluster_record.specs.RecordState.{IsMomentFrom}

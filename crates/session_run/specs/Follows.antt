@@ -16,8 +16,8 @@ use Rattle.run_labels.specs.declared.words.Said.{Said}
 use Rattle.run_labels.specs.declared.words.Said.TheVariants.{Down, Idle}
 use Rattle.ckpt_types.specs.Limits.{line_labels_max}
 use Rattle.ckpt_types.specs.OpWord.{word_of_op, is_async}
-use Rattle.script_lang.specs.declared.lines.Line.{Line}
-use Rattle.script_lang.specs.declared.lines.Line.TheVariants as lines
+use Rattle.script_lines.specs.declared.lines.Line.{Line}
+use Rattle.script_lines.specs.declared.lines.Line.TheVariants as lines
 use Rattle.cluster_record.specs.RecordState.{entry_of, is_up}
 use Rattle.ckpt_machine.specs.Machine.{Machine, CallState, empty_cluster}
 use Rattle.ckpt_machine.specs.Runs.{last_from}

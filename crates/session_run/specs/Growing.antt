@@ -1,8 +1,8 @@
 -- How a log grows while a line is played.
 use Rattle.std.specs.Prelude.{◌≡◌, ◌<◌, ◌≤◌, ℕ, zero, suc, List, [], ◌++◌, length, Option, Some, None, ℤ}
 use Rattle.ckpt_types.specs.Limits.{nodes_max}
-use Rattle.script_lang.specs.declared.lines.Line.{Line}
-use Rattle.script_lang.specs.declared.lines.Line.TheVariants as lines
+use Rattle.script_lines.specs.declared.lines.Line.{Line}
+use Rattle.script_lines.specs.declared.lines.Line.TheVariants as lines
 use Rattle.run_labels.specs.declared.labels.Label.{Label}
 use Rattle.world_core.specs.declared.hands.InHand.{InHand}
 use Rattle.session_run.specs.Follows.{StepsToEnd, StepsUpTo}

@@ -2,8 +2,8 @@
 use Rattle.std.specs.Prelude.{List, [], ◌∷◌, ◌<◌, ℤ, pos}
 use Rattle.ckpt_types.specs.Asks.{IsBuilt}
 use Rattle.ckpt_types.specs.Limits.{client_numbers, nodes_max}
-use Rattle.script_lang.specs.declared.lines.Line.{Line}
-use Rattle.script_lang.specs.declared.lines.Line.TheVariants as lines
+use Rattle.script_lines.specs.declared.lines.Line.{Line}
+use Rattle.script_lines.specs.declared.lines.Line.TheVariants as lines
 use Rattle.script_lang.specs.BuiltScripts.{AreFirstNodes}
 use Rattle.script_lang.specs.Grammar.{moment_behind}
 use Rattle.cluster_record.specs.RecordState.{IsMomentFrom}

@@ -1,5 +1,5 @@
 use Rattle.std.proofs.Common.{rules, ◌≡◌, ◌∷◌, ◌-◌, ◌∙◌, ap, sym, take, drop, length}
-use Rattle.script_lang.proofs.Groups.{rest_from}
+use Rattle.script_lines.proofs.Groups.{rest_from}
 use Rattle.script_lang.proofs.Plain.{quoted_word, write_behind}
 use Rattle.script_lang.proofs.quick.quick_write.Goals as goal
 

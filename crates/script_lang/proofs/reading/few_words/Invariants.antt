@@ -1,5 +1,5 @@
 use Rattle.std.proofs.Common.{◌≡◌, ◌++◌, length, take}
-use Rattle.script_lang.specs.Table.{texts}
+use Rattle.script_lines.specs.Table.{texts}
 use Rattle.script_lang.specs.Grammar.{words_of}
 use Rattle.script_lang.proofs.reading.few_words.Given as goal
 

@@ -6,7 +6,7 @@ use Rattle.run_labels.specs.declared.labels.Label.{Label}
 use Rattle.run_labels.specs.declared.labels.Label.TheVariants as labels
 use Rattle.run_labels.specs.declared.labels.PullReply.TheVariants as pulls
 use Rattle.run_labels.specs.declared.labels.PutReply.TheVariants as puts
-use Rattle.script_lang.specs.declared.lines.Line.{Line}
+use Rattle.script_lines.specs.declared.lines.Line.{Line}
 use Rattle.ckpt_machine.specs.Runs.{last}
 use Rattle.session_run.specs.Follows.{AnswersLine}
 use Rattle.session_run.specs.Growing.{GrowsTowards}

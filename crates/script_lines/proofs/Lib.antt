@@ -1,0 +1,7 @@
+mod Canonical
+pub mod Groups
+pub mod Rows
+mod Saying
+mod Texts
+pub mod Told
+mod Writing

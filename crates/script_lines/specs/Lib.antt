@@ -1,0 +1,4 @@
+pub mod Fitting
+pub mod Readers
+pub mod Spelling
+pub mod Table
