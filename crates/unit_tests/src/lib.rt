@@ -2,8 +2,6 @@
 #![tactic(auto)]
 
 #[cfg(test)]
-mod callbacks;
-#[cfg(test)]
 mod cluster;
 #[cfg(test)]
 mod dispatches;
