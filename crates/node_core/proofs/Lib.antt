@@ -1,3 +1,4 @@
 pub mod AtPlaces
 pub mod FirstSections
 pub mod Pieces
+pub mod NodeRows

@@ -1,1 +1,2 @@
 pub mod WeakWrites
+pub mod ReplicaRows
