@@ -8,24 +8,16 @@ mod dispatches;
 #[cfg(test)]
 mod handles;
 #[cfg(test)]
-mod iterations;
-#[cfg(test)]
 mod labels;
-#[cfg(test)]
-mod listed;
 #[cfg(test)]
 mod names;
 #[cfg(test)]
 mod replicas;
-#[cfg(test)]
-mod rules;
 #[cfg(test)]
 mod scripts;
 #[cfg(test)]
 mod store;
 #[cfg(test)]
 mod types;
-#[cfg(test)]
-mod values;
 #[cfg(test)]
 mod words;

@@ -1,23 +1,16 @@
-//! A store at work: gaps, sections that have expired, and the identifiers that it makes.
+//! A store where memory is there, and at it what is generic over sections: the checks, and an iteration.
 use ckpt_types::{
-    Bytes, CreationAttributes, IoElement, IoVector, Moment, NEVER, NewId, ReadBuf, ReadElement,
-    SectionState, Sections, Update, WR_ALL_REPLICAS,
+    AisError, Bytes, Choice, CreationAttributes, Moment, NEVER, NewId, ReadBuf, ReadElement,
+    SECTIONS_ANY, Sections, Update, WR_ALL_REPLICAS,
 };
+use section_iter::{Iteration, NoSections, Room};
 use section_store::Store;
 use std::alloc::{AllocError, Global};
 use std::process::Abort;
 use std::test::Fail;
 use update_rules::{check, check_read};
 
-const ONE: CreationAttributes = CreationAttributes {
-    creation_flags: WR_ALL_REPLICAS,
-    checkpoint_size: 8,
-    retention_duration: 0,
-    max_sections: 1,
-    max_section_size: 8,
-    max_section_id_size: 8,
-};
-
+/// Two sections of at most 4 bytes.
 const TWO: CreationAttributes = CreationAttributes {
     creation_flags: WR_ALL_REPLICAS,
     checkpoint_size: 8,
@@ -27,57 +20,35 @@ const TWO: CreationAttributes = CreationAttributes {
     max_section_id_size: 8,
 };
 
-/// A write of one element into the default section.
-fn write(alloc: Global, offset: u64, bytes: &[u8]) -> Result<Update, AllocError> {
-    let element = IoElement {
-        id: Bytes::default(),
-        offset,
-        bytes: Bytes::from_slice(alloc, bytes)?,
-    };
-    Ok(Update::Write(IoVector::one(element)))
+/// The identifier that the service makes of a number.
+fn numbered(number: u8) -> [u8; 8] {
+    [0, 0, 0, 0, 0, 0, 0, number]
 }
 
-/// A creation of a section, under an identifier that the service makes.
-fn create(alloc: Global, expiration: Moment, bytes: &[u8]) -> Result<Update, AllocError> {
-    let bytes = Bytes::from_slice(alloc, bytes)?;
-    Ok(Update::Create(NewId::Generated, expiration, bytes))
-}
-
-/// Makes the update, where it is not refused.
-fn make(store: &mut Store, update: &Update, now: Moment) -> bool {
+/// Makes the update, where it is not refused: else the error.
+fn make(store: &mut Store, update: &Update, now: Moment) -> Result<(), AisError> {
     let attrs = store.descriptor(now).attributes;
-    if check(&attrs, &*store, update, now).is_err() {
-        return false;
+    if let Err(refused) = check(&attrs, &*store, update, now) {
+        return Err(refused.error);
     }
     store.apply(update, now);
-    true
+    Ok(())
 }
 
-/// Makes a creation of a section at a moment.
+/// Creates a section, under an identifier that the service makes.
 fn creates(
     store: &mut Store,
     alloc: Global,
     expiration: Moment,
     bytes: &[u8],
     now: Moment,
-) -> Result<bool, AllocError> {
-    let update = create(alloc, expiration, bytes)?;
+) -> Result<Result<(), AisError>, AllocError> {
+    let bytes = Bytes::from_slice(alloc, bytes)?;
+    let update = Update::Create(NewId::Generated, expiration, bytes);
     Ok(make(store, &update, now))
 }
 
-/// Makes a write into the default section at a moment.
-fn writes(
-    store: &mut Store,
-    alloc: Global,
-    offset: u64,
-    bytes: &[u8],
-    now: Moment,
-) -> Result<bool, AllocError> {
-    let update = write(alloc, offset, bytes)?;
-    Ok(make(store, &update, now))
-}
-
-/// Whether a read of the default section gives these bytes.
+/// Whether a read of two bytes of the second section gives these.
 fn gives(
     store: &Store,
     alloc: Global,
@@ -86,7 +57,7 @@ fn gives(
     now: Moment,
 ) -> Result<bool, AllocError> {
     let elements = [ReadElement {
-        id: Bytes::default(),
+        id: Bytes::from_slice(alloc, &numbered(2))?,
         offset,
         len: 2,
     }];
@@ -98,38 +69,24 @@ fn gives(
     Ok(out.len() == 1 && out.piece(0) == bytes)
 }
 
-#[test]
-fn a_gap_before_what_is_written_is_zeros(rt: HostRuntime) -> Result<(), Fail> {
-    let alloc = rt.alloc();
-    let mut store = Store::reserve(alloc, &ONE, 5)?;
-    assert!(rt; writes(&mut store, alloc, 2, b"ab", 7)?);
-    assert!(rt; gives(&store, alloc, 1, &[0, 97], 7)?);
-    store.corrupt(&[]);
-    assert_eq!(rt; store.len(), 1);
-    let section = store.at(0);
-    assert_eq!(rt; section.bytes, [0, 0, 97, 98].as_slice());
-    assert_eq!(rt; section.last_update, 7);
-    assert_eq!(rt; section.state, SectionState::Corrupted);
-    Ok(())
-}
-
 /// The store has two sections: the first of all, and one of these bytes.
 fn has_two(rt: &impl Abort, store: &Store, bytes: &[u8]) {
     assert_eq!(rt; store.len(), 2);
     assert_eq!(rt; store.at(0).bytes, b"abcd".as_slice());
     assert_eq!(rt; store.at(1).bytes, bytes);
-    assert_eq!(rt;
-        store.at(1).id.as_slice(),
-        [0, 0, 0, 0, 0, 0, 0, 2].as_slice()
-    );
+    assert_eq!(rt; store.at(1).id.as_slice(), numbered(2).as_slice());
 }
 
 /// A third section takes the place of what has expired, and none in a copy.
 fn makes_room(rt: &impl Abort, alloc: Global, store: &mut Store) -> Result<(), AllocError> {
     let copy = store.copy(alloc)?;
-    assert!(rt; creates(store, alloc, NEVER, b"ijkl", 10)?);
+    let refused = creates(store, alloc, NEVER, b"ijkl", 9)?;
+    assert_eq!(rt; refused, Err(AisError::NoSpace));
+    assert!(rt; creates(store, alloc, NEVER, b"ijkl", 10)?.is_ok());
     has_two(rt, store, b"ijkl");
     has_two(rt, &copy, b"efgh");
+    assert!(rt; gives(store, alloc, 2, b"kl", 10)?);
+    assert!(rt; !gives(&copy, alloc, 2, b"gh", 10)?, "it has expired");
     Ok(())
 }
 
@@ -137,8 +94,8 @@ fn makes_room(rt: &impl Abort, alloc: Global, store: &mut Store) -> Result<(), A
 fn what_has_expired_makes_room_in_a_full_store(rt: HostRuntime) -> Result<(), Fail> {
     let alloc = rt.alloc();
     let mut store = Store::reserve(alloc, &TWO, 5)?;
-    assert!(rt; creates(&mut store, alloc, NEVER, b"abcd", 6)?);
-    assert!(rt; creates(&mut store, alloc, 10, b"efgh", 6)?);
+    assert!(rt; creates(&mut store, alloc, NEVER, b"abcd", 6)?.is_ok());
+    assert!(rt; creates(&mut store, alloc, 10, b"efgh", 6)?.is_ok());
     let full = store.descriptor(9);
     assert_eq!(rt; (full.number_of_sections, full.memory_used), (2, 8));
     let half = store.descriptor(10);
@@ -147,23 +104,58 @@ fn what_has_expired_makes_room_in_a_full_store(rt: HostRuntime) -> Result<(), Fa
     Ok(())
 }
 
-/// Whether the service would make the identifier of this number.
-fn makes(store: &Store, number: u8, now: Moment) -> bool {
-    store.generated(now).as_slice() == [0, 0, 0, 0, 0, 0, 0, number].as_slice()
+/// Begins an iteration over all sections of a store. Whether it has room for what that declares.
+fn begins(it: &mut Iteration, store: &Store, now: Moment) -> bool {
+    let attrs = store.attributes();
+    let room = it.room();
+    if room.ids < attrs.max_sections || room.id_size < attrs.max_section_id_size {
+        return false;
+    }
+    let any = Choice {
+        chosen: SECTIONS_ANY,
+        time: 0,
+    };
+    it.start(store, any, now);
+    true
+}
+
+/// Whether an iteration gives the section of that number next.
+fn gives_next(it: &mut Iteration, store: &Store, number: u8, now: Moment) -> bool {
+    match it.next(store, now) {
+        Ok(section) => section.id.as_slice() == numbered(number).as_slice() && section.size == 4,
+        Err(NoSections) => false,
+    }
+}
+
+/// An iteration that has given the first of two sections goes on, and a copy of it too.
+fn goes_on(
+    rt: &impl Abort,
+    alloc: Global,
+    it: &mut Iteration,
+    store: &Store,
+) -> Result<(), AllocError> {
+    let mut again = it.copy(alloc)?;
+    assert!(rt; gives_next(it, store, 2, 9));
+    assert_eq!(rt; it.next(store, 9), Err(NoSections));
+    assert_eq!(rt; again.next(store, 10), Err(NoSections));
+    assert!(rt; gives_next(&mut again, store, 2, 9));
+    Ok(())
+}
+
+fn iterates(rt: &impl Abort, alloc: Global, store: &Store) -> Result<(), AllocError> {
+    let mut it = Iteration::reserve(alloc, &TWO)?;
+    assert_eq!(rt; it.room(), Room { ids: 2, id_size: 8 });
+    assert!(rt; begins(&mut it, store, 9));
+    assert!(rt; gives_next(&mut it, store, 1, 9));
+    goes_on(rt, alloc, &mut it, store)
 }
 
 #[test]
-fn the_least_free_number_is_made_again(rt: HostRuntime) -> Result<(), Fail> {
+fn an_iteration_gives_what_it_has_chosen(rt: HostRuntime) -> Result<(), Fail> {
     let alloc = rt.alloc();
     let mut store = Store::reserve(alloc, &TWO, 5)?;
-    let first = store.generated(6);
-    let first = Bytes::from_slice(alloc, first.as_slice())?;
-    assert!(rt; creates(&mut store, alloc, 10, b"abcd", 6)?);
-    assert!(rt; makes(&store, 2, 9));
-    assert!(rt; makes(&store, 1, 10));
-    assert!(rt; creates(&mut store, alloc, NEVER, b"efgh", 6)?);
-    assert!(rt; makes(&store, 3, 9));
-    assert!(rt; make(&mut store, &Update::Delete(first), 9));
-    assert!(rt; makes(&store, 1, 9));
+    assert!(rt; creates(&mut store, alloc, NEVER, b"abcd", 6)?.is_ok());
+    assert!(rt; creates(&mut store, alloc, 10, b"efgh", 6)?.is_ok());
+    iterates(&rt, alloc, &store)?;
     Ok(())
 }
