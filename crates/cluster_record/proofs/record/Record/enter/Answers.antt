@@ -1,4 +1,4 @@
-use Rattle.std.proofs.Common.{◌≡◌, ◌≤◌, ◌<◌, ℕ, false, sym, ap, subst, ◌∙◌, arith}
+use Rattle.std.proofs.Common.{◌≡◌, ◌≤◌, ◌<◌, ℕ, false, sym, ap, subst, ◌∙◌, arith, rules}
 use Rattle.std.specs.Prelude.{is_some}
 use Rattle.ckpt_types.specs.Limits.{clients_max, client_numbers}
 use Rattle.cluster_record.specs.Calls.{client_of}
@@ -26,3 +26,6 @@ invariant_of-self c =
       entries = kept.entries;
       names = kept.names;
     }
+
+pub returns-clause-ok : goal.returns-clause-ok
+returns-clause-ok c = search rules
