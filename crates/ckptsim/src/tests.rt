@@ -1,7 +1,5 @@
-//! Runs of the whole program.
+//! Runs of the whole program, and the words with which it is called.
 mod command_line;
 mod failing;
-mod lengths;
 mod played;
-mod small_pieces;
 mod words;

@@ -1,6 +1,6 @@
 //! A script is played and printed.
 use crate::running::{Status, ckpt_run};
-use outside_io::{OpenGate, Sink, Source};
+use outside_io::{MemSink, MemSource, OpenGate, Sink, Source};
 use run_labels::RunLog;
 use std::alloc::{AllocError, Global};
 use std::string::String;
@@ -22,8 +22,11 @@ pub const STEPPED_LINES: &[u8] = b"+ c0.1 begin client\n+ c0.1 enter n0 ok\nc0.1
 + c0.3 begin write\n+ c0.3 stage K1 n0 ok\n+ c0.3 commit K1 n0 ok\nc0.3 write OK\n\
 + c0.4 begin read\n+ c0.4 read K1 n0 ok\nc0.4 read OK x616263\n";
 
+/// A read or a write that never comes, of those that are counted from 0.
+pub const NONE: u64 = 1_000_000;
+
 /// How the run of these words ends, on a cluster of which no node is up.
-pub fn played<R: Threads + Wait + Sync, S: Source, K: Sink>(
+fn status_of<R: Threads + Wait + Sync, S: Source, K: Sink>(
     rt: &R,
     alloc: Global,
     words: &[&str],
@@ -46,4 +49,58 @@ pub fn played<R: Threads + Wait + Sync, S: Source, K: Sink>(
         &mut log,
         &mut world,
     ))
+}
+
+/// Whether the run of these words ends so, with just these bytes written, where this write fails and there is so much
+/// room.
+pub fn writes<R: Threads + Wait + Sync, S: Source>(
+    rt: &R,
+    alloc: Global,
+    words: &[&str],
+    source: &mut S,
+    (write, room): (u64, usize),
+    status: Status,
+    written: &[u8],
+) -> Result<bool, AllocError> {
+    let mut sink = MemSink::new(alloc, room, &[write])?;
+    let ended = status_of(rt, alloc, words, source, &mut sink)?;
+    Ok(ended == status && sink.contents() == written)
+}
+
+/// Whether the run of a script ends so, with just these bytes written, where this read and this write fail and there is
+/// so much room.
+pub fn ends<R: Threads + Wait + Sync>(
+    rt: &R,
+    alloc: Global,
+    script: &[u8],
+    read: u64,
+    (write, room): (u64, usize),
+    status: Status,
+    written: &[u8],
+) -> Result<bool, AllocError> {
+    let mut source = MemSource::new(alloc, script, &[read])?;
+    writes(
+        rt,
+        alloc,
+        &["run"],
+        &mut source,
+        (write, room),
+        status,
+        written,
+    )
+}
+
+/// Whether a write that fails is told, and a front of these lines is written before it.
+pub fn cuts_off<R: Threads + Wait + Sync, S: Source>(
+    rt: &R,
+    alloc: Global,
+    source: &mut S,
+    write: u64,
+    lines: &[u8],
+) -> Result<bool, AllocError> {
+    let mut sink = MemSink::new(alloc, lines.len(), &[write])?;
+    let ended = status_of(rt, alloc, &["run"], source, &mut sink)?;
+    let written = sink.contents();
+    let part = 0 < written.len() && written.len() < lines.len();
+    Ok(ended == Status::WriteFault && part && lines.starts_with(written))
 }
