@@ -1,6 +1,6 @@
 -- Worked examples of a replica's life, each by computation: an update that is staged, committed and dropped, a weak write that
 -- is done element by element or cut short, and a snapshot that is pulled and installed.
-use Rattle.std.proofs.Common.{◌≡◌, ℕ, ◌×◌, List, [], ◌∷◌, map, codes, pos, Option, Some, None, Result, Ok, Err, true, false, refl}
+use Rattle.std.proofs.Common.{◌≡◌, ℕ, List, [], ◌∷◌, map, codes, pos, Option, Some, None, Result, Ok, Err, true, false, refl}
 use Rattle.std.specs.Option.{option_map}
 use Rattle.ckpt_types.specs.declared.attributes.CreationAttributes.{CreationAttributes}
 use Rattle.ckpt_types.specs.declared.identities.ActorName.TheVariants.{Client, Node}
