@@ -1,8 +1,6 @@
 -- Worked examples of what a node answers and becomes, each by computation: a slot that is claimed, and a checkpoint that the
 -- record does not have. What becomes of one replica stands in ReplicaRows of the crate replica.
-use Rattle.std.proofs.Common.{◌≡◌, ℕ, [], ◌∷◌, codes, pos, Option, Some, None, refl}
-use Rattle.ckpt_types.specs.declared.answers.Answer.TheVariants as answers
-use Rattle.ckpt_types.specs.declared.attributes.CreationAttributes.{CreationAttributes}
+use Rattle.std.proofs.Common.{◌≡◌, [], ◌∷◌, codes, pos, Option, Some, None, refl}
 use Rattle.ckpt_types.specs.declared.identities.ActorName.TheVariants.{Client, Node}
 use Rattle.ckpt_types.specs.declared.identities.CallId.{CallId}
 use Rattle.ckpt_types.specs.declared.update.Update.TheVariants as updates

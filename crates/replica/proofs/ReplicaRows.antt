@@ -1,9 +1,8 @@
 -- Worked examples of a replica's life, each by computation: an update that is staged, committed and dropped, a weak write that
 -- is done element by element or cut short, and a snapshot that is pulled and installed.
-use Rattle.std.proofs.Common.{◌≡◌, ℕ, List, [], ◌∷◌, map, codes, pos, Option, Some, None, Result, Ok, Err, true, false, refl}
-use Rattle.std.specs.Option.{option_map}
+use Rattle.std.proofs.Common.{◌≡◌, ℕ, List, [], ◌∷◌, map, codes, pos, Some, None, Result, Ok, Err, true, false, refl}
 use Rattle.ckpt_types.specs.declared.attributes.CreationAttributes.{CreationAttributes}
-use Rattle.ckpt_types.specs.declared.identities.ActorName.TheVariants.{Client, Node}
+use Rattle.ckpt_types.specs.declared.identities.ActorName.TheVariants.{Client}
 use Rattle.ckpt_types.specs.declared.identities.CallId.{CallId}
 use Rattle.ckpt_types.specs.declared.sections.SectionState.{SectionState}
 use Rattle.ckpt_types.specs.declared.sections.SectionState.TheVariants.{Valid, Corrupted}
@@ -12,10 +11,8 @@ use Rattle.ckpt_types.specs.declared.update.Update.TheVariants as updates
 use Rattle.ckpt_types.specs.Limits.{wr_all_replicas}
 use Rattle.ckpt_types.specs.Sections.{Section}
 use Rattle.snap_copy.specs.Snapshots.{Snapshot}
-use Rattle.stage_slot.specs.declared.slot.Claimed.TheVariants.{Free, Slot}
-use Rattle.stage_slot.specs.Slots.{IsClaim, owner_of}
+use Rattle.stage_slot.specs.Slots.{owner_of}
 use Rattle.weak_marks.specs.Marks.{call_of, is_left_of}
-use Rattle.replica.specs.declared.replica.Older.{Older}
 use Rattle.replica.specs.declared.replica.StageRefused.{StageRefused}
 use Rattle.replica.specs.declared.replica.StageRefused.TheVariants as refusals
 use Rattle.replica.specs.Replicas.{Replica, opened_replica, outcome_on, answer_unless, staged, committed, withdrawn, applied, begun, element_done, ended, abandoned, pull_result, pulled_unless, install_answer, installed}

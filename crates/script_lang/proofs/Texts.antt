@@ -1,8 +1,7 @@
 -- Lines and words of a text.
-use Rattle.std.proofs.Common.{◌≡◌, refl, sym, ◌∙◌, ap, ℕ, suc, ◌+◌, ◌-◌, ◌<◌, ◌≤◌, Bool, true, false, ◌||◌, ◌==◌, List, [], ◌∷◌, length, take, drop, slice_index, Err, arith}
-use denote.Ref.{Bor}
+use Rattle.std.proofs.Common.{◌≡◌, refl, sym, ◌∙◌, ap, ℕ, suc, ◌+◌, ◌-◌, ◌<◌, ◌≤◌, Bool, true, false, ◌==◌, List, [], ◌∷◌, length, take, drop, slice_index, arith}
 use Rattle.std.proofs.lemmas.List.Sums.{position_or_len_is}
-use Rattle.std.specs.List.{list_any, onto_first, position_or_len, before_first, after_first}
+use Rattle.std.specs.List.{onto_first, position_or_len, before_first, after_first}
 use Rattle.script_lang.specs.Grammar.{is_space, words_of, text_lines}
 use Rattle.script_words.proofs.Places.{cut_there, nothing_cut}
 
