@@ -40,7 +40,7 @@ use Rattle.ckpt_machine.specs.Machine.{Machine, Applied, Effect, ReplicaState, S
 use Rattle.ckpt_machine.specs.Options.{is_all}
 use Rattle.ckpt_machine.specs.Owned.{OwnsNothing}
 use Rattle.ckpt_machine.specs.Propagation.{replica_from}
-use Rattle.ckpt_machine.specs.Runs.{last_from, last, IsRunFrom, IsRun}
+use Rattle.ckpt_machine.specs.Runs.{last, IsRun}
 use Rattle.node_core.specs.Serving.{update_answer}
 use Rattle.ckpt_machine.specs.Shape.{IsCompleteOn}
 use Rattle.ckpt_machine.specs.Steps.{Told, IsDue, with_record, record_step, created_for, retained_for, change_replica, with_committed, committed_slot, with_applied, having_taken, with_marks, with_next_element, without_marks, marks_ended, with_slot, effect_of, with_lead, changed, on_ok, on_look, without_making, at_some, replica_under, opened_state, stepped, step_of, staged_moment, after}
@@ -51,6 +51,7 @@ use Rattle.ckpt_machine.proofs.Copying.{IsPutOn, not_active, after_pull, after_p
 use Rattle.ckpt_machine.proofs.Entries.{ComesOf-filter}
 use Rattle.ckpt_machine.proofs.EntryLists.{entry_of-given}
 use Rattle.ckpt_machine.proofs.Follows.{IsBare, element_effects}
+use Rattle.ckpt_machine.proofs.HasUpdates.{has_more, has_new}
 use Rattle.ckpt_machine.proofs.Histories.{HasHistory, slot_owned, on_replica-there, on_active-there, keeps_history, run_history}
 use Rattle.ckpt_machine.proofs.Installed.{after_install}
 use Rattle.ckpt_machine.proofs.Joining.{collocated_apart, opened_with-identity}
@@ -65,20 +66,9 @@ use Rattle.ckpt_machine.proofs.BegunOnce.{begins_once}
 use Rattle.ckpt_machine.proofs.UpdateAnswers.{begin_not_done, IsTakenOn, done_by_taking}
 use Rattle.ckpt_machine.proofs.StaysMade.{IsMadeAs, StaysMade, StaysMade-same, StaysMade-kept, held_made, held-identity, MadeOn, MadeOn-swept, released_made, opened_made, same_on, changed_on, filter_on, departed_on, finished_on, created_for_on, retained_for_on, StepNeeds, row_needs}
 use Rattle.ckpt_machine.proofs.Whose.{one_call}
-use Rattle.ckpt_machine.proofs.Runs.{last_from-append, run_before, run_front, IsRunFrom-back}
+use Rattle.ckpt_machine.proofs.Runs.{along, last-push, run_before, run_front}
 
 -- ---- effects
-
--- one effect more takes none away
-has_more : (d : CallId) (u : Update) (xs ys : List Effect) → HasUpdate d u xs → HasUpdate d u (xs ++ ys)
-has_more d u [] ys has = absurd has
-has_more d u (x ∷ xs) ys (inl is) = inl is
-has_more d u (x ∷ xs) ys (inr has) = inr (has_more d u xs ys has)
-
--- the new one is there
-has_new : (d : CallId) (u : Update) (xs : List Effect) (new : Effect) → IsUpdateBy d u new → HasUpdate d u (xs ++ new ∷ [])
-has_new d u [] new is = inl is
-has_new d u (x ∷ xs) new is = inr (has_new d u xs new is)
 
 -- one effect more is the new one, or was there
 has_before : (d : CallId) (u : Update) (xs : List Effect) (new : Effect) → HasUpdate d u (xs ++ new ∷ []) → HasUpdate d u xs ⊎ IsUpdateBy d u new
@@ -327,11 +317,6 @@ module _ (k : ℕ) (call : CallId) (update : Update) (m : Machine) (stay : Stays
   after_stays inv bare (labels.Put j q reply) allowed = after_put (Stays k call update) m j q reply stay (λ s x copied on. put_stays j q s x on)
   after_stays inv bare l allowed = absurd allowed
 
--- and at every time from then on
-stays_from : (k : ℕ) (call : CallId) (update : Update) (m : Machine) (log : List Label) → Invariant m → HasHistory m → IsRunFrom m log → Stays k call update m → Stays k call update (last_from m log)
-stays_from k call update m [] inv history run stay = stay
-stays_from k call update m (l ∷ log) inv history run stay = stays_from k call update (after m l) log (lawful m l inv run.1).1 (keeps_history m l inv history run.0 run.1) run.2 (after_stays k call update m stay inv history.bare l run.0)
-
 -- ---- the label that answers OK
 
 -- what holds of each complete replica holds of that of a node
@@ -553,8 +538,11 @@ acknowledged_stay log run front more back l call is acks =
     let (before, allowed, due) = run_before _ front l (run_front log (front ++ l ∷ []) (more ++ back) (is ∙ sym (append_assoc front (l ∷ []) (more ++ back))) run) in
     let (inv, history) = run_history front before in
     let first = acknowledged front before inv history l allowed due call acks in
-    let then = IsRunFrom-back _ front (l ∷ more) (run_front log (front ++ l ∷ more) back (is ∙ sym (append_assoc front (l ∷ more) back)) run) in
-    let all = stays_from first.ckpt call (update_of first.op) (after (last front) l) more (lawful (last front) l inv due).1 (keeps_history (last front) l inv history allowed due) then.2 first.stay in
+    let longer = append_assoc front (l ∷ []) more in
+    let through = subst IsRun (sym longer) (run_front log (front ++ l ∷ more) back (is ∙ sym (append_assoc front (l ∷ more) back)) run) in
+    -- and at every time from then on
+    let all = subst (λ (log : List Label). Stays first.ckpt call (update_of first.op) (last log)) longer (along (λ log m. Stays first.ckpt call (update_of first.op) m)
+    (λ front l before allowed due stay. let (inv, history) = run_history front before in after_stays first.ckpt call (update_of first.op) (last front) stay inv history.bare l allowed) (front ++ l ∷ []) more through (subst (Stays first.ckpt call (update_of first.op)) (sym (last-push front l)) first.stay)) in
     record {
       op = first.op;
       asks = first.asks;
@@ -562,5 +550,5 @@ acknowledged_stay log run front more back l call is acks =
       begun = first.begun;
       once = λ other k begun. begins_once front before call first.op other (Some first.ckpt) k first.begun begun;
       named = first.named;
-      on_its = subst (λ (m : Machine). IsOnItsReplicas m first.ckpt call (update_of first.op)) (sym (last_from-append _ front (l ∷ more))) all.its;
+      on_its = all.its;
     }

@@ -86,7 +86,7 @@ none_all true weak ask kind change is = absurd (cc is)
 
 -- the active is complete
 pub active_complete : (m : Machine) (shapes : ℕ → Shape) (k : ℕ) (e : Entry) (r : ℕ) → InvariantIn shapes m → entry_of k m.cluster.entries ≡ Some e → e.making ≡ None → e.active ≡ Some r → IsCompleteOn e r
-active_complete m shapes k e r inv found made active = active_by-complete (is_collocated e.attributes) e.complete e.active (subst (IsGoodIn m k (shapes k) e) made (inv.entries k e found)).active r active
+active_complete m shapes k e r inv found made active = active_by-complete (is_collocated e.attributes) (is_all e.attributes) e.complete e.active (subst (IsGoodIn m k (shapes k) e) made (inv.entries k e found)).active r active
 
 -- its entry, and its replica on its active, where these marks stand if updates go there alone
 pub record ActiveOf (m : Machine) (marks : Option Marked) (k : ℕ) : Type 0 where

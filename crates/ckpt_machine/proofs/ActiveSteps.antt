@@ -4,40 +4,31 @@ use Rattle.std.specs.Prelude.{is_some, IsSomeAnd}
 use Rattle.std.proofs.lemmas.Bool.{eqb-true, eq-eqb}
 use Rattle.std.proofs.lemmas.Option.{same_Some}
 use Rattle.ckpt_types.specs.declared.identities.CallId.{CallId}
+use Rattle.ckpt_types.specs.declared.identities.Who.{Who}
 use Rattle.weak_marks.specs.Marks.{Marked}
-use Rattle.cluster_record.specs.declared.calls.UpdatePhase.{UpdatePhase}
-use Rattle.cluster_record.specs.declared.calls.UpdatePhase.TheVariants.{Staging, Committing}
 use Rattle.cluster_record.specs.declared.entries.Entry.{Entry}
 use Rattle.cluster_record.specs.DueActive.{ActiveState}
-use Rattle.cluster_record.specs.DueUpdate.{UpdateState}
 use Rattle.cluster_record.specs.Places.{put, put2}
 use Rattle.cluster_record.specs.RecordState.{entry_of}
 use Rattle.ckpt_machine.specs.Drivers as drivers
-use Rattle.ckpt_machine.specs.InHand.{is_marked_by, IsInHand}
+use Rattle.ckpt_machine.specs.InHand.{is_marked_by, IsDoneIn, IsInHand}
 use Rattle.ckpt_machine.specs.Invariant.{IsMaker, IsGoodIn, IsOfGeneration, InvariantIn}
 use Rattle.ckpt_machine.specs.Machine.{Machine, ReplicaState, CallState, who}
 use Rattle.ckpt_machine.specs.Options.{is_all}
-use Rattle.ckpt_machine.specs.Shape.{Shape, IsCompleteOn, IsApart, IsShapedBy, PhaseFits, is_owner, IsOwner, IsMarker, IsHolder, IsSpread}
+use Rattle.ckpt_machine.specs.Shape.{Shape, IsCompleteOn, IsApart, IsShapedBy, is_owner, IsOwner, IsMarker, IsHolder, IsSpread}
 use Rattle.ckpt_machine.specs.Steps.{driver_of}
 use Rattle.ckpt_machine.proofs.ActiveNode.{active_complete}
 use Rattle.ckpt_machine.proofs.CallsKept.{IsSameCall, same_call-None, apart_from, calls_left}
 use Rattle.ckpt_machine.proofs.OnComplete.{present_generation, put_complete}
 use Rattle.ckpt_machine.proofs.OptionLemmas.{IsSomeAnd-from}
-use Rattle.ckpt_machine.proofs.OtherCalls.{LooksAlike, LooksLater-refl, making_still, IsInHand-alike, IsIn-apart, IsOwner-alike, IsGoodIn-alike}
+use Rattle.ckpt_machine.proofs.Lives.{LivesOn, lives_on-one, lives_on-fewer}
+use Rattle.ckpt_machine.proofs.OtherCalls.{LooksAlike, LooksLater-refl, making_still, IsInHand-alike, IsIn-apart, IsGoodIn-alike}
 use Rattle.ckpt_machine.specs.Whose.{put_who, same_who}
 use Rattle.ckpt_machine.proofs.Whose.{put_who-cases, put_who-other, apart_states}
 
 -- the same checkpoint with other marks
 abbrev pub marked_so : Shape → Option Marked → Shape
 marked_so sh marks = record sh { marks = marks }
-
--- the owners of its slots are in the phases in which they were
-PhaseFits-marked : (sh : Shape) (marks : Option Marked) (z : CallState) (u : UpdateState) (ph : UpdatePhase) → PhaseFits sh z u ph → PhaseFits (marked_so sh marks) z u ph
-PhaseFits-marked sh marks z u Staging fits = record { origin = fits.origin; update = fits.update; moment = fits.moment; undone = fits.undone }
-PhaseFits-marked sh marks z u Committing fits = record { origin = fits.origin; update = fits.update; is_done = fits.is_done }
-
-IsOwner-marked : (m : Machine) (k : ℕ) (sh : Shape) (marks : Option Marked) (d : CallId) → IsOwner m k sh d → IsOwner m k (marked_so sh marks) d
-IsOwner-marked m k sh marks d own = record { state = own.state; in_hand = own.in_hand; call_is = own.call_is; driver = own.driver; driver_is = own.driver_is; ckpt = own.ckpt; phase = PhaseFits-marked sh marks own.state own.driver own.driver.phase own.phase }
 
 module _ (m : Machine) (shapes : ℕ → Shape) (inv : InvariantIn shapes m) (s : CallState) (a : ActiveState) (held : m.in_hand (who s) ≡ Some s) (is : driver_of s ≡ drivers.Active a) where
   -- ---- other calls
@@ -70,8 +61,8 @@ module _ (m : Machine) (shapes : ℕ → Shape) (inv : InvariantIn shapes m) (s 
   with_step f o = record m { replicas = f; in_hand = put_who m.in_hand (who s) o }
 
   -- another checkpoint is as it was
-  IsGoodIn-other : (f : ℕ → ℕ → Option ReplicaState) (o : Option CallState) → ((j q : ℕ) → (j == a.ckpt) ≡ false → f j q ≡ m.replicas j q) → (j : ℕ) (sh : Shape) (e : Entry) (maker : Option CallId) → (j == a.ckpt) ≡ false → IsGoodIn m j sh e maker → IsGoodIn (with_step f o) j sh e maker
-  IsGoodIn-other f o stays j sh e maker other good = IsGoodIn-alike m (with_step f o) j sh e (λ q there. stays j q other)
+  IsGoodIn-other : (f : ℕ → ℕ → Option ReplicaState) (o : Option CallState) → LivesOn m (with_step f o) → ((j q : ℕ) → (j == a.ckpt) ≡ false → f j q ≡ m.replicas j q) → (j : ℕ) (sh : Shape) (e : Entry) (maker : Option CallId) → (j == a.ckpt) ≡ false → IsGoodIn m j sh e maker → IsGoodIn (with_step f o) j sh e maker
+  IsGoodIn-other f o lives stays j sh e maker other good = IsGoodIn-alike m (with_step f o) j lives sh e (λ q there. stays j q other)
       (λ d own. put_who-other m.in_hand (who s) o (who own.state) (owner_other j sh d own)) (λ marks own. put_who-other m.in_hand (who s) o (who own.state) (marker_other j marks other own)) (λ active d own. put_who-other m.in_hand (who s) o (who own.state) (holder_other j active d own)) (λ d own. put_who-other m.in_hand (who s) o (who own.state) (maker_other j d own)) maker good
 
   -- ---- its checkpoint is gone, and it ends
@@ -79,24 +70,31 @@ module _ (m : Machine) (shapes : ℕ → Shape) (inv : InvariantIn shapes m) (s 
   pub gone_ends : entry_of a.ckpt m.cluster.entries ≡ None → InvariantIn shapes (record m { in_hand = put_who m.in_hand (who s) None })
   gone_ends gone = record {
     up = inv.up;
+    first_up = inv.first_up;
     none_live = inv.none_live;
     rises = inv.rises;
     up_to = inv.up_to;
     swept = inv.swept;
-    entries = λ j e found. IsGoodIn-other m.replicas None (λ j q other. refl) j (shapes j) e e.making (apart j e found (j == a.ckpt) refl) (inv.entries j e found);
+    entries = λ j e found. IsGoodIn-other m.replicas None (lives_on-fewer m (record m { in_hand = put_who m.in_hand (who s) None }) shapes shapes inv (λ d. refl) refl refl hands_left was_held) (λ j q other. refl) j (shapes j) e e.making (apart j e found (j == a.ckpt) refl) (inv.entries j e found);
     replicas = inv.replicas;
     reserves = inv.reserves;
     handles = inv.handles;
     rest = inv.rest;
     clients = inv.clients;
     places = inv.places;
-    hands = λ b z left. elim (put_who-cases m.in_hand (who s) None b z left) [
-      | inl here ↦ absurd (let w : None ≡ Some z = here.1 in cc w)
-      | inr other ↦ (let was = inv.hands b z other.1 in record { whose = was.whose; client = was.client; number = was.number; built = was.built; driven = was.driven; live = was.live; here = IsIn-apart m shapes m.next m.pending (put_who m.in_hand (who s) None) z (driver_of z) was.here })
-    ];
+    hands = hands_left;
     calls = calls_left m.in_hand m.pending m.next inv.calls s held None (same_call-None s);
   }
     where
+      was_held : (b : Who) (z : CallState) → put_who m.in_hand (who s) None b ≡ Some z → m.in_hand b ≡ Some z
+      was_held b z left = elim (put_who-cases m.in_hand (who s) None b z left) [
+        | inl here ↦ absurd (let w : None ≡ Some z = here.1 in cc w)
+        | inr other ↦ other.1
+      ]
+
+      hands_left : (b : Who) (z : CallState) → put_who m.in_hand (who s) None b ≡ Some z → IsInHand (record m { in_hand = put_who m.in_hand (who s) None }) shapes b z
+      hands_left b z left = let was = inv.hands b z (was_held b z left) in record { whose = was.whose; client = was.client; number = was.number; built = was.built; driven = was.driven; live = was.live; home = was.home; here = IsIn-apart m shapes m.next m.pending (put_who m.in_hand (who s) None) z (driver_of z) was.here }
+
       apart : (j : ℕ) (e : Entry) → entry_of j m.cluster.entries ≡ Some e → (b : Bool) → (j == a.ckpt) ≡ b → (j == a.ckpt) ≡ false
       apart j e found false other = other
       apart j e found true same = absurd (let w : None ≡ Some e = sym gone ∙ ap (λ n. entry_of n m.cluster.entries) (sym (eqb-true j a.ckpt same)) ∙ found in cc w)
@@ -130,18 +128,24 @@ module _ (m : Machine) (shapes : ℕ → Shape) (inv : InvariantIn shapes m) (s 
           | false ↦ λ old. old
         ] (subst (Has (m.replicas a.ckpt q) (shapes a.ckpt) q) (λ i. (alone i, active i)) before)))
 
+    -- nothing is staged on its replicas
+    no_slot : {P : Type 0} → (q : ℕ) (d : CallId) → (shapes a.ckpt).owners q ≡ Some d → P
+    no_slot q d owns = absurd (let w : true ≡ false = sym (was.all q d owns) ∙ alone in cc w)
+
     spread_then : ((w : Marked) → marks ≡ Some w → IsMarker then_machine a.ckpt w) → IsSpread then_machine a.ckpt (marked_so (shapes a.ckpt) marks) e
     spread_then marked = record {
       nodes = was.nodes;
       some = was.some;
+      up = was.up;
       active = was.active;
       replicas = λ q there. replicas_then q (was.replicas q there);
       fits = was.fits;
+      all = was.all;
       complete = was.complete;
       lowest = was.lowest;
-      owned = λ q d owns.
-          let own = was.owned q d owns in
-          IsOwner-marked then_machine a.ckpt (shapes a.ckpt) marks d (IsOwner-alike m then_machine a.ckpt (shapes a.ckpt) d own (put_who-other m.in_hand (who s) o (who own.state) (owner_other a.ckpt (shapes a.ckpt) d own)));
+      first = λ q p d below there owns own. no_slot p d owns;
+      owned = λ q d owns. no_slot q d owns;
+      live = was.live;
       led = λ w same. ap is_some active;
       marked = marked;
       held = λ d is. absurd (let w : Some d ≡ None = sym is ∙ no_hold in cc w);
@@ -155,6 +159,7 @@ module _ (m : Machine) (shapes : ℕ → Shape) (inv : InvariantIn shapes m) (s 
     looks_then leaves z other = record {
       up = λ r up. up;
       lives = refl;
+      home = refl;
       handle = λ there. there;
       making = λ v at. making_still m then_machine z v (λ w at. record { there = at.there; declares = at.declares; nodes = at.nodes; reserved = at.reserved; only = at.only; within = at.within }) at;
       made = λ k was. was;
@@ -167,12 +172,17 @@ module _ (m : Machine) (shapes : ℕ → Shape) (inv : InvariantIn shapes m) (s 
         | true ↦ λ same. leaves z.call other ∙ ap (λ n. is_marked_by z.call (shapes n).marks) (sym (eqb-true j a.ckpt same))
         | false ↦ λ same. refl
       ] refl;
+      done = λ j was. elim (j == a.ckpt) as (λ b. (j == a.ckpt) ≡ b → IsDoneIn (shapes j) z → IsDoneIn (cond b (marked_so (shapes a.ckpt) marks) (shapes j)) z) [
+        | true ↦ λ same done. let here = subst (λ n. IsDoneIn (shapes n) z) (eqb-true j a.ckpt same) done in record { free = here.free; under = here.under }
+        | false ↦ λ same done. done
+      ] refl;
     }
 
     -- the invariant holds after it, where the marks that stand then are of a call in hand, and what is left of the call is where its steps have led it
     pub active_keeps : LeavesMarks → IsSameCall s o → ((w : Marked) → marks ≡ Some w → IsMarker then_machine a.ckpt w) → ((z : CallState) → o ≡ Some z → IsInHand then_machine then_shapes (who s) z) → InvariantIn then_shapes then_machine
     active_keeps leaves same marked own = record {
       up = inv.up;
+      first_up = inv.first_up;
       none_live = inv.none_live;
       rises = inv.rises;
       up_to = inv.up_to;
@@ -184,19 +194,25 @@ module _ (m : Machine) (shapes : ℕ → Shape) (inv : InvariantIn shapes m) (s 
       rest = inv.rest;
       clients = inv.clients;
       places = inv.places;
-      hands = λ b z there. elim (put_who-cases m.in_hand (who s) o b z there) [
-        | inl here ↦ subst (λ c. IsInHand then_machine then_shapes c z) (sym here.0) (own z here.1)
-        | inr other ↦ (
-            let was = inv.hands b z other.1 in
-            IsInHand-alike m then_machine shapes then_shapes z (looks_then leaves z (apart_from m.in_hand m.pending m.next inv.calls s held b z other.1 other.0)) b (λ live. live) was.number was)
-      ];
+      hands = hands_then;
       calls = calls_left m.in_hand m.pending m.next inv.calls s held o same;
     }
       where
+        hands_then : (b : Who) (z : CallState) → put_who m.in_hand (who s) o b ≡ Some z → IsInHand then_machine then_shapes b z
+        hands_then b z there = elim (put_who-cases m.in_hand (who s) o b z there) [
+          | inl here ↦ subst (λ c. IsInHand then_machine then_shapes c z) (sym here.0) (own z here.1)
+          | inr other ↦ (
+              let was = inv.hands b z other.1 in
+              IsInHand-alike m then_machine shapes then_shapes z (looks_then leaves z (apart_from m.in_hand m.pending m.next inv.calls s held b z other.1 other.0)) b (λ live. live) was.number was)
+        ]
+
+        lives : LivesOn m then_machine
+        lives = lives_on-one m then_machine shapes then_shapes inv (λ d. refl) refl refl hands_then s held o same (λ w. refl)
+
         by_test : (j : ℕ) (f : Entry) → entry_of j m.cluster.entries ≡ Some f → (b : Bool) → (j == a.ckpt) ≡ b → IsGoodIn then_machine j (then_shapes j) f f.making
         by_test j f there false other =
             subst (λ sh. IsGoodIn then_machine j sh f f.making) (sym (ap (λ b. cond b (marked_so (shapes a.ckpt) marks) (shapes j)) other))
-            (IsGoodIn-other then_machine.replicas o elsewhere j (shapes j) f f.making other (inv.entries j f there))
+            (IsGoodIn-other then_machine.replicas o lives elsewhere j (shapes j) f f.making other (inv.entries j f there))
         by_test j f there true same =
             let k_is : a.ckpt ≡ j = sym (eqb-true j a.ckpt same) in
             let e_is : e ≡ f = same_Some e f (sym found ∙ ap (λ n. entry_of n m.cluster.entries) k_is ∙ there) in

@@ -255,6 +255,7 @@ module _ (m : Machine) (shapes : ℕ → Shape) (inv : InvariantIn shapes m) (ca
       handle = subst (λ (o : Option HandleView). IsSome o) (sym named) refl;
       marks = λ e found. has_no_marks x.id e found (subst (λ o. IfSome o (λ (e : Entry). e.making ≡ None)) found (asked_made op x named).made);
       generation = λ e found. tt;
+      present = λ e found. tt;
     };
     live = λ others. live;
   }
@@ -281,6 +282,7 @@ module _ (m : Machine) (shapes : ℕ → Shape) (inv : InvariantIn shapes m) (ca
           client = refl;
           within = client_within call.actor client;
           node = node_up live;
+          home = refl;
           asks = record { place = place; flags = flags; timeout = timeout; asks = on.is };
           named = (or_parts (name_is_bad name) (timeout_is_bad timeout) names).0;
           declared = attributes_are_bad-false flags a attributes;
@@ -396,7 +398,7 @@ module _ (m : Machine) (shapes : ℕ → Shape) (inv : InvariantIn shapes m) (ca
         let goes = begun_goes end call op (kept_with h) z there in
         let first = starts op (asked op) h (record { is = refl; may = is.may; passed = begun_passed m call op end details is goes; named = refl }) in
         subst (IsBeginning m shapes inv call number (word_of_op op)) (same_Some (state_with op h first.driver) z (sym (driven_begun end call op (kept_with h) first.driver goes first.driven) ∙ there))
-        (record { call_is = refl; word_is = refl; built = is.built; driven = first.driven; live = first.live; at = first.at })
+        (record { call_is = refl; word_is = refl; built = is.built; driven = first.driven; live = first.live; home = λ others. refl; at = first.at })
 
     -- all is so of the calls in hand, and of the call that begins
     begun_holds : InvariantIn shapes (begun_call m call op end)

@@ -16,17 +16,17 @@ use Rattle.call_dispatch.specs.PendingCalls.{PendingCalls}
 use Rattle.client_handles.specs.declared.handle_view.HandleView.{HandleView}
 use Rattle.cluster_record.specs.declared.clients.LiveClient.{LiveClient}
 use Rattle.cluster_record.specs.declared.entries.Entry.{Entry}
-use Rattle.cluster_record.specs.Calls.{IsClient, same_actor, put_actor}
+use Rattle.cluster_record.specs.Calls.{IsClient, client_of, same_actor, put_actor}
 use Rattle.cluster_record.specs.DueUpdate.{update_begun}
 use Rattle.cluster_record.specs.LookUps.{declared_in}
 use Rattle.cluster_record.specs.Places.{find_key}
-use Rattle.cluster_record.specs.RecordState.{RecordState, entry_of, client_key, is_live, is_live_client, is_live_from, is_up}
+use Rattle.cluster_record.specs.RecordState.{RecordState, entry_of, home_of, client_key, is_live, is_live_client, is_live_from, is_up}
 use Rattle.cluster_record.specs.StepDone.{has}
 use Rattle.ckpt_types.specs.Asks.{asked, IsBuilt}
 use Rattle.ckpt_types.specs.Asks as asks
 use Rattle.ckpt_machine.specs.Drivers as drivers
 use Rattle.ckpt_machine.specs.Entries.{WasMade}
-use Rattle.ckpt_machine.specs.InHand.{is_enter, IsInPlace, IsUpdateIn}
+use Rattle.ckpt_machine.specs.InHand.{is_enter, IsInPlace, IsInHand, IsUpdateIn}
 use Rattle.ckpt_machine.specs.Invariant.{AreCalls, IsGoodClient, IsGoodIn, InvariantIn}
 use Rattle.ckpt_machine.specs.Machine.{Machine, CallState, who}
 use Rattle.ckpt_machine.specs.Options.{is_all, if_declared}
@@ -35,6 +35,7 @@ use Rattle.ckpt_machine.specs.Steps.{driver_of, IsDriven, started_call, kept_at_
 use Rattle.ckpt_machine.specs.Whose.{put_who}
 use Rattle.ckpt_machine.proofs.Actors.{same_actor-true}
 use Rattle.ckpt_machine.proofs.NodeLists.{has-none, slice_index-replicate}
+use Rattle.ckpt_machine.proofs.Lives.{LivesOn, owner_in}
 use Rattle.ckpt_machine.proofs.OtherCalls.{IsIn-apart, IsGoodIn-apart}
 use Rattle.ckpt_machine.proofs.Owning.{is_owner-true}
 use Rattle.ckpt_machine.proofs.ReplicaSteps.{put_actor-here}
@@ -99,17 +100,26 @@ module _ (m : Machine) (shapes : ℕ → Shape) (inv : InvariantIn shapes m) (ca
     pub built : IsBuilt z.op
     pub driven : IsDriven z
     pub live : is_enter (driver_of z) ≡ false → is_live m.cluster z.call ≡ true
+    pub home : is_enter (driver_of z) ≡ false → z.kept.node ≡ home_of (client_of z.call) m.cluster
     pub at : IsInPlace m shapes z (driver_of z)
+
+  -- a dead call is of a lower number than one that begins
+  begun_higher : (d : CallId) (z : CallState) → z.call ≡ call → d.number < m.next d.actor → z.call.actor ≡ d.actor → d.number < z.call.number
+  begun_higher d z call_is below actor =
+      let of_call : z.call.number ≡ m.next z.call.actor = subst (λ (c : CallId). c.number ≡ m.next c.actor) (sym call_is) number in
+      let at : m.next z.call.actor ≡ m.next d.actor = ap m.next actor in
+      omega (arith, of_call, at, below)
 
   -- the invariant holds after it, where it holds of the call that begins
   pub begun_keeps : (word : OpWord) (pending : ActorName → PendingCalls) (o : Option CallState) → m.in_hand (stepped_as call word) ≡ None → IsClient call.actor → AreCalls (put_who m.in_hand (stepped_as call word) o) pending then_next → ((z : CallState) → o ≡ Some z → IsBeginning word z) → InvariantIn shapes (then_machine (stepped_as call word) pending o)
   begun_keeps word pending o idle client calls own = record {
     up = inv.up;
+    first_up = inv.first_up;
     none_live = inv.none_live;
     rises = inv.rises;
     up_to = inv.up_to;
     swept = inv.swept;
-    entries = λ k e found. IsGoodIn-apart m shapes then_next pending (put_who m.in_hand w o) (λ k sh d own. stays own.state own.in_hand) (λ k marks own. stays own.state own.in_hand) (λ k active d own. stays own.state own.in_hand) (λ k d own. stays own.state own.in_hand)
+    entries = λ k e found. IsGoodIn-apart m shapes then_next pending (put_who m.in_hand w o) lives (λ k sh d own. stays own.state own.in_hand) (λ k marks own. stays own.state own.in_hand) (λ k active d own. stays own.state own.in_hand) (λ k d own. stays own.state own.in_hand)
         k (shapes k) e e.making (inv.entries k e found);
     replicas = inv.replicas;
     reserves = inv.reserves;
@@ -117,18 +127,7 @@ module _ (m : Machine) (shapes : ℕ → Shape) (inv : InvariantIn shapes m) (ca
     rest = inv.rest;
     clients = λ c. IfSome-rises c (find_key client_key c m.cluster.clients) (inv.clients c);
     places = inv.places;
-    hands = λ v z there. elim (put_who-cases m.in_hand w o v z there) [
-      | inl here ↦ (let mine = own z here.1 in record {
-        whose = (λ i. stepped_as (mine.call_is i) (mine.word_is i)) ∙ sym here.0;
-        client = subst IsClient (sym (ap (λ (c : CallId). c.actor) mine.call_is)) client;
-        number = subst (λ (c : CallId). c.number < then_next c.actor) (sym mine.call_is) (subst (λ n. call.number < n) (sym (put_actor-here m.next call.actor (m.next call.actor + 1))) (omega (arith, number)));
-        built = mine.built;
-        driven = mine.driven;
-        live = mine.live;
-        here = IsIn-apart m shapes then_next pending (put_who m.in_hand w o) z (driver_of z) mine.at;
-      })
-      | inr other ↦ (let was = inv.hands v z other.1 in record { whose = was.whose; client = was.client; number = next_rises z.call.actor z.call.number was.number; built = was.built; driven = was.driven; live = was.live; here = IsIn-apart m shapes then_next pending (put_who m.in_hand w o) z (driver_of z) was.here })
-    ];
+    hands = hands_then;
     calls = calls;
   }
     where
@@ -138,6 +137,35 @@ module _ (m : Machine) (shapes : ℕ → Shape) (inv : InvariantIn shapes m) (ca
       -- what is in hand stays so
       stays : (z : CallState) → m.in_hand (who z) ≡ Some z → put_who m.in_hand w o (who z) ≡ m.in_hand (who z)
       stays z held = put_who-other m.in_hand w o (who z) (held_by_other m.in_hand w idle (who z) z held)
+
+      hands_then : (v : Who) (z : CallState) → put_who m.in_hand w o v ≡ Some z → IsInHand (then_machine w pending o) shapes v z
+      hands_then v z there = elim (put_who-cases m.in_hand w o v z there) [
+        | inl here ↦ (let mine = own z here.1 in record {
+          whose = (λ i. stepped_as (mine.call_is i) (mine.word_is i)) ∙ sym here.0;
+          client = subst IsClient (sym (ap (λ (c : CallId). c.actor) mine.call_is)) client;
+          number = subst (λ (c : CallId). c.number < then_next c.actor) (sym mine.call_is) (subst (λ n. call.number < n) (sym (put_actor-here m.next call.actor (m.next call.actor + 1))) (omega (arith, number)));
+          built = mine.built;
+          driven = mine.driven;
+          live = mine.live;
+          home = mine.home;
+          here = IsIn-apart m shapes then_next pending (put_who m.in_hand w o) z (driver_of z) mine.at;
+        })
+        | inr other ↦ (let was = inv.hands v z other.1 in record { whose = was.whose; client = was.client; number = next_rises z.call.actor z.call.number was.number; built = was.built; driven = was.driven; live = was.live; home = was.home; here = IsIn-apart m shapes then_next pending (put_who m.in_hand w o) z (driver_of z) was.here })
+      ]
+
+      lives : LivesOn m (then_machine w pending o)
+      lives = record {
+        dead = λ d dead. record {
+          begun = next_rises d.actor d.number dead.begun;
+          gone = dead.gone;
+          before = λ v z at actor enter. elim (put_who-cases m.in_hand w o v z at) [
+            | inl here ↦ begun_higher d z (own z here.1).call_is dead.begun actor
+            | inr other ↦ dead.before v z other.1 actor enter
+          ];
+        };
+        owners = λ k sh d own. ap (is_live m.cluster) (sym own.call_is) ∙ (hands_then (who own.state) own.state own.in_hand).live (ap is_enter own.driver_is);
+        up = λ r there. refl;
+      }
 
   -- it is live, where its client is
   pub begun_live : (c : ℕ) → call.actor ≡ Client c → is_live_client c m.cluster ≡ true → is_live m.cluster call ≡ true
@@ -155,7 +183,8 @@ module _ (m : Machine) (shapes : ℕ → Shape) (inv : InvariantIn shapes m) (ca
       by_test false is_not = is_not
       by_test true owns =
           let good : IsSpread m k (shapes k) e = subst (IsGoodIn m k (shapes k) e) none (inv.entries k e found) in
-          let own = good.owned r call (is_owner-true call ((shapes k).owners r) owns) in
+          let owner = is_owner-true call ((shapes k).owners r) owns in
+          let own = owner_in m k (shapes k) call (good.owned r call owner) (good.live r call owner) in
           absurd (is_new (who own.state) own.state own.in_hand own.call_is)
 
   all_there : (o : Option Entry) → if_declared is_all (declared_in o) ≡ true → IfSome o (λ e. is_all e.attributes ≡ true)
@@ -176,5 +205,6 @@ module _ (m : Machine) (shapes : ℕ → Shape) (inv : InvariantIn shapes m) (ca
     nodes = refl;
     owns = λ e found r there. ap (has (slice_index e.complete r)) (slice_index-replicate 8 r) ∙ has-none (slice_index e.complete r) there
         ∙ sym (owns_nothing h.id e r found (subst (λ o. IfSome o (λ (e : Entry). e.making ≡ None)) found made.made));
+    keeps = λ e found. tt;
     some = λ e found. tt;
   }

@@ -1,6 +1,5 @@
 -- Each call in hand began in the log before: with its operation, and on the checkpoint that it keeps.
 use Rattle.std.proofs.Common.{◌≡◌, ℕ, inl, inr, List, [], ◌∷◌, ◌++◌, Option, Some, None, Bool, true, false, cond, refl, sym, ap, subst, ◌∙◌, append_assoc}
-use Rattle.std.proofs.lemmas.List.{append-nil}
 use Rattle.std.proofs.lemmas.Option.{same_Some}
 use Rattle.std.specs.Option.{option_map}
 use Rattle.ckpt_machine.proofs.Dropped.{held_as}
@@ -20,14 +19,12 @@ use Rattle.ckpt_machine.specs.Acknowledged.{HasBegun}
 use Rattle.ckpt_machine.specs.Guards.{Allowed, Row}
 use Rattle.ckpt_machine.specs.Invariant.{Invariant}
 use Rattle.ckpt_machine.specs.Machine.{Machine, Snapshot, CallState, who}
-use Rattle.ckpt_machine.specs.Runs.{last, IsRunFrom, IsRun}
+use Rattle.ckpt_machine.specs.Runs.{last, IsRun}
 use Rattle.cluster_record.specs.StepDone.{StepDone}
 use Rattle.ckpt_machine.specs.Steps.{IsDue, call_begun, kept_behind, changed, step_of, after}
-use Rattle.ckpt_machine.proofs.Copying.{after_pull, after_put}
-use Rattle.ckpt_machine.proofs.Histories.{HasHistory, follows, keeps_history, history_empty}
-use Rattle.ckpt_machine.proofs.Lawful.{lawful}
-use Rattle.ckpt_machine.proofs.Runs.{last-push}
-use Rattle.ckpt_machine.proofs.Start.{invariant_empty}
+use Rattle.ckpt_machine.proofs.Quiet.{quiet}
+use Rattle.ckpt_machine.proofs.Histories.{run_history, HasHistory, follows}
+use Rattle.ckpt_machine.proofs.Runs.{along}
 use Rattle.ckpt_machine.proofs.Starting.{first_kept, begun_as}
 
 -- each call that this state has in hand began in the log
@@ -100,24 +97,8 @@ module _ (log : List Label) (inv : Invariant (last log)) (history : HasHistory (
         | inl own ↦ left_same (log ++ labels.Stepped call op verb k r reply end details ∷ []) s behind.steps behind.created behind.snapshot end z (longer (labels.Stepped call op verb k r reply end details) s held) own.1
         | inr other ↦ longer (labels.Stepped call op verb k r reply end details) z (then.in_hand (who z) z other.1)
       ]
-  after_began (labels.Word by word said) allowed due s held = longer (labels.Word by word said) s held
-  after_began (labels.Nodes n) allowed due s held = longer (labels.Nodes n) s held
-  after_began (labels.Moved t) allowed due s held = longer (labels.Moved t) s held
-  after_began (labels.Shown k replicas) allowed due s held = longer (labels.Shown k replicas) s held
-  after_began (labels.Pulled k reply) allowed due s held = after_pull (AllBegan (log ++ labels.Pulled k reply ∷ [])) (last log) k reply due (longer (labels.Pulled k reply)) (λ x from none s held. longer (labels.Pulled k reply) s held) s held
-  after_began (labels.Put k r reply) allowed due s held = after_put (AllBegan (log ++ labels.Put k r reply ∷ [])) (last log) k r reply (longer (labels.Put k r reply)) (λ z x is on s held. longer (labels.Put k r reply) s held) s held
-  after_began l allowed due s held = absurd due
-
-began_from : (log more : List Label) → Invariant (last log) → HasHistory (last log) → AllBegan log (last log) → IsRunFrom (last log) more → AllBegan (log ++ more) (last (log ++ more))
-began_from log [] inv history began run = subst (λ (xs : List Label). AllBegan xs (last xs)) (sym (append-nil log)) began
-began_from log (l ∷ more) inv history began run =
-    let then : after (last log) l ≡ last (log ++ l ∷ []) = sym (last-push log l) in
-    subst (λ (xs : List Label). AllBegan xs (last xs)) (append_assoc log (l ∷ []) more) (began_from (log ++ l ∷ []) more
-    (subst Invariant then (lawful (last log) l inv run.1).1)
-    (subst HasHistory then (keeps_history (last log) l inv history run.0 run.1))
-    (subst (AllBegan (log ++ l ∷ [])) then (after_began log inv history began l run.0 run.1))
-    (subst (λ m. IsRunFrom m more) then run.2))
+  after_began l allowed due s held = longer l s (ap (λ f. f (who s)) (sym (quiet (last log) l tt due).in_hand) ∙ held)
 
 -- so in a run
 pub all_began : (log : List Label) → IsRun log → (s : CallState) → (last log).in_hand (who s) ≡ Some s → HasBegun log s.call s.op s.kept.ckpt
-all_began log run = began_from [] log invariant_empty history_empty (λ s held. absurd (cc held)) run
+all_began log run = along AllBegan (λ front l before allowed due began. let (inv, history) = run_history front before in after_began front inv history began l allowed due) [] log run (λ s held. absurd (cc held))

@@ -17,16 +17,15 @@ use Rattle.ckpt_machine.specs.Acknowledged.{HasBegun}
 use Rattle.ckpt_machine.specs.Guards.{Allowed, Row}
 use Rattle.ckpt_machine.specs.Invariant.{Invariant}
 use Rattle.ckpt_machine.specs.Machine.{Machine, who}
-use Rattle.ckpt_machine.specs.Runs.{last_from, last, IsRunFrom, IsRun}
+use Rattle.ckpt_machine.specs.Runs.{last, IsRun}
 use Rattle.ckpt_machine.specs.Steps.{IsDue, asked_handle, step_of, after}
 use Rattle.ckpt_machine.specs.Tables.{ckpt_of_handle}
 use Rattle.ckpt_machine.proofs.Actors.{same_actor-true}
 use Rattle.ckpt_machine.proofs.BegunBefore.{all_began, begun_more}
-use Rattle.ckpt_machine.proofs.Copying.{after_pull, after_put}
-use Rattle.ckpt_machine.proofs.Histories.{HasHistory, follows, keeps_history, run_history}
-use Rattle.ckpt_machine.proofs.Lawful.{lawful}
+use Rattle.ckpt_machine.proofs.Quiet.{quiet}
+use Rattle.ckpt_machine.proofs.Histories.{HasHistory, follows, run_history}
 use Rattle.ckpt_machine.proofs.ReplicaSteps.{put_actor-here}
-use Rattle.ckpt_machine.proofs.Runs.{last_from-append, run_before, run_front, IsRunFrom-back}
+use Rattle.ckpt_machine.proofs.Runs.{along, last-push, run_before, run_front}
 
 -- ---- the number of an actor's next call
 
@@ -48,20 +47,7 @@ next_after m (labels.Stepped call op verb k r reply end details) inv history all
     let then = follows m inv history s held (record { verb = verb; ckpt = k; node = r; reply = reply; end = end; details = details }) (subst (λ z. Row m z verb _) same allowed.row) in
     let it : (after m (labels.Stepped call op verb k r reply end details)).next a ≡ m.next a = ap (λ o. (step_of m o verb k r reply end).next a) due.in_hand ∙ then.next a in
     omega (arith, it)
-next_after m (labels.Word by word said) inv history allowed due a = omega arith
-next_after m (labels.Nodes n) inv history allowed due a = omega arith
-next_after m (labels.Moved t) inv history allowed due a = omega arith
-next_after m (labels.Shown k replicas) inv history allowed due a = omega arith
-next_after m (labels.Pulled k reply) inv history allowed due a = after_pull (λ (n : Machine). m.next a ≤ n.next a) m k reply due (omega arith) (λ x from none. omega arith)
-next_after m (labels.Put k r reply) inv history allowed due a = after_put (λ (n : Machine). m.next a ≤ n.next a) m k r reply (omega arith) (λ s x is on. omega arith)
-next_after m l inv history allowed due a = absurd due
-
-next_from : (m : Machine) (log : List Label) → Invariant m → HasHistory m → IsRunFrom m log → (a : ActorName) → m.next a ≤ (last_from m log).next a
-next_from m [] inv history run a = omega arith
-next_from m (l ∷ log) inv history run a =
-    let first : m.next a ≤ (after m l).next a = next_after m l inv history run.0 run.1 a in
-    let rest : (after m l).next a ≤ (last_from (after m l) log).next a = next_from (after m l) log (lawful m l inv run.1).1 (keeps_history m l inv history run.0 run.1) run.2 a in
-    omega (arith, first, rest)
+next_after m l inv history allowed due a = let same = ap (λ (f : ActorName → ℕ). f a) (quiet m l tt due).next in omega (arith, same)
 
 -- ---- a call that has begun
 
@@ -79,14 +65,17 @@ module _ (log before behind : List Label) (call : CallId) (op : Op) (end : Optio
   -- and the next one is above it from then on
   passed : call.number < (last log).next call.actor
   passed =
-      let (inv, history) = run_history before until.0 in
-      let rest = IsRunFrom-back _ before (l ∷ behind) (subst IsRun is run) in
+      let log_is : log ≡ (before ++ l ∷ []) ++ behind = is ∙ sym (append_assoc before (l ∷ []) behind) in
       let first : (after (last before) l).next call.actor ≡ (last before).next call.actor + 1 = put_actor-here (last before).next call.actor ((last before).next call.actor + 1) in
-      let then : (after (last before) l).next call.actor ≤ (last_from (after (last before) l) behind).next call.actor =
-      next_from (after (last before) l) behind (lawful (last before) l inv until.2).1 (keeps_history (last before) l inv history until.1 until.2) rest.2 call.actor in
-      let same : (last log).next call.actor ≡ (last_from (after (last before) l) behind).next call.actor = ap (λ (xs : List Label). (last xs).next call.actor) is ∙ ap (λ (m : Machine). m.next call.actor) (last_from-append _ before (l ∷ behind)) in
       let took_it = took in
-      omega (arith, took_it, first, then, same)
+      subst (λ (xs : List Label). call.number < (last xs).next call.actor) (sym log_is) (along (λ log m. call.number < m.next call.actor) rises (before ++ l ∷ []) behind (subst IsRun log_is run)
+      (subst (λ (m : Machine). call.number < m.next call.actor) (sym (last-push before l)) (omega (arith, took_it, first))))
+    where
+      rises : (front : List Label) (l : Label) → IsRun front → Allowed (last front) l → IsDue (last front) l → call.number < (last front).next call.actor → call.number < (after (last front) l).next call.actor
+      rises front l before allowed due below =
+          let (inv, history) = run_history front before in
+          let then : (last front).next call.actor ≤ (after (last front) l).next call.actor = next_after (last front) l inv history allowed due call.actor in
+          omega (arith, below, then)
 
 -- ---- where two labels stand in a log
 

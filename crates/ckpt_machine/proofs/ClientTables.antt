@@ -3,6 +3,7 @@ use Rattle.std.proofs.Common.{◌≡◌, ℕ, ◌+◌, ◌≤◌, length, Some, 
 use Rattle.std.specs.Prelude.{Contains, IsSome}
 use Rattle.ckpt_types.specs.declared.identities.ActorName.{ActorName}
 use Rattle.ckpt_types.specs.declared.identities.ActorName.TheVariants.{Client}
+use Rattle.ckpt_types.specs.declared.identities.Who.{Who}
 use Rattle.ckpt_types.specs.declared.identities.Who.TheVariants.{Actor}
 use Rattle.ckpt_types.specs.Asks.{asked}
 use Rattle.ckpt_types.specs.Limits.{handles_max}
@@ -11,12 +12,14 @@ use Rattle.client_handles.specs.ClientState.{ClientState, NoneLent}
 use Rattle.client_handles.specs.declared.handle_view.HandleView.{HandleView}
 use Rattle.cluster_record.specs.Calls.{same_actor}
 use Rattle.cluster_record.specs.Makings.{makings_of}
+use Rattle.ckpt_machine.specs.InHand.{IsInHand}
 use Rattle.ckpt_machine.specs.Invariant.{IsGoodHandle, InvariantIn}
 use Rattle.ckpt_machine.specs.Machine.{Machine, CallState, who}
 use Rattle.ckpt_machine.specs.Steps.{with_tables}
 use Rattle.ckpt_machine.specs.Tables.{handle_asked}
 use Rattle.ckpt_machine.specs.Shape.{Shape}
 use Rattle.ckpt_machine.proofs.Actors.{same_actor-true}
+use Rattle.ckpt_machine.proofs.Lives.{LivesOn, lives_on-fewer}
 use Rattle.ckpt_machine.proofs.OtherCalls.{LooksAlike, LooksLater-refl, making_still, IsInHand-alike, IsGoodIn-alike}
 use Rattle.ckpt_machine.proofs.ReplicaSteps.{put_actor-same}
 use Rattle.ckpt_machine.proofs.Whose.{stepped_as-plain}
@@ -52,34 +55,43 @@ module _ (m : Machine) (shapes : ℕ → Shape) (inv : InvariantIn shapes m) (a 
   looks_same z at = record {
     up = λ r up. up;
     lives = refl;
+    home = refl;
     handle = by_word (is_async (word_of_op z.op)) refl;
     making = λ o at. making_still m then_machine z o (λ w at. record { there = at.there; declares = at.declares; nodes = at.nodes; reserved = at.reserved; only = at.only; within = at.within }) at;
     made = λ k was. was;
     later = λ k was e found. (e, found, LooksLater-refl z (shapes k).marks e);
     owners = λ k was r. refl;
     marks = λ k was. refl;
+    done = λ k was done. done;
   }
     where
       by_word : (b : Bool) → is_async (word_of_op z.op) ≡ b → IsSome (cond b None (handle_asked (asked z.op) (m.tables z.call.actor))) → IsSome (cond b None (handle_asked (asked z.op) (then_machine.tables z.call.actor)))
       by_word true async none = none
       by_word false plain there = plain_there z at plain there
 
+  hands_then : (w : Who) (z : CallState) → then_machine.in_hand w ≡ Some z → IsInHand then_machine shapes w z
+  hands_then w z held = let was = inv.hands w z held in IsInHand-alike m then_machine shapes shapes z (looks_same z (ap m.in_hand was.whose ∙ held)) w (λ live. live) was.number was
+
+  lives : LivesOn m then_machine
+  lives = lives_on-fewer m then_machine shapes shapes inv (λ d. refl) refl refl hands_then (λ w z held. held)
+
   -- the invariant holds after it, where no iteration is lent then, each handle that it has then is good, and there are no more of them than a client may have
   pub tables_keep : NoneLent (change (m.tables a)) → ((h : HandleView) → Contains (change (m.tables a)).handles h → IsGoodHandle m.cluster a h) → ((c : ℕ) → a ≡ Client c → length (change (m.tables a)).handles + makings_of c m.cluster.entries ≤ handles_max) → InvariantIn shapes then_machine
   tables_keep at_rest good few = record {
     up = inv.up;
+    first_up = inv.first_up;
     none_live = inv.none_live;
     rises = inv.rises;
     up_to = inv.up_to;
     swept = inv.swept;
-    entries = λ k e found. IsGoodIn-alike m then_machine k (shapes k) e (λ r there. refl) (λ d own. refl) (λ marks own. refl) (λ active d own. refl) (λ d own. refl) e.making (inv.entries k e found);
+    entries = λ k e found. IsGoodIn-alike m then_machine k lives (shapes k) e (λ r there. refl) (λ d own. refl) (λ marks own. refl) (λ active d own. refl) (λ d own. refl) e.making (inv.entries k e found);
     replicas = inv.replicas;
     reserves = inv.reserves;
     handles = λ b h. elim (same_actor b a) as (λ t. same_actor b a ≡ t → Contains (cond t (change (m.tables a)) (m.tables b)).handles h → IsGoodHandle m.cluster b h) [ true ↦ λ same among. subst (λ c. IsGoodHandle m.cluster c h) (sym (same_actor-true b a same)) (good h among) | false ↦ λ other among. inv.handles b h among ] refl;
     rest = λ b. elim (same_actor b a) as (λ t. NoneLent (cond t (change (m.tables a)) (m.tables b))) [ true ↦ at_rest | false ↦ inv.rest b ];
     clients = inv.clients;
     places = λ c. elim (same_actor (Client c) a) as (λ t. same_actor (Client c) a ≡ t → length (cond t (change (m.tables a)) (m.tables (Client c))).handles + makings_of c m.cluster.entries ≤ handles_max) [ true ↦ λ same. few c (sym (same_actor-true (Client c) a same)) | false ↦ λ other. inv.places c ] refl;
-    hands = λ w z held. let was = inv.hands w z held in IsInHand-alike m then_machine shapes shapes z (looks_same z (ap m.in_hand was.whose ∙ held)) w (λ live. live) was.number was;
+    hands = hands_then;
     calls = inv.calls;
   }
 

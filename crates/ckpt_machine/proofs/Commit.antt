@@ -12,7 +12,7 @@ use Rattle.cluster_record.specs.declared.calls.UpdatePhase.TheVariants.{Committi
 use Rattle.cluster_record.specs.DueUpdate.{UpdateState, done_if_none}
 use Rattle.cluster_record.specs.Calls.{left, same_call}
 use Rattle.cluster_record.specs.Places.{put, put2}
-use Rattle.cluster_record.specs.RecordState.{entry_of, complete_of}
+use Rattle.cluster_record.specs.RecordState.{entry_of, complete_of, is_live}
 use Rattle.cluster_record.specs.StepDone.{StepDone, done_of, has, last_having}
 use Rattle.node_msgs.specs.declared.steps.Verb.TheVariants as verbs
 use Rattle.node_msgs.specs.declared.steps.StepReply.TheVariants as words
@@ -28,10 +28,12 @@ use Rattle.ckpt_machine.specs.Steps.{driver_of, left_in_hand, kept_behind, creat
 use Rattle.ckpt_machine.specs.Complete.{complete_replicas, replicas_from}
 use Rattle.ckpt_machine.specs.Guards.{HasSlotOrEffect, CommitOk, CommitRow, owns_slot, owned_elsewhere, ends_update}
 use Rattle.ckpt_machine.specs.Shape.{Shape, IsCompleteOn, IsShaped, is_owner, IsOwner, IsSpread, slot_by}
-use Rattle.ckpt_machine.specs.InHand.{is_enter, IsInPlace, IsUpdateIn, IsInHand, OwnsIn, HasSome}
+use Rattle.ckpt_machine.specs.InHand.{is_enter, IsInPlace, IsUpdateIn, IsDoneIn, IsInHand, OwnsIn, HasSome}
 use Rattle.ckpt_machine.specs.Invariant.{IsCompleteAt, InvariantIn, Invariant}
 use Rattle.ckpt_machine.proofs.NodeLists.{elsewhere-is, last_having-None, index-set, index-other, length-slice_set, index-within, had-there, has-none}
 use Rattle.ckpt_machine.proofs.OnComplete.{put_complete}
+use Rattle.ckpt_machine.proofs.HasUpdates.{has_more, has_new}
+use Rattle.ckpt_machine.proofs.Lives.{owner_in}
 use Rattle.ckpt_machine.proofs.ReplicaSteps.{IsMarker-other, one_changed, step_keeps}
 use Rattle.ckpt_machine.proofs.Owning.{never_held, is_owner-here, owner_alone, at, made, on_all, all_is}
 use Rattle.ckpt_machine.proofs.OnAll.{shaped_replicas, by_shape}
@@ -88,7 +90,7 @@ module _ (m : Machine) (shapes : ℕ → Shape) (inv : InvariantIn shapes m) (s 
   within = subst (λ (n : ℕ). r < n) (sym same_length) (index-within e.complete r complete)
 
   own_alone : (q : ℕ) (d : CallId) → z.owners q ≡ Some d → d ≡ s.call
-  own_alone q d owns = owner_alone m u.ckpt z s commits.origin d (spread.owned q d owns)
+  own_alone q d owns = owner_alone m u.ckpt z s commits.origin d (owner_in m u.ckpt z d (spread.owned q d owns) (spread.live q d owns))
 
   abbrev own_slot : Staged
   own_slot = record { owner = s.call; origin = z.origin; update = z.update; moment = z.moment }
@@ -204,6 +206,13 @@ module _ (m : Machine) (shapes : ℕ → Shape) (inv : InvariantIn shapes m) (s 
       by_test first before false other some = some
       by_test first before true same some = absurd (before (let w : q ≡ r = eqb-true q r same in omega (arith, below, w)))
 
+  first_then : (q p : ℕ) (d : CallId) → q < p → IsCompleteOn e q → committed.owners p ≡ Some d → committed.owners q ≡ Some d
+  first_then q p d below there owns = by_owner (committed.owners q) refl (lowest_then q p d below there owns)
+    where
+      by_owner : (o : Option CallId) → committed.owners q ≡ o → IsSome o → committed.owners q ≡ Some d
+      by_owner None none some = absurd (cc some)
+      by_owner (Some c) owned some = owned ∙ ap Some ((owners_left q c owned).2 ∙ sym (owners_left p d owns).2)
+
   IsShaped-committed : (q : ℕ) → IsCompleteOn e q → (o : Option CallId) → z.owners q ≡ o → (y : ReplicaState) → IsShaped z o y → IsShaped committed o y
   IsShaped-committed q full None owns y is = let is_done = done_free q full owns in record {
     slot = is.slot;
@@ -239,12 +248,16 @@ module _ (m : Machine) (shapes : ℕ → Shape) (inv : InvariantIn shapes m) (s 
   spread_then o owned = record {
     nodes = spread.nodes;
     some = spread.some;
+    up = spread.up;
     active = spread.active;
     replicas = λ q there. by_shape e (all_is m shapes inv s u held is e found) committed q ((then_machine o).replicas u.ckpt q) (replicas_then o q there);
     fits = λ q d owns. spread.fits q d (owners_left q d owns).1;
+    all = λ q d owns. all_is m shapes inv s u held is e found;
     complete = λ q d owns. spread.complete q d (owners_left q d owns).1;
     lowest = lowest_then;
-    owned = owned;
+    first = λ q p d below there owns own. first_then q p d below there owns;
+    owned = λ q d owns. inl (owned q d owns);
+    live = λ q d owns. ap (is_live m.cluster) (owners_left q d owns).2 ∙ (inv.hands (who s) s held).live (ap is_enter is);
     led = spread.led;
     marked = λ marks is_some. IsMarker-other m shapes inv s u held is (put2 m.replicas u.ckpt r (Some with_commit)) o u.ckpt marks (spread.marked marks is_some);
     held = λ d is_some. absurd (never_held m shapes inv s u held is e found d is_some);
@@ -256,12 +269,19 @@ module _ (m : Machine) (shapes : ℕ → Shape) (inv : InvariantIn shapes m) (s 
     | false ↦ λ same. refl
   ] refl
 
+  -- what another call has done is under its update
+  done_then : (y : CallState) → y.call ≢ s.call → IsDoneIn z y → IsDoneIn committed y
+  done_then y other done = record {
+    free = has_more y.call (update_of y.op) z.effects (Applied z.origin z.update z.moment ∷ []) (done.under r s.call own (λ same. other (sym same)));
+    under = λ q d owns apart. done.under q d (owners_left q d owns).1 apart;
+  }
+
   keeps_all : (o : Option CallState) → ((q : ℕ) (d : CallId) → committed.owners q ≡ Some d → IsOwner (then_machine o) u.ckpt committed d)
       → IsSameCall s o → ((w : CallState) → o ≡ Some w → IsInHand (then_machine o) (put shapes u.ckpt committed) (who s) w) → Invariant (then_machine o)
   keeps_all o owned same hand = record {
     shapes = put shapes u.ckpt committed;
-    holds = step_keeps m shapes inv s u held is (put2 m.replicas u.ckpt r (Some with_commit)) o committed (one_changed m shapes inv s u held is with_commit r) (refl, keeps_then) same
-        (λ f there none. subst (IsSpread (then_machine o) u.ckpt committed) (same_Some e f (sym found ∙ there)) (spread_then o owned)) hand (made m shapes inv s u held is)
+    holds = step_keeps m shapes inv s u held is (put2 m.replicas u.ckpt r (Some with_commit)) o committed (one_changed m shapes inv s u held is with_commit r) (record { marks = refl; owners = keeps_then; done = done_then }) same
+        (λ lives f there none. subst (IsSpread (then_machine o) u.ckpt committed) (same_Some e f (sym found ∙ there)) (spread_then o owned)) hand (made m shapes inv s u held is)
         (put_complete m.cluster m.replicas u.ckpt r with_commit (subst (IsCompleteAt m.cluster u.ckpt r) (sym with_commit-generation) (inv.replicas u.ckpt r x there)) inv.replicas);
   }
 
@@ -280,7 +300,7 @@ module _ (m : Machine) (shapes : ℕ → Shape) (inv : InvariantIn shapes m) (s 
     driver = then_driver;
     driver_is = driver_then;
     ckpt = refl;
-    phase = record { origin = commits.origin; update = commits.update; is_done = refl };
+    phase = record { origin = commits.origin; update = commits.update; is_done = refl; alone = λ q d owns. (owners_left q d owns).2 };
   }
 
   owns_then : OwnsIn committed s then_driver e
@@ -288,6 +308,13 @@ module _ (m : Machine) (shapes : ℕ → Shape) (inv : InvariantIn shapes m) (s 
     | true ↦ λ same. ap (λ (p : ℕ). has (slice_index e.complete q) (slice_index owned_then p)) (eqb-true q r same) ∙ ap (has (slice_index e.complete q)) (index-set u.owned r 0 within) ∙ has-none (slice_index e.complete q) there
     | false ↦ λ other. ap (has (slice_index e.complete q)) (index-other u.owned r q 0 other) ∙ (at m shapes inv s u held is).owns e found q there
   ] refl
+
+  -- it has been done
+  done_own : IsDoneIn committed then_state
+  done_own = record {
+    free = has_new s.call (update_of s.op) z.effects (Applied z.origin z.update z.moment) (commits.origin, commits.update);
+    under = λ q d owns apart. absurd (apart (owners_left q d owns).2);
+  }
 
   here_then : (p : ℕ) → left_then ≡ Some p → IsUpdateIn (then_machine (Some then_state)) (put shapes u.ckpt committed) then_state then_driver
   here_then p some = let was = at m shapes inv s u held is in record {
@@ -300,6 +327,7 @@ module _ (m : Machine) (shapes : ℕ → Shape) (inv : InvariantIn shapes m) (s 
     all = was.all;
     nodes = length-slice_set u.owned r 0 ∙ was.nodes;
     owns = λ f there. subst (λ w. OwnsIn w s then_driver f) (sym (ap (λ b. cond b committed (shapes u.ckpt)) (eq-eqb u.ckpt u.ckpt refl))) (subst (OwnsIn committed s then_driver) (same_Some e f (sym found ∙ there)) owns_then);
+    keeps = λ f there. subst (λ w. IsDoneIn w then_state) (sym (ap (λ b. cond b committed (shapes u.ckpt)) (eq-eqb u.ckpt u.ckpt refl))) done_own;
     some = λ f there. subst (λ f. HasSome then_driver f Committing) (same_Some e f (sym found ∙ there)) (ap is_some some);
   }
 
@@ -312,6 +340,7 @@ module _ (m : Machine) (shapes : ℕ → Shape) (inv : InvariantIn shapes m) (s 
         built = hand.built;
         driven = hand.driven;
         live = λ others. hand.live (ap is_enter is);
+        home = λ others. hand.home (ap is_enter is);
         here = subst (IsInPlace (then_machine (Some then_state)) (put shapes u.ckpt committed) then_state) (sym driver_then) (here_then p some);
       }))
 

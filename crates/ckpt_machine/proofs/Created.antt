@@ -6,6 +6,7 @@ use Rattle.std.proofs.lemmas.List.{length-replicate}
 use Rattle.std.proofs.lemmas.Option.{same_Some}
 use Rattle.ckpt_types.specs.declared.attributes.CreationAttributes.{CreationAttributes}
 use Rattle.ckpt_types.specs.declared.identities.CallId.{CallId}
+use Rattle.ckpt_types.specs.declared.identities.Who.{Who}
 use Rattle.ckpt_types.specs.Attributes.{is_malformed}
 use Rattle.cluster_record.specs.declared.calls.Making.{Making}
 use Rattle.cluster_record.specs.declared.entries.Entry.{Entry}
@@ -31,6 +32,7 @@ use Rattle.ckpt_machine.specs.Shape.{Shape, IsCompleteOn}
 use Rattle.ckpt_machine.proofs.NodeLists.{slice_index-replicate}
 use Rattle.ckpt_machine.proofs.EntryLists.{entry_of-given, find_key-push, AllStay-push}
 use Rattle.ckpt_machine.proofs.Handles.{IsGoodHandle-later}
+use Rattle.ckpt_machine.proofs.Lives.{LivesOn, lives_on-one}
 use Rattle.ckpt_machine.proofs.OtherCalls.{LooksAlike, LooksLater-refl, making_still, IsInHand-alike, IsGoodIn-alike}
 use Rattle.ckpt_machine.proofs.OptionLemmas.{IsSomeAnd-at, IsSomeAnd-from}
 use Rattle.ckpt_machine.proofs.OnComplete.{under_complete}
@@ -108,14 +110,14 @@ module _ (m : Machine) (shapes : ℕ → Shape) (inv : InvariantIn shapes m) (s 
       ∙ (λ i. cond (there i) None (cond (there i) (Some (opened_state e)) (m.replicas j r)))
 
   -- a checkpoint that was there is as it was
-  IsGoodIn-then : (j : ℕ) (sh : Shape) (e : Entry) (maker : Option CallId) → entry_of j m.cluster.entries ≡ Some e → IsGoodIn m j sh e maker → IsGoodIn then_machine j sh e maker
-  IsGoodIn-then j sh e maker found was = IsGoodIn-alike m then_machine j sh e (λ r there. replica_other j r e found there)
+  IsGoodIn-then : LivesOn m then_machine → (j : ℕ) (sh : Shape) (e : Entry) (maker : Option CallId) → entry_of j m.cluster.entries ≡ Some e → IsGoodIn m j sh e maker → IsGoodIn then_machine j sh e maker
+  IsGoodIn-then lives j sh e maker found was = IsGoodIn-alike m then_machine j lives sh e (λ r there. replica_other j r e found there)
       (λ d own. put_who-other m.in_hand (who s) (Some w) (who own.state) (owner_apart m shapes inv s held plain j sh d own)) (λ marks own. put_who-other m.in_hand (who s) (Some w) (who own.state) (marker_apart m shapes inv s held plain j marks own))
       (λ active d own. put_who-other m.in_hand (who s) (Some w) (who own.state) (holder_apart m shapes inv s held plain j active d own)) (λ d own. put_who-other m.in_hand (who s) (Some w) (who own.state) (maker_apart m shapes inv s held plain j d own)) maker was
 
   -- the new one is as it was created
   good_new : (sh : Shape) → IsGoodIn then_machine next sh new (Some s.call)
-  good_new sh = (record { complete = refl; generation = refl; free = refl; well_formed = good; clients = length-replicate {A = ℕ} 100 0 }, maker_new)
+  good_new sh = (record { complete = refl; generation = refl; unled = refl; free = refl; well_formed = good; clients = length-replicate {A = ℕ} 100 0 }, maker_new)
 
   -- ---- where the calls of others are
 
@@ -138,7 +140,9 @@ module _ (m : Machine) (shapes : ℕ → Shape) (inv : InvariantIn shapes m) (s 
               ap (λ o. reservation_under o r (m.reserved x.ckpt r)) still
               ∙ ap (λ b. cond b (m.reserved x.ckpt r) None) (ap (λ nodes. slice_index nodes r == 0) was.0.complete ∙ ap (λ n. n == 0) (slice_index-replicate 8 r))
               ∙ at.only r none;
-          within = at.within;
+          within = λ r some. at.within r (ap is_some (sym (
+              ap (λ o. reservation_under o r (m.reserved x.ckpt r)) still
+              ∙ ap (λ b. cond b (m.reserved x.ckpt r) None) (ap (λ nodes. slice_index nodes r == 0) was.0.complete ∙ ap (λ n. n == 0) (slice_index-replicate 8 r)))) ∙ some);
         }
 
     -- all that it looks at is as it was
@@ -146,12 +150,14 @@ module _ (m : Machine) (shapes : ℕ → Shape) (inv : InvariantIn shapes m) (s 
     looks_then = record {
       up = λ r up. up;
       lives = refl;
+      home = refl;
       handle = λ there. there;
       making = λ x at. making_still m then_machine z x making_then at;
       made = WasMade-then;
       later = λ j was e found. (e, sym (entry_other j (given_apart j was.given)) ∙ found, LooksLater-refl z (shapes j).marks e);
       owners = λ j was r. refl;
       marks = λ j was. refl;
+      done = λ j was done. done;
     }
 
   -- ---- the whole
@@ -182,6 +188,7 @@ module _ (m : Machine) (shapes : ℕ → Shape) (inv : InvariantIn shapes m) (s 
   pub created_keeps : IsInHand then_machine shapes (who s) w → InvariantIn shapes then_machine
   created_keeps own = record {
     up = inv.up;
+    first_up = inv.first_up;
     none_live = inv.none_live;
     rises = IdentitiesRise-push m.cluster.last_identity m.cluster.entries new inv.rises inv.up_to (omega arith);
     up_to = AllUpTo-push m.cluster.last_identity m.cluster.entries new inv.up_to refl;
@@ -193,15 +200,21 @@ module _ (m : Machine) (shapes : ℕ → Shape) (inv : InvariantIn shapes m) (s 
     rest = inv.rest;
     clients = inv.clients;
     places = places_then;
-    hands = λ b z there. elim (put_who-cases m.in_hand (who s) (Some w) b z there) [
-      | inl here ↦ subst (λ c. IsInHand then_machine shapes c z) (sym here.0) (subst (IsInHand then_machine shapes (who s)) (same_Some w z here.1) own)
-      | inr other ↦ (let was = inv.hands b z other.1 in IsInHand-alike m then_machine shapes shapes z (looks_then z) b (λ live. live) was.number was)
-    ];
+    hands = hands_then;
     calls = calls_left m.in_hand m.pending m.next inv.calls s held (Some w) (same_call-Some s w call_is op_is);
   }
     where
+      hands_then : (b : Who) (z : CallState) → put_who m.in_hand (who s) (Some w) b ≡ Some z → IsInHand then_machine shapes b z
+      hands_then b z there = elim (put_who-cases m.in_hand (who s) (Some w) b z there) [
+        | inl here ↦ subst (λ c. IsInHand then_machine shapes c z) (sym here.0) (subst (IsInHand then_machine shapes (who s)) (same_Some w z here.1) own)
+        | inr other ↦ (let was = inv.hands b z other.1 in IsInHand-alike m then_machine shapes shapes z (looks_then z) b (λ live. live) was.number was)
+      ]
+
+      lives : LivesOn m then_machine
+      lives = lives_on-one m then_machine shapes shapes inv (λ d. refl) refl refl hands_then s held (Some w) (same_call-Some s w call_is op_is) (λ b. refl)
+
       by_test : (j : ℕ) (e : Entry) → entry_of j R.entries ≡ Some e → (b : Bool) → (j == next) ≡ b → IsGoodIn then_machine j (shapes j) e e.making
-      by_test j e found false other = let was : entry_of j m.cluster.entries ≡ Some e = sym (entry_other j other) ∙ found in IsGoodIn-then j (shapes j) e e.making was (inv.entries j e was)
+      by_test j e found false other = let was : entry_of j m.cluster.entries ≡ Some e = sym (entry_other j other) ∙ found in IsGoodIn-then lives j (shapes j) e e.making was (inv.entries j e was)
       by_test j e found true same =
           let at_next : next ≡ j = sym (eqb-true j next same) in
           let e_is : new ≡ e = same_Some new e (sym entry_new ∙ ap (λ n. entry_of n R.entries) at_next ∙ found) in

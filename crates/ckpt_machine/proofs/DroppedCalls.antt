@@ -6,11 +6,13 @@ use Rattle.ckpt_types.specs.declared.identities.CallId.{CallId}
 use Rattle.ckpt_types.specs.declared.identities.Who.{Who}
 use Rattle.call_dispatch.specs.PendingCalls.{PendingCalls}
 use Rattle.weak_marks.specs.Marks.{Marked}
+use Rattle.ckpt_machine.specs.InHand.{IsInHand}
 use Rattle.ckpt_machine.specs.Invariant.{IsMaker, AreCalls, InvariantIn}
 use Rattle.ckpt_machine.specs.Machine.{Machine, CallState, who}
 use Rattle.ckpt_machine.specs.Shape.{Shape, IsOwner, IsMarker, IsHolder}
 use Rattle.ckpt_machine.specs.Steps.{driver_of}
 use Rattle.ckpt_machine.proofs.FewerCalls.{calls_fewer}
+use Rattle.ckpt_machine.proofs.Lives.{lives_on-fewer}
 use Rattle.ckpt_machine.proofs.OtherCalls.{IsIn-apart, IsGoodIn-apart}
 use Rattle.ckpt_machine.proofs.PlainCalls.{is_plain, is_plain_sync}
 
@@ -45,40 +47,48 @@ module _ (m : Machine) (shapes : ℕ → Shape) (inv : InvariantIn shapes m) whe
     maker_stays : (k : ℕ) (d : CallId) (own : IsMaker m k d) → (without_those gone m).in_hand (who own.state) ≡ m.in_hand (who own.state)
     maker_stays k d own = stays (who own.state) own.state own.in_hand (ap (λ d. is_plain d own.state.snapshot) own.driver_is ∙ ap (λ w. not (is_some w)) own.making_is)
 
+    hands_left : (w : Who) (z : CallState) → (without_those gone m).in_hand w ≡ Some z → IsInHand (without_those gone m) shapes w z
+    hands_left w z left = let was = inv.hands w z (left_in gone m w z left).1 in record { whose = was.whose; client = was.client; number = was.number; built = was.built; driven = was.driven; live = was.live; home = was.home; here = IsIn-apart m shapes m.next m.pending (without_those gone m).in_hand z (driver_of z) was.here }
+
     pub dropped_keeps : InvariantIn shapes (without_those gone m)
     dropped_keeps = record {
       up = inv.up;
+      first_up = inv.first_up;
       none_live = inv.none_live;
       rises = inv.rises;
       up_to = inv.up_to;
       swept = inv.swept;
-      entries = λ k e found. IsGoodIn-apart m shapes m.next m.pending (without_those gone m).in_hand owner_stays marker_stays holder_stays maker_stays k (shapes k) e e.making (inv.entries k e found);
+      entries = λ k e found. IsGoodIn-apart m shapes m.next m.pending (without_those gone m).in_hand (lives_on-fewer m (without_those gone m) shapes shapes inv (λ d. refl) refl refl hands_left (λ w z left. (left_in gone m w z left).1)) owner_stays marker_stays holder_stays maker_stays k (shapes k) e e.making (inv.entries k e found);
       replicas = inv.replicas;
       reserves = inv.reserves;
       handles = inv.handles;
       rest = inv.rest;
       clients = inv.clients;
       places = inv.places;
-      hands = λ w z left. let was = inv.hands w z (left_in gone m w z left).1 in record { whose = was.whose; client = was.client; number = was.number; built = was.built; driven = was.driven; live = was.live; here = IsIn-apart m shapes m.next m.pending (without_those gone m).in_hand z (driver_of z) was.here };
+      hands = hands_left;
       calls = calls_fewer m.in_hand (without_those gone m).in_hand m.pending m.next (λ w z left. (left_in gone m w z left).1) inv.calls;
     }
 
   -- ---- others are not dispatched
 
+  hands_still : (pending : ActorName → PendingCalls) (w : Who) (z : CallState) → m.in_hand w ≡ Some z → IsInHand (record m { pending = pending }) shapes w z
+  hands_still pending w z held = let was = inv.hands w z held in record { whose = was.whose; client = was.client; number = was.number; built = was.built; driven = was.driven; live = was.live; home = was.home; here = IsIn-apart m shapes m.next pending m.in_hand z (driver_of z) was.here }
+
   pub pending_keeps : (pending : ActorName → PendingCalls) → AreCalls m.in_hand pending m.next → InvariantIn shapes (record m { pending = pending })
   pending_keeps pending calls = record {
     up = inv.up;
+    first_up = inv.first_up;
     none_live = inv.none_live;
     rises = inv.rises;
     up_to = inv.up_to;
     swept = inv.swept;
-    entries = λ k e found. IsGoodIn-apart m shapes m.next pending m.in_hand (λ k sh d own. refl) (λ k marks own. refl) (λ k active d own. refl) (λ k d own. refl) k (shapes k) e e.making (inv.entries k e found);
+    entries = λ k e found. IsGoodIn-apart m shapes m.next pending m.in_hand (lives_on-fewer m (record m { pending = pending }) shapes shapes inv (λ d. refl) refl refl (hands_still pending) (λ w z held. held)) (λ k sh d own. refl) (λ k marks own. refl) (λ k active d own. refl) (λ k d own. refl) k (shapes k) e e.making (inv.entries k e found);
     replicas = inv.replicas;
     reserves = inv.reserves;
     handles = inv.handles;
     rest = inv.rest;
     clients = inv.clients;
     places = inv.places;
-    hands = λ w z held. let was = inv.hands w z held in record { whose = was.whose; client = was.client; number = was.number; built = was.built; driven = was.driven; live = was.live; here = IsIn-apart m shapes m.next pending m.in_hand z (driver_of z) was.here };
+    hands = hands_still pending;
     calls = calls;
   }

@@ -1,5 +1,5 @@
 -- What is said of a replica by its checkpoint's entry and its node, and of a snapshot by that entry, and what keeps it at each step: then it holds of each replica and each snapshot, in a hand too, in every state of a run. And where updates go to the active alone, no other replica and no snapshot of its generation is ahead of it.
-use Rattle.std.proofs.Common.{◌≡◌, inl, inr, ℕ, ◌+◌, ◌≤◌, List, [], ◌∷◌, ◌++◌, Option, Some, None, Bool, true, false, cond, not, ◌==◌, refl, sym, ap, subst, ◌∙◌, append_assoc, arith}
+use Rattle.std.proofs.Common.{◌≡◌, ◌⊎◌, inl, inr, ℕ, ◌+◌, ◌≤◌, List, [], ◌∷◌, ◌++◌, Option, Some, None, Bool, true, false, cond, not, ◌==◌, refl, sym, ap, subst, ◌∙◌, append_assoc, arith}
 use Rattle.std.specs.Option.{option_map}
 use Rattle.std.specs.Prelude.{IsSome, IsSomeAnd, IfSome, slice_index}
 use Rattle.std.proofs.lemmas.List.{append-nil}
@@ -18,6 +18,8 @@ use Rattle.node_msgs.specs.declared.steps.StepReply.{StepReply}
 use Rattle.node_msgs.specs.declared.steps.StepReply.TheVariants as words
 use Rattle.run_labels.specs.declared.labels.Label.{Label}
 use Rattle.run_labels.specs.declared.labels.Label.TheVariants as labels
+use Rattle.ckpt_types.specs.declared.attributes.CreationAttributes.{CreationAttributes}
+use Rattle.cluster_record.specs.Placement.{is_collocated}
 use Rattle.cluster_record.specs.declared.entries.Entry.{Entry}
 use Rattle.cluster_record.specs.Calls.{client_of, left}
 use Rattle.cluster_record.specs.Makings.{making_of}
@@ -29,7 +31,7 @@ use Rattle.ckpt_machine.specs.BeginRows.{has_bad_arguments}
 use Rattle.ckpt_machine.specs.Driving.{Kept}
 use Rattle.ckpt_machine.specs.Guards.{CommitOk, ApplyOk, MarkOk, AreMarksOf, PullOk, HoldOk, OnAll, OnActive, IsOnOwn, Row, Allowed}
 use Rattle.ckpt_machine.specs.Invariant.{Invariant}
-use Rattle.ckpt_machine.specs.Machine.{Machine, Effect, Applied, ReplicaState, Snapshot, CallState, empty_cluster, who}
+use Rattle.ckpt_machine.specs.Machine.{Machine, Effect, Applied, ReplicaState, Snapshot, CallState, who}
 use Rattle.ckpt_machine.specs.Options.{is_all, is_weak, is_by_element}
 use Rattle.ckpt_machine.specs.Propagation.{copied, replica_from}
 use Rattle.ckpt_machine.specs.Replays.{IsPrefix}
@@ -54,7 +56,7 @@ use Rattle.ckpt_machine.proofs.OptionLemmas.{IsSomeAnd-at, IsSomeAnd-from, IfSom
 use Rattle.ckpt_machine.proofs.OwnMaking.{making_there}
 use Rattle.ckpt_machine.proofs.Prefixes.{prefix_of_same, prefix_of_none, prefix_then}
 use Rattle.ckpt_machine.proofs.References.{released-identity}
-use Rattle.ckpt_machine.proofs.Runs.{last-push, IsRunFrom-front, IsRunFrom-back}
+use Rattle.ckpt_machine.proofs.Runs.{along}
 use Rattle.ckpt_machine.proofs.Starting.{first_kept, begun_as}
 use Rattle.ckpt_machine.proofs.Sync.{left_is}
 use Rattle.ckpt_machine.specs.Whose.{put_who}
@@ -78,9 +80,18 @@ pub record PulledInHand (hands : Who → Option CallState) (k : ℕ) (s : Snapsh
 begun_empty : (end : Option Outcome) (call : CallId) (op : Op) (kept : Kept) (z : CallState) (s : Snapshot) → call_begun end call op kept ≡ Some z → z.snapshot ≡ Some s → ⊥
 begun_empty end call op kept z s is pulled = let (d, driven, same) = begun_as end call op kept z is in let w : None ≡ Some s = ap (λ (z : CallState). z.snapshot) same ∙ pulled in cc w
 
--- each replica of the checkpoint, and each snapshot of it, that is of this generation has only what this one has taken first
-pub record IsAhead (k g : ℕ) (replicas : ℕ → ℕ → Option ReplicaState) (snapshots : ℕ → Option Snapshot) (hands : Who → Option CallState) (y : ReplicaState) : Type 0 where
-  pub replica : (q : ℕ) (x : ReplicaState) → replicas k q ≡ Some x → x.generation ≡ g → IsPrefix x.effects y.effects
+-- a replica follows the active of a checkpoint of this generation: where this is not collocated any does, and else one of that generation
+abbrev pub FollowsBy : Bool → ℕ → ReplicaState → Type 0
+FollowsBy collocated g x = (collocated ≡ false) ⊎ (x.generation ≡ g)
+
+-- so does one of the same generation
+follows_as : (collocated : Bool) (g : ℕ) (x z : ReplicaState) → x.generation ≡ z.generation → FollowsBy collocated g z → FollowsBy collocated g x
+follows_as collocated g x z same (inl apart) = inl apart
+follows_as collocated g x z same (inr present) = inr (same ∙ present)
+
+-- each replica of the checkpoint that follows its active, and each snapshot of it that is of its generation, has only what this one has taken first
+pub record IsAhead (k : ℕ) (collocated : Bool) (g : ℕ) (replicas : ℕ → ℕ → Option ReplicaState) (snapshots : ℕ → Option Snapshot) (hands : Who → Option CallState) (y : ReplicaState) : Type 0 where
+  pub replica : (q : ℕ) (x : ReplicaState) → replicas k q ≡ Some x → FollowsBy collocated g x → IsPrefix x.effects y.effects
   pub snapshot : (s : Snapshot) → snapshots k ≡ Some s → s.generation ≡ g → IsPrefix s.effects y.effects
   pub in_hand : (s : Snapshot) → PulledInHand hands k s → s.generation ≡ g → IsPrefix s.effects y.effects
 
@@ -92,7 +103,7 @@ module _ (Q : Option Entry → ℕ → ReplicaState → Type 0) (S : Entry → S
     pub replica : (k r : ℕ) (x : ReplicaState) → replicas k r ≡ Some x → Q (entry_of k entries) r x
     pub snapshot : (k : ℕ) (s : Snapshot) → snapshots k ≡ Some s → IsSomeAnd (entry_of k entries) (λ e. IsOfSource e s × S e s)
     pub in_hand : (k : ℕ) (s : Snapshot) → PulledInHand hands k s → (k ≤ last) × IfSome (entry_of k entries) (λ e. IsOfSource e s × S e s)
-    pub ahead : (k r : ℕ) (e : Entry) (y : ReplicaState) → entry_of k entries ≡ Some e → is_all e.attributes ≡ false → e.active ≡ Some r → replicas k r ≡ Some y → IsAhead k e.generation replicas snapshots hands y
+    pub ahead : (k r : ℕ) (e : Entry) (y : ReplicaState) → entry_of k entries ≡ Some e → is_all e.attributes ≡ false → e.active ≡ Some r → replicas k r ≡ Some y → IsAhead k (is_collocated e.attributes) e.generation replicas snapshots hands y
 
   abbrev pub Each : Machine → Type 0
   Each m = EachIn m.cluster.last_identity m.cluster.entries m.replicas m.snapshots m.in_hand
@@ -243,14 +254,14 @@ module _ (Q : Option Entry → ℕ → ReplicaState → Type 0) (S : Entry → S
 
         -- where the checkpoint was made, its active and its generation are as they were
         ahead_still : (k r : ℕ) (e f : Entry) (y : ReplicaState) → entry_of k m.cluster.entries ≡ Some e → e.making ≡ None → entry_of k R.entries ≡ Some f → is_all f.attributes ≡ false → f.active ≡ Some r
-            → replica_under (entry_of k R.entries) (slice_index (complete_of (entry_of k m.cluster.entries)) r) r (m.replicas k r) ≡ Some y → IsAhead k f.generation m.replicas m.snapshots m.in_hand y
+            → replica_under (entry_of k R.entries) (slice_index (complete_of (entry_of k m.cluster.entries)) r) r (m.replicas k r) ≡ Some y → IsAhead k (is_collocated f.attributes) f.generation m.replicas m.snapshots m.in_hand y
         ahead_still k r e f y there made found alone active is =
             let still = (still_made k e f there found).made made in
             let led : e.active ≡ Some r = sym still.active ∙ active in
             let complete : (slice_index (complete_of (entry_of k m.cluster.entries)) r == 0) ≡ false = subst (λ o. (slice_index (complete_of o) r == 0) ≡ false) (sym there) (active_complete m inv.shapes k e r inv.holds there made led) in
-            subst (λ g. IsAhead k g m.replicas m.snapshots m.in_hand y) (sym still.generation) (each.ahead k r e y there (ap is_all (sym still.attributes) ∙ alone) led (was_there (entry_of k R.entries) (slice_index (complete_of (entry_of k m.cluster.entries)) r) r (m.replicas k r) y complete is))
+            subst (λ (z : CreationAttributes × ℕ). IsAhead k (is_collocated z.0) z.1 m.replicas m.snapshots m.in_hand y) (λ i. (sym still.attributes i, sym still.generation i)) (each.ahead k r e y there (ap is_all (sym still.attributes) ∙ alone) led (was_there (entry_of k R.entries) (slice_index (complete_of (entry_of k m.cluster.entries)) r) r (m.replicas k r) y complete is))
 
-        ahead : (k r : ℕ) (f : Entry) (y : ReplicaState) → entry_of k R.entries ≡ Some f → is_all f.attributes ≡ false → f.active ≡ Some r → (with_record m R).replicas k r ≡ Some y → IsAhead k f.generation (with_record m R).replicas (with_record m R).snapshots m.in_hand y
+        ahead : (k r : ℕ) (f : Entry) (y : ReplicaState) → entry_of k R.entries ≡ Some f → is_all f.attributes ≡ false → f.active ≡ Some r → (with_record m R).replicas k r ≡ Some y → IsAhead k (is_collocated f.attributes) f.generation (with_record m R).replicas (with_record m R).snapshots m.in_hand y
         ahead k r f y found alone active is = record {
           replica = λ q x at present. elim (under (entry_of k R.entries) (slice_index (complete_of (entry_of k m.cluster.entries)) q) q (m.replicas k q) x at).1 [
             | inl was ↦ (let (e, there, made) = entry_there k q x was in (ahead_still k r e f y there made found alone active is).replica q x was present)
@@ -293,7 +304,7 @@ module _ (Q : Option Entry → ℕ → ReplicaState → Type 0) (S : Entry → S
       snapshot = each.snapshot;
       in_hand = each.in_hand;
       ahead = λ j q e y found alone active is. elim (put2-cases m.replicas k r (change x) j q y is) [
-        | inl here ↦ subst (IsAhead j e.generation (put2 m.replicas k r (Some (change x))) m.snapshots m.in_hand) here.2 (subst (λ j. IsAhead j e.generation (put2 m.replicas k r (Some (change x))) m.snapshots m.in_hand (change x)) here.0 (own e (ap (λ j. entry_of j m.cluster.entries) here.0 ∙ found) alone (active ∙ ap Some (sym here.1))))
+        | inl here ↦ subst (IsAhead j (is_collocated e.attributes) e.generation (put2 m.replicas k r (Some (change x))) m.snapshots m.in_hand) here.2 (subst (λ j. IsAhead j (is_collocated e.attributes) e.generation (put2 m.replicas k r (Some (change x))) m.snapshots m.in_hand (change x)) here.0 (own e (ap (λ j. entry_of j m.cluster.entries) here.0 ∙ found) alone (active ∙ ap Some (sym here.1))))
         | inr was ↦ others j q e y found alone active was.0 was.1
       ];
     }
@@ -305,7 +316,7 @@ module _ (Q : Option Entry → ℕ → ReplicaState → Type 0) (S : Entry → S
         grows = (becomes x there).grows
 
         -- the active itself
-        own : (e : Entry) → entry_of k m.cluster.entries ≡ Some e → is_all e.attributes ≡ false → e.active ≡ Some r → IsAhead k e.generation (put2 m.replicas k r (Some (change x))) m.snapshots m.in_hand (change x)
+        own : (e : Entry) → entry_of k m.cluster.entries ≡ Some e → is_all e.attributes ≡ false → e.active ≡ Some r → IsAhead k (is_collocated e.attributes) e.generation (put2 m.replicas k r (Some (change x))) m.snapshots m.in_hand (change x)
         own e found alone active =
             let before = each.ahead k r e x found alone active there in
             record {
@@ -318,14 +329,14 @@ module _ (Q : Option Entry → ℕ → ReplicaState → Type 0) (S : Entry → S
             }
 
         -- another one is the active, or it is of another checkpoint
-        others : (j q : ℕ) (e : Entry) (y : ReplicaState) → entry_of j m.cluster.entries ≡ Some e → is_all e.attributes ≡ false → e.active ≡ Some q → m.replicas j q ≡ Some y → ((k ≡ j) → (r ≡ q) → ⊥) → IsAhead j e.generation (put2 m.replicas k r (Some (change x))) m.snapshots m.in_hand y
+        others : (j q : ℕ) (e : Entry) (y : ReplicaState) → entry_of j m.cluster.entries ≡ Some e → is_all e.attributes ≡ false → e.active ≡ Some q → m.replicas j q ≡ Some y → ((k ≡ j) → (r ≡ q) → ⊥) → IsAhead j (is_collocated e.attributes) e.generation (put2 m.replicas k r (Some (change x))) m.snapshots m.in_hand y
         others j q e y found alone active at other =
             let before = each.ahead j q e y found alone active at in
             record {
               replica = λ p z there_then present. elim (put2-cases m.replicas k r (change x) j p z there_then) [
                 | inl here ↦ elim (grows.other e (ap (λ k. entry_of k m.cluster.entries) here.0 ∙ found) alone) [
                   | inl led ↦ absurd (other here.0 (same_Some r q (sym led ∙ active)))
-                  | inr same ↦ subst (λ xs. IsPrefix xs y.effects) (sym same ∙ ap (λ (z : ReplicaState). z.effects) here.2) (before.replica r x (subst (λ j. m.replicas j r ≡ Some x) here.0 there) (sym grows.generation ∙ ap (λ (z : ReplicaState). z.generation) here.2 ∙ present))
+                  | inr same ↦ subst (λ xs. IsPrefix xs y.effects) (sym same ∙ ap (λ (z : ReplicaState). z.effects) here.2) (before.replica r x (subst (λ j. m.replicas j r ≡ Some x) here.0 there) (follows_as (is_collocated e.attributes) e.generation x z (sym grows.generation ∙ ap (λ (z : ReplicaState). z.generation) here.2) present))
                 ]
                 | inr was ↦ before.replica p z was.0 present
               ];
@@ -347,7 +358,7 @@ module _ (Q : Option Entry → ℕ → ReplicaState → Type 0) (S : Entry → S
           record {
             replica = before.replica;
             snapshot = λ s is present. elim (put-cases m.snapshots k (copied x) j s is) [
-              | inl here ↦ subst (λ (s : Snapshot). IsPrefix s.effects y.effects) here.1 (before.replica from.node x (subst (λ j. m.replicas j from.node ≡ Some x) here.0 from.there) (ap (λ (s : Snapshot). s.generation) here.1 ∙ present))
+              | inl here ↦ subst (λ (s : Snapshot). IsPrefix s.effects y.effects) here.1 (before.replica from.node x (subst (λ j. m.replicas j from.node ≡ Some x) here.0 from.there) (inr (ap (λ (s : Snapshot). s.generation) here.1 ∙ present)))
               | inr was ↦ before.snapshot s was present
             ];
             in_hand = before.in_hand;
@@ -389,7 +400,9 @@ module _ (Q : Option Entry → ℕ → ReplicaState → Type 0) (S : Entry → S
             let before = each.ahead j q e y found alone active was.0 in
             record {
               replica = λ p z there present. elim (put2-cases m.replicas k r (replica_from s x) j p z there) [
-                | inl here ↦ subst (λ (z : ReplicaState). IsPrefix z.effects y.effects) here.2 ((subst (λ j. MayHave m j s) here.0 may).behind q e y found alone active was.0 (ap (λ (z : ReplicaState). z.generation) here.2 ∙ present))
+                | inl here ↦ (
+                    let same : e ≡ on.entry = same_Some e on.entry (sym found ∙ ap (λ k. entry_of k m.cluster.entries) (sym here.0) ∙ on.found) in
+                    subst (λ (z : ReplicaState). IsPrefix z.effects y.effects) here.2 ((subst (λ j. MayHave m j s) here.0 may).behind q e y found alone active was.0 (over.present ∙ ap (λ (e : Entry). e.generation) (sym same))))
                 | inr was ↦ before.replica p z was.0 present
               ];
               snapshot = before.snapshot;
@@ -457,11 +470,14 @@ module _ (Q : Option Entry → ℕ → ReplicaState → Type 0) (S : Entry → S
         none_other g within is = omega (arith, within, is)
 
         -- of the checkpoint that the node leads
-        led_ahead : (y : ReplicaState) → n.replicas k r ≡ Some y → IsAhead k (lead.entry.generation + 1) n.replicas n.snapshots n.in_hand y
+        led_ahead : (y : ReplicaState) → n.replicas k r ≡ Some y → IsAhead k (is_collocated lead.entry.attributes) (lead.entry.generation + 1) n.replicas n.snapshots n.in_hand y
         led_ahead y is = record {
           replica = λ q z at present. elim (leader-cases m inv s k r lead k q z at) [
             | inl here ↦ prefix_of_same z.effects y.effects (ap (λ (z : ReplicaState). z.effects) (same_Some y z (sym is ∙ ap (n.replicas k) here.1 ∙ at)))
-            | inr was ↦ absurd (none_other z.generation (generation_there m inv k q lead.entry z lead.found was.0).within present)
+            | inr was ↦ elim present [
+              | inl apart ↦ absurd (let w : true ≡ false = sym lead.collocated ∙ apart in cc w)
+              | inr present ↦ absurd (none_other z.generation (generation_there m inv k q lead.entry z lead.found was.0).within present)
+            ]
           ];
           snapshot = λ z at present. (
               let (f, found, was) = IsSomeAnd-at (entry_of k n.cluster.entries) (λ e. m.snapshots k ≡ Some z) (snapshot_was (entry_of k n.cluster.entries) (m.snapshots k) z at) in
@@ -471,7 +487,7 @@ module _ (Q : Option Entry → ℕ → ReplicaState → Type 0) (S : Entry → S
         }
 
         -- and of any other
-        other_ahead : (j q : ℕ) (g : Entry) (y : ReplicaState) → ((j ≡ k) → ⊥) → entry_of j m.cluster.entries ≡ Some g → is_all g.attributes ≡ false → g.active ≡ Some q → n.replicas j q ≡ Some y → IsAhead j g.generation n.replicas n.snapshots n.in_hand y
+        other_ahead : (j q : ℕ) (g : Entry) (y : ReplicaState) → ((j ≡ k) → ⊥) → entry_of j m.cluster.entries ≡ Some g → is_all g.attributes ≡ false → g.active ≡ Some q → n.replicas j q ≡ Some y → IsAhead j (is_collocated g.attributes) g.generation n.replicas n.snapshots n.in_hand y
         other_ahead j q g y other found alone active is =
             let before = each.ahead j q g y found alone active (as_it_was q y is) in
             record {
@@ -483,12 +499,12 @@ module _ (Q : Option Entry → ℕ → ReplicaState → Type 0) (S : Entry → S
             as_it_was : (p : ℕ) (z : ReplicaState) → n.replicas j p ≡ Some z → m.replicas j p ≡ Some z
             as_it_was p z at = elim (leader-cases m inv s k r lead j p z at) [ inl here ↦ absurd (other (sym here.0)) | inr was ↦ was.0 ]
 
-        ahead : (j q : ℕ) (g : Entry) (y : ReplicaState) → entry_of j n.cluster.entries ≡ Some g → is_all g.attributes ≡ false → g.active ≡ Some q → n.replicas j q ≡ Some y → IsAhead j g.generation n.replicas n.snapshots n.in_hand y
+        ahead : (j q : ℕ) (g : Entry) (y : ReplicaState) → entry_of j n.cluster.entries ≡ Some g → is_all g.attributes ≡ false → g.active ≡ Some q → n.replicas j q ≡ Some y → IsAhead j (is_collocated g.attributes) g.generation n.replicas n.snapshots n.in_hand y
         ahead j q g y found alone active is = elim (found_led m inv s k r lead j g found) [
           | inl here ↦ (
               let node : r ≡ q = same_Some r q (sym (ap (λ (e : Entry). e.active) here.1) ∙ active) in
               let at : n.replicas k r ≡ Some y = ap (n.replicas k) node ∙ ap (λ j. n.replicas j q) (sym here.0) ∙ is in
-              subst (λ g. IsAhead j g n.replicas n.snapshots n.in_hand y) (sym (ap (λ (e : Entry). e.generation) here.1)) (subst (λ j. IsAhead j (lead.entry.generation + 1) n.replicas n.snapshots n.in_hand y) (sym here.0) (led_ahead y at)))
+              subst (λ (e : Entry). IsAhead j (is_collocated e.attributes) e.generation n.replicas n.snapshots n.in_hand y) (sym here.1) (subst (λ j. IsAhead j (is_collocated lead.entry.attributes) (lead.entry.generation + 1) n.replicas n.snapshots n.in_hand y) (sym here.0) (led_ahead y at)))
           | inr was ↦ other_ahead j q g y was.0 was.1 alone active is
         ]
 
@@ -677,7 +693,7 @@ module _ (Q : Option Entry → ℕ → ReplicaState → Type 0) (S : Entry → S
         record {
           given = entry_of-given m.cluster.last_identity j m.cluster.entries e inv.holds.up_to found;
           so = subst (λ o. IfSome o (λ e. IsOfSource e (copied x) × S e (copied x))) (sym found) (record { source = source; within = (generation_there m inv j q e x found there).within }, kept.pulled e q x source active none (subst (λ o. Q o q x) found (each.replica j q x there)));
-          behind = λ r f y at alone active here. (each.ahead j r f y at alone active here).replica q x there;
+          behind = λ r f y at alone active here present. (each.ahead j r f y at alone active here).replica q x there (inr present);
         }
 
     -- so it may have what it keeps of that, of the checkpoint that it keeps
@@ -747,20 +763,18 @@ module _ (Q : Option Entry → ℕ → ReplicaState → Type 0) (S : Entry → S
     after_each (labels.Put k r reply) allowed is = after_put_over Each m k r reply is each (λ s x at over. put_each k r s x (copied_may k s over.on.entry over.on.found at) over)
     after_each l allowed is = absurd is
 
-  -- so it holds in a run
-  run_from : (log : List Label) → IsKept log → (front more : List Label) → log ≡ front ++ more → IsRun (front ++ more) → Each (last front) → Each (last (front ++ more))
-  run_from log kept front [] is run each = subst (λ (log : List Label). Each (last log)) (sym (append-nil front)) each
-  run_from log kept front (l ∷ more) is run each =
-      let before : IsRun front = IsRunFrom-front empty_cluster front (l ∷ more) run in
-      let there = IsRunFrom-back empty_cluster front (l ∷ more) run in
-      let (inv, history) = run_history front before in
-      let began : AllBegan log (last front) = λ s held. subst (λ (log : List Label). HasBegun log s.call s.op s.kept.ckpt) (sym is) (begun_more front (l ∷ more) s.call s.op s.kept.ckpt (all_began front before s held)) in
-      let then = after_each log kept (last front) began inv history (good_arguments front before) each l there.0 there.1 in
-      let longer = append_assoc front (l ∷ []) more in
-      subst (λ (log : List Label). Each (last log)) longer (run_from log kept (front ++ l ∷ []) more (is ∙ sym longer) (subst IsRun (sym longer) run) (subst Each (sym (last-push front l)) then))
-
+  -- so it holds in a run; that a call began stands in the whole log
   pub run_each : (log : List Label) → IsKept log → IsRun log → Each (last log)
-  run_each log kept run = run_from log kept [] log refl run (record { replica = λ k r x is. absurd (cc is); snapshot = λ k s is. absurd (cc is); in_hand = λ k s has. absurd (let none = has.in_hand in cc none); ahead = λ k r e y found. absurd (cc found) })
+  run_each log kept run = along (λ front m. (rest : List Label) → log ≡ front ++ rest → Each m) goes_on [] log run
+      (λ rest is. record { replica = λ k r x is. absurd (cc is); snapshot = λ k s is. absurd (cc is); in_hand = λ k s has. absurd (let none = has.in_hand in cc none); ahead = λ k r e y found. absurd (cc found) })
+      [] (sym (append-nil log))
+    where
+      goes_on : (front : List Label) (l : Label) → IsRun front → Allowed (last front) l → IsDue (last front) l → ((rest : List Label) → log ≡ front ++ rest → Each (last front)) → (rest : List Label) → log ≡ (front ++ l ∷ []) ++ rest → Each (after (last front) l)
+      goes_on front l before allowed due each rest is =
+          let log_is : log ≡ front ++ l ∷ rest = is ∙ append_assoc front (l ∷ []) rest in
+          let (inv, history) = run_history front before in
+          let began : AllBegan log (last front) = λ s held. subst (λ (log : List Label). HasBegun log s.call s.op s.kept.ckpt) (sym log_is) (begun_more front (l ∷ rest) s.call s.op s.kept.ckpt (all_began front before s held)) in
+          after_each log kept (last front) began inv history (good_arguments front before) (each (l ∷ rest) log_is) l allowed due
 
 -- where nothing is said
 kept_nothing : (log : List Label) → IsKept (λ o r x. Unit {0}) (λ e s. Unit {0}) log

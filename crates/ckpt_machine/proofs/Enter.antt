@@ -1,19 +1,19 @@
 -- A client becomes live, with any calls of others in hand.
-use Rattle.std.proofs.Common.{◌≡◌, ℕ, ◌<◌, ◌≤◌, inl, inr, length, Option, Some, None, Bool, true, false, cond, nat_le, ◌==◌, refl, sym, ap, subst, ◌∙◌}
+use Rattle.std.proofs.Common.{◌≡◌, ℕ, ◌<◌, ◌≤◌, inl, inr, length, Option, Some, None, Bool, true, false, cond, not, nat_le, ◌==◌, refl, sym, ap, subst, ◌∙◌}
 use Rattle.std.specs.Prelude.{is_some, IfSome, slice_index}
-use Rattle.std.proofs.lemmas.Bool.{eqb-true, leb-true, leb-false}
+use Rattle.std.proofs.lemmas.Bool.{eqb-true, leb-true, leb-false, lt-ltb}
 use Rattle.ckpt_types.specs.declared.ais_error.AisError.TheVariants.{NoResources}
 use Rattle.ckpt_types.specs.declared.answers.Cause.TheVariants.{Count}
 use Rattle.ckpt_types.specs.declared.answers.Outcome.TheVariants.{Refused}
 use Rattle.ckpt_types.specs.declared.identities.ActorName.{ActorName}
-use Rattle.ckpt_types.specs.declared.identities.ActorName.TheVariants.{Client}
+use Rattle.ckpt_types.specs.declared.identities.ActorName.TheVariants.{Client, Node}
 use Rattle.node_msgs.specs.declared.next.RecordStep.TheVariants as events
 use Rattle.node_msgs.specs.declared.next.Next.TheVariants.{Event, End}
 use Rattle.cluster_record.specs.declared.clients.LiveClient.{LiveClient}
 use Rattle.cluster_record.specs.Calls.{same_actor, number_of, client_of}
 use Rattle.cluster_record.specs.DueOnce.{Enter, enter_next}
 use Rattle.cluster_record.specs.Places.{find_key}
-use Rattle.cluster_record.specs.RecordState.{RecordState, client_key, is_live_client, entered}
+use Rattle.cluster_record.specs.RecordState.{RecordState, client_key, is_live, is_live_from, is_live_client, entered}
 use Rattle.ckpt_types.specs.Asks.{asked, is_async_ask}
 use Rattle.ckpt_types.specs.OpWord.{is_async, word_of_op}
 use Rattle.ckpt_types.specs.declared.identities.Who.{Who}
@@ -25,7 +25,7 @@ use Rattle.ckpt_machine.proofs.Actors.{same_actor-true}
 use Rattle.ckpt_machine.proofs.AsyncCalls.{own_name, ended_idle, async_no_enter}
 use Rattle.ckpt_machine.proofs.OpenReady.{client_live}
 use Rattle.ckpt_machine.proofs.Whose.{stepped_as-plain, same_who-refl}
-use Rattle.ckpt_machine.specs.InHand.{IsEnterAt, IsInPlace, IsInHand}
+use Rattle.ckpt_machine.specs.InHand.{is_enter, IsEnterAt, IsInPlace, IsInHand}
 use Rattle.ckpt_machine.specs.Invariant.{IsGoodClient, InvariantIn, Invariant}
 use Rattle.ckpt_machine.specs.Machine.{Machine, CallState, who}
 use Rattle.ckpt_machine.specs.Steps.{Told, IsDone, IsEvent, driver_of, with_tables, record_step}
@@ -62,6 +62,15 @@ module _ (m : Machine) (shapes : ℕ → Shape) (inv : InvariantIn shapes m) (s 
 
   found_other : (d : ℕ) → (d == c) ≡ false → find_key client_key d R.clients ≡ find_key client_key d m.cluster.clients
   found_other d other = found_then d ∙ ap (λ b. cond b (Some new) (find_key client_key d m.cluster.clients)) other
+
+  -- a dead call is dead still: it becomes live by a call of a higher number
+  dead_then : (b : ActorName) (number : ℕ) → is_live m.cluster (record { actor = b; number = number }) ≡ false → (b ≡ Client c → number < s.call.number) → is_live R (record { actor = b; number = number }) ≡ false
+  dead_then (Node q) number gone higher = gone
+  dead_then (Client d) number gone higher = ap (λ o. is_live_from o number) (found_then d)
+      ∙ elim (d == c) as (λ b. (d == c) ≡ b → is_live_from (cond b (Some new) (find_key client_key d m.cluster.clients)) number ≡ false) [
+        | true ↦ λ same. let below : number < s.call.number = higher (ap Client (eqb-true d c same)) in ap not (lt-ltb number s.call.number below)
+        | false ↦ λ other. gone
+      ] refl
 
   -- a client that is live is another
   not_entering : (a : ActorName) → is_live_client (number_of a) m.cluster ≡ true → (number_of a == c) ≡ false
@@ -105,12 +114,13 @@ module _ (m : Machine) (shapes : ℕ → Shape) (inv : InvariantIn shapes m) (s 
 
   -- the client is in the record
   entered_keeps : InvariantIn shapes (ending s (record_step (entered c r s.call.number) m))
-  entered_keeps = swept_keeps m shapes inv s held (ap (λ d. is_plain d s.snapshot) is) R inv.rises inv.up_to refl refl (λ k f found. (f, found, IsLaterEntry-refl f))
+  entered_keeps = swept_keeps m shapes inv s held (ap (λ d. is_plain d s.snapshot) is) R inv.rises inv.up_to refl refl refl (λ k f found. (f, found, IsLaterEntry-refl m.cluster.up f))
       (λ none. absurd (let w : false ≡ true = sym (is_up-none r m.cluster none) ∙ at_enter.up in cc w))
       (λ d. subst (λ o. IfSome o (IsGoodClient m.next R d)) (sym (found_then d)) (elim (d == c) as (λ b. (d == c) ≡ b → IfSome (cond b (Some new) (find_key client_key d m.cluster.clients)) (IsGoodClient m.next R d)) [
         | true ↦ λ same. (subst (λ (n : ℕ). s.call.number < m.next (Client n)) (sym (eqb-true d c same)) given, at_enter.up)
         | false ↦ λ other. inv.clients d
       ] refl))
+      (λ d dead. dead_then d.actor d.number dead.gone (λ same. dead.before (who s) s held (client_by_number s.call.actor at_enter.client ∙ sym same) (ap is_enter is)))
       (λ w z other at live. live_alike m.cluster R z.call (inv.hands w z at).client (found_other (client_of z.call) (others_client w z other at)) ∙ live)
       (λ w z other at. found_other (client_of z.call) (others_client w z other at))
       (λ a z k e other at was by. ap is_some was)

@@ -29,6 +29,7 @@ use Rattle.ckpt_machine.proofs.EntryLists.{find_key-change_key, AllStay-change_k
 use Rattle.ckpt_machine.proofs.Handles.{IsGoodHandle-later}
 use Rattle.ckpt_machine.proofs.NodeLists.{slice_index-replicate}
 use Rattle.ckpt_machine.proofs.OptionLemmas.{IsSomeAnd-at}
+use Rattle.ckpt_machine.proofs.Lives.{LivesOn, lives_on-one}
 use Rattle.ckpt_machine.proofs.OtherCalls.{LooksAlike, LooksLater, LooksLater-refl, making_still, IsIn-apart, IsInHand-alike, IsGoodIn-alike}
 use Rattle.ckpt_machine.specs.Whose.{put_who, same_who}
 use Rattle.ckpt_machine.proofs.Whose.{put_who-cases, put_who-other, apart_states}
@@ -62,13 +63,14 @@ module _ (m : Machine) (shapes : ℕ → Shape) (inv : InvariantIn shapes m) (s 
   pub gone_ends : entry_of u.ckpt m.cluster.entries ≡ None → InvariantIn shapes (record m { in_hand = put_who m.in_hand (who s) None })
   gone_ends gone = record {
     up = inv.up;
+    first_up = inv.first_up;
     none_live = inv.none_live;
     rises = inv.rises;
     up_to = inv.up_to;
     swept = inv.swept;
     entries = λ j e found.
         let other = apart j e found (j == u.ckpt) refl in
-        IsGoodIn-alike m (record m { in_hand = hands }) j (shapes j) e (λ q there. refl)
+        IsGoodIn-alike m (record m { in_hand = hands }) j lives (shapes j) e (λ q there. refl)
         (λ d own. put_who-other m.in_hand (who s) None (who own.state) (owner_other j (shapes j) d own)) (λ marks own. put_who-other m.in_hand (who s) None (who own.state) (marker_other j marks own))
         (λ active d own. put_who-other m.in_hand (who s) None (who own.state) (holder_other j active d other own)) (λ d own. put_who-other m.in_hand (who s) None (who own.state) (maker_other j d own)) e.making (inv.entries j e found);
     replicas = inv.replicas;
@@ -77,15 +79,21 @@ module _ (m : Machine) (shapes : ℕ → Shape) (inv : InvariantIn shapes m) (s 
     rest = inv.rest;
     clients = inv.clients;
     places = inv.places;
-    hands = λ b z left. elim (put_who-cases m.in_hand (who s) None b z left) [
-      | inl here ↦ absurd (let w : None ≡ Some z = here.1 in cc w)
-      | inr other ↦ (let was = inv.hands b z other.1 in record { whose = was.whose; client = was.client; number = was.number; built = was.built; driven = was.driven; live = was.live; here = IsIn-apart m shapes m.next m.pending hands z (driver_of z) was.here })
-    ];
+    hands = hands_left;
     calls = calls_left m.in_hand m.pending m.next inv.calls s held None (same_call-None s);
   }
     where
       hands : Who → Option CallState
       hands = put_who m.in_hand (who s) None
+
+      hands_left : (b : Who) (z : CallState) → put_who m.in_hand (who s) None b ≡ Some z → IsInHand (record m { in_hand = put_who m.in_hand (who s) None }) shapes b z
+      hands_left b z left = elim (put_who-cases m.in_hand (who s) None b z left) [
+        | inl here ↦ absurd (let w : None ≡ Some z = here.1 in cc w)
+        | inr other ↦ (let was = inv.hands b z other.1 in record { whose = was.whose; client = was.client; number = was.number; built = was.built; driven = was.driven; live = was.live; home = was.home; here = IsIn-apart m shapes m.next m.pending (put_who m.in_hand (who s) None) z (driver_of z) was.here })
+      ]
+
+      lives : LivesOn m (record m { in_hand = put_who m.in_hand (who s) None })
+      lives = lives_on-one m (record m { in_hand = put_who m.in_hand (who s) None }) shapes shapes inv (λ d. refl) refl refl hands_left s held None (same_call-None s) (λ b. refl)
 
       apart : (j : ℕ) (e : Entry) → entry_of j m.cluster.entries ≡ Some e → (b : Bool) → (j == u.ckpt) ≡ b → (j == u.ckpt) ≡ false
       apart j e found false other = other
@@ -226,8 +234,8 @@ module _ (m : Machine) (shapes : ℕ → Shape) (inv : InvariantIn shapes m) (s 
       then_machine = record m { cluster = R; replicas = F; snapshots = left_snapshots; in_hand = put_who m.in_hand (who s) o }
 
       -- another checkpoint is as it was
-      IsGoodIn-other : (j : ℕ) (g : Entry) (maker : Option CallId) → (j == u.ckpt) ≡ false → IsGoodIn m j (shapes j) g maker → IsGoodIn then_machine j (shapes j) g maker
-      IsGoodIn-other j g maker other good = IsGoodIn-alike m then_machine j (shapes j) g (λ q there. elsewhere j q other)
+      IsGoodIn-other : LivesOn m then_machine → (j : ℕ) (g : Entry) (maker : Option CallId) → (j == u.ckpt) ≡ false → IsGoodIn m j (shapes j) g maker → IsGoodIn then_machine j (shapes j) g maker
+      IsGoodIn-other lives j g maker other good = IsGoodIn-alike m then_machine j lives (shapes j) g (λ q there. elsewhere j q other)
           (λ d own. put_who-other m.in_hand (who s) o (who own.state) (owner_other j (shapes j) d own)) (λ marks own. put_who-other m.in_hand (who s) o (who own.state) (marker_other j marks own))
           (λ active d own. put_who-other m.in_hand (who s) o (who own.state) (holder_other j active d other own)) (λ d own. put_who-other m.in_hand (who s) o (who own.state) (maker_other j d own)) maker good
 
@@ -259,12 +267,14 @@ module _ (m : Machine) (shapes : ℕ → Shape) (inv : InvariantIn shapes m) (s 
         looks_then z other = record {
           up = λ r up. up;
           lives = refl;
+          home = refl;
           handle = λ there. there;
           making = λ v at. making_still m then_machine z v (making_then z) at;
           made = WasMade-then;
           later = λ j was g there. by_test j g there (j == u.ckpt) refl;
           owners = λ j was r. refl;
           marks = λ j was. refl;
+          done = λ j was done. done;
         }
           where
             by_test : (j : ℕ) (g : Entry) → entry_of j R.entries ≡ Some g → (b : Bool) → (j == u.ckpt) ≡ b → (x : Entry) × (entry_of j m.cluster.entries ≡ Some x) × LooksLater z (shapes j).marks x g
@@ -275,9 +285,10 @@ module _ (m : Machine) (shapes : ℕ → Shape) (inv : InvariantIn shapes m) (s 
                 (e, ap (λ n. entry_of n m.cluster.entries) (sym k_is) ∙ found, subst (λ n. LooksLater z (shapes n).marks e g) k_is (subst (LooksLater z (shapes u.ckpt).marks e) g_is (looks z other)))
 
         -- the invariant holds after it, where it holds of the checkpoint, of the replicas and of the call
-        pub entry_keeps : IsSameCall s o → IsSpread then_machine u.ckpt (shapes u.ckpt) f → ((j q : ℕ) (x : ReplicaState) → F j q ≡ Some x → IsCompleteAt R j q x.generation) → ((z : CallState) → o ≡ Some z → IsInHand then_machine shapes (who s) z) → InvariantIn shapes then_machine
+        pub entry_keeps : IsSameCall s o → (LivesOn m then_machine → IsSpread then_machine u.ckpt (shapes u.ckpt) f) → ((j q : ℕ) (x : ReplicaState) → F j q ≡ Some x → IsCompleteAt R j q x.generation) → ((z : CallState) → o ≡ Some z → IsInHand then_machine shapes (who s) z) → InvariantIn shapes then_machine
         entry_keeps same_call spread complete_then own = record {
           up = inv.up;
+          first_up = inv.first_up;
           none_live = inv.none_live;
           rises = IdentitiesRise-change_key change keeps u.ckpt m.cluster.entries inv.rises;
           up_to = AllUpTo-change_key change keeps m.cluster.last_identity u.ckpt m.cluster.entries inv.up_to;
@@ -289,21 +300,27 @@ module _ (m : Machine) (shapes : ℕ → Shape) (inv : InvariantIn shapes m) (s 
           rest = inv.rest;
           clients = inv.clients;
           places = places_then;
-          hands = λ b z there. elim (put_who-cases m.in_hand (who s) o b z there) [
-            | inl here ↦ subst (λ c. IsInHand then_machine shapes c z) (sym here.0) (own z here.1)
-            | inr other ↦ (
-                let was = inv.hands b z other.1 in
-                IsInHand-alike m then_machine shapes shapes z (looks_then z (apart_from m.in_hand m.pending m.next inv.calls s held b z other.1 other.0)) b (λ live. live) was.number was)
-          ];
+          hands = hands_then;
           calls = calls_left m.in_hand m.pending m.next inv.calls s held o same_call;
         }
           where
+            hands_then : (b : Who) (z : CallState) → put_who m.in_hand (who s) o b ≡ Some z → IsInHand then_machine shapes b z
+            hands_then b z there = elim (put_who-cases m.in_hand (who s) o b z there) [
+              | inl here ↦ subst (λ c. IsInHand then_machine shapes c z) (sym here.0) (own z here.1)
+              | inr other ↦ (
+                  let was = inv.hands b z other.1 in
+                  IsInHand-alike m then_machine shapes shapes z (looks_then z (apart_from m.in_hand m.pending m.next inv.calls s held b z other.1 other.0)) b (λ live. live) was.number was)
+            ]
+
+            lives : LivesOn m then_machine
+            lives = lives_on-one m then_machine shapes shapes inv (λ d. refl) refl refl hands_then s held o same_call (λ b. refl)
+
             by_test : (j : ℕ) (g : Entry) → entry_of j R.entries ≡ Some g → (b : Bool) → (j == u.ckpt) ≡ b → IsGoodIn then_machine j (shapes j) g g.making
-            by_test j g there false other = IsGoodIn-other j g g.making other (inv.entries j g (sym (entry_other j other) ∙ there))
+            by_test j g there false other = IsGoodIn-other lives j g g.making other (inv.entries j g (sym (entry_other j other) ∙ there))
             by_test j g there true same =
                 let k_is : u.ckpt ≡ j = sym (eqb-true j u.ckpt same) in
                 let g_is : f ≡ g = same_Some f g (sym entry_here ∙ ap (λ n. entry_of n R.entries) k_is ∙ there) in
-                subst (λ (x : Entry). IsGoodIn then_machine j (shapes j) x x.making) g_is (subst (λ n. IsGoodIn then_machine n (shapes n) f f.making) k_is (subst (IsGoodIn then_machine u.ckpt (shapes u.ckpt) f) (sym still_made) spread))
+                subst (λ (x : Entry). IsGoodIn then_machine j (shapes j) x x.making) g_is (subst (λ n. IsGoodIn then_machine n (shapes n) f f.making) k_is (subst (IsGoodIn then_machine u.ckpt (shapes u.ckpt) f) (sym still_made) (spread lives)))
 
             reserves_then : (j q n : ℕ) → m.reserved j q ≡ Some n → (b : Bool) → (j == u.ckpt) ≡ b → IsSomeAnd (entry_of j R.entries) (λ e. IsSome e.making)
             reserves_then j q n reserved false other = subst (λ o. IsSomeAnd o (λ (x : Entry). IsSome x.making)) (sym (entry_other j other)) (inv.reserves j q n reserved)

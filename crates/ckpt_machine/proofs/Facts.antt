@@ -35,6 +35,7 @@ use Rattle.ckpt_machine.specs.Drivers as drivers
 use Rattle.ckpt_machine.specs.Driving.{driver_next}
 use Rattle.ckpt_machine.specs.Machine.{Machine, CallState, who}
 use Rattle.node_core.specs.Fitting.{IsReadyFor}
+use Rattle.ckpt_machine.specs.Options.{is_all}
 use Rattle.ckpt_machine.specs.Steps.{due, driver_of, room_in, room_at, rooms_of, seen_at, seen, seen_slot}
 use Rattle.ckpt_machine.specs.Facts.{IsActive, IsAtRest, IsLeadable, IsServable, IsEventReady, IsStarting, IsGoingOn, HasCopyRoom, Facts}
 use Rattle.ckpt_machine.specs.InHand.{MarksFit, IsEnterAt, IsOnceAt, IsInPlace, IsActiveIn, is_held_by, IsSynchronizeIn, IsSettingIn}
@@ -286,7 +287,7 @@ module _ (m : Machine) (shapes : ℕ → Shape) (inv : InvariantIn shapes m) (s 
 
     hold_ready : (r : ℕ) → e.active ≡ Some r → e.hold ≡ None → IsDueReady m s (drivers.Sync u) (Event (events.Hold r))
     hold_ready r active free =
-        let complete = active_by-complete (is_collocated e.attributes) e.complete e.active spread_is.active r active in
+        let complete = active_by-complete (is_collocated e.attributes) (is_all e.attributes) e.complete e.active spread_is.active r active in
         let at = on_complete m shapes inv s u held is local kind e found r complete in
         (subst (λ (n : ℕ). r < n) spread_is.nodes (index-within e.complete r complete), ap (λ o. is_some o) at.there, setting_room, IsSomeAnd-from (entry_of u.ckpt m.cluster.entries) (λ e. e.hold ≡ None) e found free)
 

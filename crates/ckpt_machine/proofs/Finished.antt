@@ -1,9 +1,10 @@
 -- A making is finished on all nodes that are up: the checkpoint is made there, and the calls of others are where they were.
 use Rattle.std.proofs.Common.{◌≡◌, ◌≢◌, ℕ, ◌+◌, ◌≤◌, arith, inl, inr, List, [], length, Option, Some, None, Bool, true, false, cond, ◌==◌, refl, sym, ap, subst, ◌∙◌}
-use Rattle.std.specs.Prelude.{IsSome, IsSomeAnd, IfSome, slice_index}
+use Rattle.std.specs.Prelude.{is_some, IsSome, IsSomeAnd, IfSome, slice_index}
 use Rattle.std.proofs.lemmas.Bool.{eqb-true, eq-eqb}
 use Rattle.std.proofs.lemmas.Option.{same_Some}
 use Rattle.ckpt_types.specs.declared.identities.CallId.{CallId}
+use Rattle.ckpt_types.specs.declared.identities.Who.{Who}
 use Rattle.ckpt_types.specs.declared.update.Update.TheVariants as updates
 use Rattle.ckpt_types.specs.Sections.{opening}
 use Rattle.cluster_record.specs.declared.calls.Making.{Making}
@@ -14,7 +15,7 @@ use Rattle.cluster_record.specs.RecordState.{RecordState, entry_of, identity_of,
 use Rattle.cluster_record.proofs.IdentityLaws.{IdentitiesRise-change_key, AllUpTo-change_key}
 use Rattle.ckpt_machine.specs.Drivers as drivers
 use Rattle.ckpt_machine.specs.Entries.{AllStay, WasMade}
-use Rattle.ckpt_machine.specs.InHand.{is_marked_by, attributes_asked, IsMakingIn}
+use Rattle.ckpt_machine.specs.InHand.{is_marked_by, attributes_asked, IsMakingIn, IsDoneIn, IsInHand}
 use Rattle.ckpt_types.specs.Asks.{asked}
 use Rattle.weak_marks.specs.Marks.{Marked}
 use Rattle.ckpt_machine.specs.Invariant.{IsMaker, IsGoodIn, IsOfGeneration, InvariantIn}
@@ -22,10 +23,12 @@ use Rattle.ckpt_machine.specs.Machine.{Machine, ReplicaState, CallState, who}
 use Rattle.ckpt_machine.specs.Steps.{driver_of, with_record, replica_under, reservation_under, opened_state}
 use Rattle.ckpt_machine.specs.Shape.{Shape, IsCompleteOn, IsShapedBy, is_owner, IsOwner, IsMarker, IsActiveBy, IsHolder, IsSpread}
 use Rattle.ckpt_machine.proofs.Handles.{IsGoodHandle-later}
+use Rattle.ckpt_machine.proofs.ActiveBy.{lowest_complete}
+use Rattle.ckpt_machine.proofs.Lives.{LivesOn, lives_on-one}
 use Rattle.ckpt_machine.proofs.OtherCalls.{LooksAlike, LooksLater-refl, making_still, IsInHand-alike, IsGoodIn-alike}
 use Rattle.ckpt_machine.proofs.OptionLemmas.{IsSomeAnd-at, IsSomeAnd-from}
 use Rattle.ckpt_machine.proofs.MarksAt.{none_marked}
-use Rattle.ckpt_machine.proofs.Targets.{targets-length}
+use Rattle.ckpt_machine.proofs.Targets.{targets-length, target-up}
 use Rattle.cluster_record.specs.Placement.{is_collocated, targets}
 use Rattle.ckpt_machine.proofs.CallsKept.{apart_from, same_call-None, calls_left}
 use Rattle.ckpt_machine.proofs.OwnMaking.{owner_apart, marker_apart, holder_apart, maker_same}
@@ -42,9 +45,14 @@ use Rattle.ckpt_machine.proofs.Whose.{same_who-false, put_who-cases, put_who-oth
 use Rattle.ckpt_machine.specs.Options.{is_all}
 
 -- the first active is one by the complete nodes
-first_active_by : (collocated : Bool) (cs : List ℕ) → IsActiveBy collocated cs (cond collocated None (first_complete 0 cs))
-first_active_by true cs = tt
-first_active_by false cs = refl
+first_active_by : (collocated all : Bool) (cs : List ℕ) → IsSome (first_complete 0 cs) → IsActiveBy collocated all cs (cond collocated None (first_complete 0 cs))
+first_active_by true all cs some = tt
+first_active_by false true cs some = refl
+first_active_by false false cs some = by_first (first_complete 0 cs) refl some
+  where
+    by_first : (o : Option ℕ) → first_complete 0 cs ≡ o → IsSome o → IsSomeAnd o (λ r. (slice_index cs r == 0) ≡ false)
+    by_first None first some = absurd (cc some)
+    by_first (Some r) first some = lowest_complete cs r first
 
 module _ (m : Machine) (shapes : ℕ → Shape) (inv : InvariantIn shapes m) (s : CallState) (o : OpenState) (making : Making) (held : m.in_hand (who s) ≡ Some s) (is : driver_of s ≡ drivers.Open o) (makes : o.making ≡ Some making)
     (c : ℕ) (e : Entry) (found : entry_of making.ckpt m.cluster.entries ≡ Some e) (by : e.making ≡ Some s.call) (some : IsSome (first_complete 0 (targets e.attributes (home_of c m.cluster) m.cluster.up))) (none_else : (r : ℕ) → (slice_index (targets e.attributes (home_of c m.cluster) m.cluster.up) r == 0) ≡ true → m.reserved making.ckpt r ≡ None) (stays : AllStay m.cluster.moment (change_key identity_of making.ckpt (made_with (home_of c m.cluster) m.cluster.up c) m.cluster.entries)) where
@@ -112,8 +120,8 @@ module _ (m : Machine) (shapes : ℕ → Shape) (inv : InvariantIn shapes m) (s 
       ∙ ap (λ o. replica_under (Some g) (slice_index (complete_of o) r) r (m.replicas j r)) was
       ∙ (λ i. cond (there i) None (cond (there i) (Some (opened_state g)) (m.replicas j r)))
 
-  IsGoodIn-then : (j : ℕ) (sh : Shape) (g : Entry) (maker : Option CallId) → (j == making.ckpt) ≡ false → entry_of j m.cluster.entries ≡ Some g → IsGoodIn m j sh g maker → IsGoodIn then_machine j sh g maker
-  IsGoodIn-then j sh g maker other was good = IsGoodIn-alike m then_machine j sh g (λ r there. replica_other j r g other was there) (owner_stays j sh) (marker_stays j) (holder_stays j) (λ d own. maker_stays j d other own) maker good
+  IsGoodIn-then : LivesOn m then_machine → (j : ℕ) (sh : Shape) (g : Entry) (maker : Option CallId) → (j == making.ckpt) ≡ false → entry_of j m.cluster.entries ≡ Some g → IsGoodIn m j sh g maker → IsGoodIn then_machine j sh g maker
+  IsGoodIn-then lives j sh g maker other was good = IsGoodIn-alike m then_machine j lives sh g (λ r there. replica_other j r g other was there) (owner_stays j sh) (marker_stays j) (holder_stays j) (λ d own. maker_stays j d other own) maker good
 
   -- ---- the checkpoint that is made
 
@@ -145,14 +153,18 @@ module _ (m : Machine) (shapes : ℕ → Shape) (inv : InvariantIn shapes m) (s 
   spread_here : IsSpread then_machine making.ckpt opened_shape f
   unfolding opened_shape
   spread_here = record {
-    nodes = targets-length e.attributes (home_of c m.cluster) m.cluster.up (ap length inv.up.1);
+    nodes = targets-length e.attributes (home_of c m.cluster) m.cluster.up inv.up;
     some = some;
-    active = first_active_by (is_collocated e.attributes) (targets e.attributes (home_of c m.cluster) m.cluster.up);
+    up = λ r there. sym (target-up e.attributes (home_of c m.cluster) m.cluster.up r there);
+    active = first_active_by (is_collocated e.attributes) (is_all e.attributes) (targets e.attributes (home_of c m.cluster) m.cluster.up) some;
     replicas = λ r there. IsSomeAnd-from (then_machine.replicas making.ckpt r) (IsShapedBy (is_all f.attributes) opened_shape f.active r) (opened_state f) (replica_here r there) (opened_by (is_all f.attributes) r);
     fits = λ r d none. absurd (cc none);
+    all = λ r d none. absurd (cc none);
     complete = λ r d none. absurd (cc none);
     lowest = λ q r d below there none. absurd (cc none);
+    first = λ q r d below there none own. absurd (cc none);
     owned = λ r d none. absurd (cc none);
+    live = λ r d none. absurd (cc none);
     led = λ marks none. absurd (cc none);
     marked = λ marks none. absurd (cc none);
     held = λ d is. absurd (let w : Some d ≡ None = sym is ∙ none_held in cc w);
@@ -178,7 +190,9 @@ module _ (m : Machine) (shapes : ℕ → Shape) (inv : InvariantIn shapes m) (s 
               ap (λ o. reservation_under o r (m.reserved w.ckpt r)) (entry_other w.ckpt apart ∙ was)
               ∙ ap (λ b. cond b (m.reserved w.ckpt r) None) (ap (λ nodes. slice_index nodes r == 0) good.0.complete ∙ ap (λ n. n == 0) (slice_index-replicate 8 r))
               ∙ at.only r none;
-          within = at.within;
+          within = λ r some. at.within r (ap is_some (sym (
+              ap (λ o. reservation_under o r (m.reserved w.ckpt r)) (entry_other w.ckpt apart ∙ was)
+              ∙ ap (λ b. cond b (m.reserved w.ckpt r) None) (ap (λ nodes. slice_index nodes r == 0) good.0.complete ∙ ap (λ n. n == 0) (slice_index-replicate 8 r)))) ∙ some);
         }
       where
         not_this : (g : Entry) → entry_of w.ckpt m.cluster.entries ≡ Some g → g.making ≡ Some z.call → (w.ckpt == making.ckpt) ≡ false
@@ -195,12 +209,14 @@ module _ (m : Machine) (shapes : ℕ → Shape) (inv : InvariantIn shapes m) (s 
     looks_then = record {
       up = λ r up. up;
       lives = refl;
+      home = refl;
       handle = λ there. there;
       making = λ v at. making_still m then_machine z v making_then at;
       made = WasMade-then;
       later = λ j was g found. (g, sym (entry_other j (not_made j was)) ∙ found, LooksLater-refl z (shapes j).marks g);
       owners = λ j was r. ap (λ (sh : Shape). is_owner z.call (sh.owners r)) (ap (λ b. cond b opened_shape (shapes j)) (not_made j was));
       marks = λ j was. ap (λ (sh : Shape). is_marked_by z.call sh.marks) (ap (λ b. cond b opened_shape (shapes j)) (not_made j was));
+      done = λ j was. subst (λ sh. IsDoneIn sh z) (sym (ap (λ b. cond b opened_shape (shapes j)) (not_made j was)));
     }
 
   -- ---- the whole
@@ -225,6 +241,7 @@ module _ (m : Machine) (shapes : ℕ → Shape) (inv : InvariantIn shapes m) (s 
   pub finish_keeps : InvariantIn (put shapes making.ckpt opened_shape) then_machine
   finish_keeps = record {
     up = inv.up;
+    first_up = inv.first_up;
     none_live = inv.none_live;
     rises = IdentitiesRise-change_key (made_with (home_of c m.cluster) m.cluster.up c) (λ x. refl) making.ckpt m.cluster.entries inv.rises;
     up_to = AllUpTo-change_key (made_with (home_of c m.cluster) m.cluster.up c) (λ x. refl) m.cluster.last_identity making.ckpt m.cluster.entries inv.up_to;
@@ -238,19 +255,25 @@ module _ (m : Machine) (shapes : ℕ → Shape) (inv : InvariantIn shapes m) (s 
     places = λ d.
         let few : length (m.tables (Client d)).handles + makings_of d m.cluster.entries ≤ handles_max = inv.places d in
         omega (arith, few, makings_of-finished d making.ckpt m.cluster c);
-    hands = λ a z there. elim (put_who-cases m.in_hand (who s) None a z there) [
-      | inl here ↦ absurd (let w : None ≡ Some z = here.1 in cc w)
-      | inr other ↦ (
-          let was = inv.hands a z other.1 in
-          IsInHand-alike m then_machine shapes (put shapes making.ckpt opened_shape) z (looks_then z (apart_from m.in_hand m.pending m.next inv.calls s held a z other.1 other.0)) a (λ live. live) was.number was)
-    ];
+    hands = hands_then;
     calls = calls_left m.in_hand m.pending m.next inv.calls s held None (same_call-None s);
   }
     where
+      hands_then : (a : Who) (z : CallState) → put_who m.in_hand (who s) None a ≡ Some z → IsInHand then_machine (put shapes making.ckpt opened_shape) a z
+      hands_then a z there = elim (put_who-cases m.in_hand (who s) None a z there) [
+        | inl here ↦ absurd (let w : None ≡ Some z = here.1 in cc w)
+        | inr other ↦ (
+            let was = inv.hands a z other.1 in
+            IsInHand-alike m then_machine shapes (put shapes making.ckpt opened_shape) z (looks_then z (apart_from m.in_hand m.pending m.next inv.calls s held a z other.1 other.0)) a (λ live. live) was.number was)
+      ]
+
+      lives : LivesOn m then_machine
+      lives = lives_on-one m then_machine shapes (put shapes making.ckpt opened_shape) inv (λ d. refl) refl refl hands_then s held None (same_call-None s) (λ a. refl)
+
       by_test : (j : ℕ) (g : Entry) → entry_of j R.entries ≡ Some g → (b : Bool) → (j == making.ckpt) ≡ b → IsGoodIn then_machine j (put shapes making.ckpt opened_shape j) g g.making
       by_test j g there false other =
           subst (λ sh. IsGoodIn then_machine j sh g g.making) (sym (ap (λ b. cond b opened_shape (shapes j)) other))
-          (let was : entry_of j m.cluster.entries ≡ Some g = sym (entry_other j other) ∙ there in IsGoodIn-then j (shapes j) g g.making other was (inv.entries j g was))
+          (let was : entry_of j m.cluster.entries ≡ Some g = sym (entry_other j other) ∙ there in IsGoodIn-then lives j (shapes j) g g.making other was (inv.entries j g was))
       by_test j g there true same =
           let at_k : making.ckpt ≡ j = sym (eqb-true j making.ckpt same) in
           let g_is : f ≡ g = same_Some f g (sym entry_here ∙ ap (λ n. entry_of n R.entries) at_k ∙ there) in

@@ -14,6 +14,7 @@ use Rattle.node_msgs.specs.declared.steps.StepReply.{StepReply}
 use Rattle.node_msgs.specs.declared.steps.StepReply.TheVariants as words
 use Rattle.run_labels.specs.declared.labels.Label.{Label}
 use Rattle.run_labels.specs.declared.labels.Label.TheVariants as labels
+use Rattle.cluster_record.specs.Placement.{is_collocated}
 use Rattle.cluster_record.specs.declared.entries.Entry.{Entry}
 use Rattle.cluster_record.specs.Calls.{client_of}
 use Rattle.cluster_record.specs.Makings.{making_of}
@@ -115,9 +116,9 @@ module _ (m : Machine) (inv : Invariant m) (bare : IsBare m) (each : Each (λ o 
   copy_source k s e found (inr has) = (IfSome-at (entry_of k m.cluster.entries) (λ e. IsOfSource e s × Unit {0}) (each.in_hand k s has).1 e found).0.source
 
   -- no such snapshot of this generation is ahead of the active
-  copy_first : (k g : ℕ) (s : Snapshot) (y : ReplicaState) → IsAhead k g m.replicas m.snapshots m.in_hand y → IsCopyOf k s → s.generation ≡ g → IsPrefix s.effects y.effects
-  copy_first k g s y ahead (inl is) present = ahead.snapshot s is present
-  copy_first k g s y ahead (inr has) present = ahead.in_hand s has present
+  copy_first : (k : ℕ) (collocated : Bool) (g : ℕ) (s : Snapshot) (y : ReplicaState) → IsAhead k collocated g m.replicas m.snapshots m.in_hand y → IsCopyOf k s → s.generation ≡ g → IsPrefix s.effects y.effects
+  copy_first k collocated g s y ahead (inl is) present = ahead.snapshot s is present
+  copy_first k collocated g s y ahead (inr has) present = ahead.in_hand s has present
 
   module _ (k r : ℕ) (e : Entry) (s : Snapshot) (x : ReplicaState) (found : entry_of k m.cluster.entries ≡ Some e) (copy : IsCopyOf k s) (there : m.replicas k r ≡ Some x) (own : x.generation ≡ e.generation) (present : s.generation ≡ e.generation) where
     -- a snapshot and a replica of the present generation are both first parts of what the active has
@@ -127,7 +128,7 @@ module _ (m : Machine) (inv : Invariant m) (bare : IsBare m) (each : Each (λ o 
         let (q, active) = led e.active refl source.led in
         let (y, at) = active_there k q e found source.made active in
         let ahead = each.ahead k q e y found source.alone active at in
-        (y, ahead.replica r x there own, copy_first k e.generation s y ahead copy present)
+        (y, ahead.replica r x there (inr own), copy_first k (is_collocated e.attributes) e.generation s y ahead copy present)
       where
         led : (o : Option ℕ) → e.active ≡ o → IsSome o → (q : ℕ) × (e.active ≡ Some q)
         led None is none = absurd (cc none)

@@ -1,5 +1,5 @@
 -- Which calls replicas and snapshots have effects of: of calls that were begun; and one that is in hand commits its update there, since an update of the active alone has ended.
-use Rattle.std.proofs.Common.{◌≡◌, ◌⊎◌, ℕ, ◌+◌, ◌<◌, inl, inr, List, [], ◌∷◌, Option, Some, None, Bool, true, false, cond, ◌==◌, ℤ, refl, sym, ap, subst, ◌∙◌, arith}
+use Rattle.std.proofs.Common.{◌≡◌, ◌⊎◌, ℕ, ◌+◌, ◌<◌, inl, inr, List, [], Option, Some, None, Bool, true, false, cond, ◌==◌, ℤ, refl, sym, ap, subst, ◌∙◌, arith}
 use Rattle.std.specs.Option.{option_map}
 use Rattle.std.specs.Prelude.{IsSomeAnd, IfSome, slice_index}
 use Rattle.std.proofs.lemmas.Option.{same_Some}
@@ -39,15 +39,17 @@ use Rattle.ckpt_machine.specs.Owned.{HasEffect}
 use Rattle.ckpt_machine.specs.Propagation.{copied, replica_from}
 use Rattle.ckpt_machine.specs.Shape.{Shape, IsCompleteOn, IsShapedBy, IsOwner, IsMarker, IsSpread, slot_by, marks_at}
 use Rattle.ckpt_machine.specs.Steps.{Told, IsDone, IsDue, driver_of, due, rooms_of, after_beginning, with_record, call_begun, changed, kept_behind, counted_at, pulled_by, stepped, step_of, after}
+use Rattle.ckpt_machine.proofs.Runs.{along}
 use Rattle.ckpt_machine.proofs.Copying.{IsPulledFrom, after_pull, after_put, put-cases}
 use Rattle.ckpt_machine.proofs.OwnMaking.{making_there}
 use Rattle.ckpt_machine.proofs.Joining.{collocated_apart}
 use Rattle.ckpt_machine.proofs.Follows.{IsIncomplete, IsBare, Has, HasCopied, HasInHand, ReplicasFollow, record_follows, replica_follows, StepNeeds, changed_follows}
-use Rattle.ckpt_machine.specs.Runs.{last_from, last, IsRunFrom, IsRun}
+use Rattle.ckpt_machine.specs.Runs.{last, IsRun}
 use Rattle.ckpt_machine.proofs.Lawful.{lawful}
 use Rattle.ckpt_machine.proofs.Start.{invariant_empty}
 use Rattle.ckpt_machine.proofs.Starting.{first_kept, begun_as}
 use Rattle.ckpt_machine.proofs.Actors.{same_actor-true}
+use Rattle.ckpt_machine.proofs.Lives.{owner_in}
 use Rattle.ckpt_machine.proofs.NodeLists.{slice_index-replicate}
 use Rattle.ckpt_machine.proofs.Owning.{owner_origin}
 use Rattle.ckpt_machine.specs.Whose.{same_who}
@@ -115,7 +117,7 @@ module _ (m : Machine) (shapes : ℕ → Shape) (inv : InvariantIn shapes m) (ba
   slot_owned k r x slot there staged =
       let (e, found, complete) = entry_there k r x there in
       let at = shaped_there k r x e there found in
-      by_shape (is_all e.attributes) e.active at.shaped (at.spread.owned r)
+      by_shape (is_all e.attributes) e.active at.shaped (λ d owns. owner_in m k (shapes k) d (at.spread.owned r d owns) (at.spread.live r d owns))
     where
       by_owner : (o : Option CallId) → (shapes k).owners r ≡ o → slot_by (shapes k) o ≡ Some slot → ((d : CallId) → (shapes k).owners r ≡ Some d → IsOwner m k (shapes k) d) → IsOwner m k (shapes k) slot.owner × (slot.origin ≡ slot.owner) × (slot.update ≡ (shapes k).update)
       by_owner None is none owned = absurd (cc none)
@@ -545,9 +547,5 @@ keeps_history m (labels.Put k r reply) inv history allowed is = after_put HasHis
 keeps_history m l inv history allowed is = absurd is
 
 -- so it holds in a run, with the invariant
-run_with_history : (m : Machine) (log : List Label) → Invariant m → HasHistory m → IsRunFrom m log → Invariant (last_from m log) × HasHistory (last_from m log)
-run_with_history m [] inv history run = (inv, history)
-run_with_history m (l ∷ log) inv history run = run_with_history (after m l) log (lawful m l inv run.1).1 (keeps_history m l inv history run.0 run.1) run.2
-
 pub run_history : (log : List Label) → IsRun log → Invariant (last log) × HasHistory (last log)
-run_history log run = run_with_history empty_cluster log invariant_empty history_empty run
+run_history log run = along (λ log m. Invariant m × HasHistory m) (λ front l before allowed due had. ((lawful (last front) l had.0 due).1, keeps_history (last front) l had.0 had.1 allowed due)) [] log run (invariant_empty, history_empty)

@@ -12,8 +12,8 @@ use Rattle.cluster_record.specs.RecordState.{referred, joined, opened_with}
 use Rattle.cluster_record.proofs.IdentityLaws.{KeepsIdentity}
 use Rattle.ckpt_machine.specs.Later.{IsLaterEntry}
 use Rattle.ckpt_machine.specs.Options.{is_all}
-use Rattle.ckpt_machine.specs.Shape.{IsCompleteOn}
-use Rattle.ckpt_machine.proofs.NodeLists.{index-set, index-other, length-slice_set}
+use Rattle.ckpt_machine.specs.Shape.{NodesAreUp, IsCompleteOn}
+use Rattle.ckpt_machine.proofs.NodeLists.{index-within, index-set, index-other, length-slice_set}
 
 -- ---- where updates are on all replicas
 
@@ -79,6 +79,22 @@ module _ (opener : ℕ) (up : List ℕ) (e : Entry) where
           let w : true ≡ false = sym was ∙ subst (λ (q : ℕ). (slice_index e.complete q == 0) ≡ false) same there in
           cc w
 
+  -- the nodes on which it is complete are up, where they were
+  joined-up : NodesAreUp up e → NodesAreUp up (joined opener up e)
+  joined-up was = elim (adds e.attributes opener e.complete) as (λ b. NodesAreUp up (cond b (record e { complete = with_opener }) e)) [
+    | true ↦ λ r there. by_node r there (r == opener) refl
+    | false ↦ was
+  ]
+    where
+      by_node : (r : ℕ) → (slice_index with_opener r == 0) ≡ false → (b : Bool) → (r == opener) ≡ b → slice_index up r ≡ slice_index with_opener r
+      by_node r there true same =
+          let here : r ≡ opener = eqb-true r opener same in
+          let within : opener < length e.complete = subst (λ (n : ℕ). opener < n) (length-slice_set e.complete opener (slice_index up opener)) (subst (λ (q : ℕ). q < length with_opener) here (index-within with_opener r there)) in
+          ap (slice_index up) here ∙ sym (index-set e.complete opener (slice_index up opener) within) ∙ ap (slice_index with_opener) (sym here)
+      by_node r there false other =
+          let stays = index-other e.complete opener r (slice_index up opener) other in
+          was r (ap (λ n. n == 0) (sym stays) ∙ there) ∙ sym stays
+
   joined-nodes : length (joined opener up e).complete ≡ length e.complete
   joined-nodes = joined-same {X = ℕ} (λ e. length e.complete) (length-slice_set e.complete opener (slice_index up opener))
 
@@ -92,13 +108,14 @@ opened_with-identity opener up c e = joined-same opener up e {X = ℕ} (λ e. e.
 -- ---- later entries
 
 -- an entry with the same nodes
-pub same_nodes-later : (e f : Entry) → f.making ≡ e.making → f.complete ≡ e.complete → f.active ≡ e.active → f.attributes ≡ e.attributes → f.generation ≡ e.generation → f.hold ≡ e.hold → length f.references ≡ length e.references → IsLaterEntry e f
-same_nodes-later e f making complete active attributes generation hold clients = record {
+pub same_nodes-later : (up : List ℕ) (e f : Entry) → f.making ≡ e.making → f.complete ≡ e.complete → f.active ≡ e.active → f.attributes ≡ e.attributes → f.generation ≡ e.generation → f.hold ≡ e.hold → length f.references ≡ length e.references → IsLaterEntry up e f
+same_nodes-later up e f making complete active attributes generation hold clients = record {
   making = making;
   unmade = λ some. complete;
   placed = λ apart. complete;
   nodes = ap length complete;
   grows = λ r there. subst (λ (cs : List ℕ). (slice_index cs r == 0) ≡ false) (sym complete) there;
+  lives = λ was. subst (λ (cs : List ℕ). (r : ℕ) → (slice_index cs r == 0) ≡ false → slice_index up r ≡ slice_index cs r) (sym complete) was;
   active = active;
   attributes = attributes;
   generation = generation;
@@ -107,21 +124,22 @@ same_nodes-later e f making complete active attributes generation hold clients =
 }
 
 -- the same
-pub IsLaterEntry-refl : (e : Entry) → IsLaterEntry e e
-IsLaterEntry-refl e = same_nodes-later e e refl refl refl refl refl refl refl
+pub IsLaterEntry-refl : (up : List ℕ) (e : Entry) → IsLaterEntry up e e
+IsLaterEntry-refl up e = same_nodes-later up e e refl refl refl refl refl refl refl
 
 -- one reference more changes nothing that the invariant looks at
-pub referred-later : (c : ℕ) (e : Entry) → IsLaterEntry e (referred c e)
-referred-later c e = same_nodes-later e (referred c e) refl refl refl refl refl refl (length-slice_set e.references c _)
+pub referred-later : (up : List ℕ) (c : ℕ) (e : Entry) → IsLaterEntry up e (referred c e)
+referred-later up c e = same_nodes-later up e (referred c e) refl refl refl refl refl refl (length-slice_set e.references c _)
 
 -- what an open leaves of one that is made
-pub opened_with-later : (opener : ℕ) (up : List ℕ) (c : ℕ) (e : Entry) → e.making ≡ None → IsLaterEntry e (opened_with opener up c e)
+pub opened_with-later : (opener : ℕ) (up : List ℕ) (c : ℕ) (e : Entry) → e.making ≡ None → IsLaterEntry up e (opened_with opener up c e)
 opened_with-later opener up c e made = record {
   making = joined-making opener up e;
   unmade = λ some. absurd (let w : false ≡ true = sym (ap (λ o. is_some o) made) ∙ some in cc w);
   placed = joined-placed opener up e;
   nodes = joined-nodes opener up e;
   grows = joined-complete opener up e;
+  lives = joined-up opener up e;
   active = joined-active opener up e;
   attributes = joined-attributes opener up e;
   generation = joined-generation opener up e;

@@ -23,7 +23,6 @@ use Rattle.ckpt_machine.proofs.Dropped.{held_as}
 use Rattle.ckpt_machine.proofs.EndedAsync.{told_keeps}
 use Rattle.ckpt_machine.proofs.OwnCheckpoint.{own_step}
 use Rattle.ckpt_machine.proofs.OpenSteps.{open_goes}
-use Rattle.ckpt_machine.proofs.NodeLists.{is_up-none}
 
 -- ---- a due step of a call in hand
 
@@ -50,7 +49,7 @@ lawful m (labels.Stepped call op verb k r reply end details) inv step =
       subst (λ o. Invariant (step_of m o verb k r reply end)) (sym step.in_hand) (told_keeps m inv step.state held told goes.holds),
     )
 lawful m (labels.Word who word said) inv is = (word_row m who word said is, inv)
-lawful m (labels.Nodes n) inv is = ((is.0, is.1, λ r. is_up-none r m.cluster is.2), record { shapes = inv.shapes; holds = nodes_keep m inv.shapes inv.holds n is.2 })
+lawful m (labels.Nodes n) inv is = (is, record { shapes = inv.shapes; holds = nodes_keep m inv.shapes inv.holds n (inv.holds.first_up is.2) })
 lawful m (labels.Moved t) inv is = (is, moved_keeps m t inv)
 lawful m (labels.Shown k replicas) inv is = (is, inv)
 lawful m (labels.Pulled k reply) inv is = (is, record { shapes = inv.shapes; holds = pull_keeps m inv.shapes inv.holds k reply (source_at m k) })

@@ -20,7 +20,7 @@ use Rattle.cluster_record.specs.Calls.{IsClient, same_actor, put_actor, number_o
 use Rattle.cluster_record.specs.DueOnce.{Leave}
 use Rattle.cluster_record.specs.Identities.{IdentitiesRise}
 use Rattle.cluster_record.specs.Places.{find_key}
-use Rattle.cluster_record.specs.RecordState.{RecordState, entry_of, client_key, stays, swept, released_all, is_call_of, departed}
+use Rattle.cluster_record.specs.RecordState.{RecordState, entry_of, client_key, is_live, is_live_from, stays, swept, released_all, is_call_of, departed}
 use Rattle.cluster_record.proofs.IdentityLaws.{IdentitiesRise-filter, IdentitiesRise-map, AllUpTo-filter, AllUpTo-map}
 use Rattle.cluster_record.proofs.MakingCounts.{is_call_of-own}
 use Rattle.ckpt_machine.specs.Drivers.{Driver}
@@ -155,20 +155,20 @@ module _ (m : Machine) (shapes : ℕ → Shape) (inv : InvariantIn shapes m) (s 
   left_rise : IdentitiesRise left_then.entries
   left_rise = IdentitiesRise-map release (released_all-identity leaver m.cluster.moment) (filter others_made m.cluster.entries) others_rise
 
-  released_later : ComesOf IsLaterEntry (filter others_made m.cluster.entries) left_then.entries
-  released_later = ComesOf-map IsLaterEntry release (released_all-identity leaver m.cluster.moment) (released_all-later leaver m.cluster.moment) (filter others_made m.cluster.entries)
+  released_later : ComesOf (IsLaterEntry m.cluster.up) (filter others_made m.cluster.entries) left_then.entries
+  released_later = ComesOf-map (IsLaterEntry m.cluster.up) release (released_all-identity leaver m.cluster.moment) (released_all-later m.cluster.up leaver m.cluster.moment) (filter others_made m.cluster.entries)
 
-  swept_later : ComesOf IsLaterEntry m.cluster.entries (swept left_then).entries
-  swept_later = ComesOf-then IsLaterEntry IsLaterEntry IsLaterEntry IsLaterEntry-then m.cluster.entries left_then.entries (swept left_then).entries
-      (ComesOf-then IsLaterEntry IsLaterEntry IsLaterEntry IsLaterEntry-then m.cluster.entries (filter others_made m.cluster.entries) left_then.entries (ComesOf-filter IsLaterEntry IsLaterEntry-refl others_made m.cluster.entries inv.rises) released_later)
-      (ComesOf-filter IsLaterEntry IsLaterEntry-refl (stays m.cluster.moment) left_then.entries left_rise)
+  swept_later : ComesOf (IsLaterEntry m.cluster.up) m.cluster.entries (swept left_then).entries
+  swept_later = ComesOf-then (IsLaterEntry m.cluster.up) (IsLaterEntry m.cluster.up) (IsLaterEntry m.cluster.up) (IsLaterEntry-then m.cluster.up) m.cluster.entries left_then.entries (swept left_then).entries
+      (ComesOf-then (IsLaterEntry m.cluster.up) (IsLaterEntry m.cluster.up) (IsLaterEntry m.cluster.up) (IsLaterEntry-then m.cluster.up) m.cluster.entries (filter others_made m.cluster.entries) left_then.entries (ComesOf-filter (IsLaterEntry m.cluster.up) (IsLaterEntry-refl m.cluster.up) others_made m.cluster.entries inv.rises) released_later)
+      (ComesOf-filter (IsLaterEntry m.cluster.up) (IsLaterEntry-refl m.cluster.up) (stays m.cluster.moment) left_then.entries left_rise)
 
   -- what another client's call is making is left
   makes_still : (z : CallState) → IsClient z.call.actor → (client_of z.call == leaver) ≡ false → (k : ℕ) (e : Entry) → entry_of k m.cluster.entries ≡ Some e → e.making ≡ Some z.call → IsSome (entry_of k (swept left_then).entries)
   makes_still z is_client other k e was by =
       let among : others_made e ≡ true = ap (λ o. not (is_call_of leaver o)) by ∙ ap not (not_call_of leaver z.call is_client other) in
       let found = found_map release (released_all-identity leaver m.cluster.moment) k (filter others_made m.cluster.entries) e (found_filter others_made k m.cluster.entries e was among) in
-      let made_by : is_some (release e).making ≡ true = ap is_some (released_all-later leaver m.cluster.moment e).making ∙ ap is_some by in
+      let made_by : is_some (release e).making ≡ true = ap is_some (released_all-later m.cluster.up leaver m.cluster.moment e).making ∙ ap is_some by in
       ap is_some (found_filter (stays m.cluster.moment) k left_then.entries (release e) found (making_stays m.cluster.moment (release e) made_by))
 
   -- what is left is none of the client's
@@ -242,9 +242,16 @@ module _ (m : Machine) (shapes : ℕ → Shape) (inv : InvariantIn shapes m) (s 
       by_test true same there = absurd (let (i, below, at) = there in omega (arith, below))
       by_test false other there = other_number b a (emptied_inv.handles b h among).client client other
 
+  -- a dead call is dead still, as there are fewer clients
+  dead_left : (b : ActorName) (number : ℕ) → is_live m.cluster (record { actor = b; number = number }) ≡ false → is_live left_then (record { actor = b; number = number }) ≡ false
+  dead_left (Node q) number gone = gone
+  dead_left (Client d) number gone = ap (λ o. is_live_from o number) (find_key-without client_key leaver d m.cluster.clients)
+      ∙ elim (d == leaver) as (λ b. is_live_from (cond b None (find_key client_key d m.cluster.clients)) number ≡ false) [ true ↦ refl | false ↦ gone ]
+
   later : IsLaterRecord emptied_then (swept left_then) hands
   later = record {
     up = refl;
+    incarnations = refl;
     last = refl;
     rises = IdentitiesRise-filter (stays m.cluster.moment) left_then.entries left_rise;
     up_to = AllUpTo-filter (stays m.cluster.moment) m.cluster.last_identity left_then.entries (AllUpTo-map release (released_all-identity leaver m.cluster.moment) m.cluster.last_identity (filter others_made m.cluster.entries) (AllUpTo-filter others_made m.cluster.last_identity m.cluster.entries inv.up_to));
@@ -253,6 +260,7 @@ module _ (m : Machine) (shapes : ℕ → Shape) (inv : InvariantIn shapes m) (s 
     none_live = λ none. ap (filter (λ live. not (client_key live == leaver))) (inv.none_live none);
     clients = λ d. subst (λ o. IfSome o (IsGoodClient m.next left_then d)) (sym (find_key-without client_key leaver d m.cluster.clients)) (elim (d == leaver) as (λ b. IfSome (cond b None (find_key client_key d m.cluster.clients)) (IsGoodClient m.next left_then d)) [ true ↦ tt | false ↦ inv.clients d ]);
     was_held = λ w z left. (left_is w z left).2;
+    dead = λ d dead. dead_left d.actor d.number dead.gone;
     live = λ w z left live. let (is_client, other) = others_client w z left in live_alike m.cluster left_then z.call is_client (found_other (client_of z.call) other) ∙ live;
     lives = λ w z left. found_other (client_of z.call) (others_client w z left).1;
     makes = λ w z k e left was by. let (is_client, other) = others_client w z left in makes_still z is_client other k e was by;

@@ -10,6 +10,8 @@ pub mod Deadlines
 pub mod NextOf
 pub mod Calls
 pub mod CallsKept
+pub mod Lives
+pub mod HasUpdates
 pub mod CallsPending
 pub mod Refusing
 pub mod Endings
@@ -85,6 +87,7 @@ pub mod DueStep
 pub mod StepLabels
 pub mod EntryLists
 pub mod Runs
+pub mod Quiet
 pub mod RunLaws
 pub mod AskedFor
 pub mod OpenFacts

@@ -38,17 +38,19 @@ making_stays t e some = ap (λ b. b || has_references e || (is_some e.name && no
 moved_later : (m : Machine) (shapes : ℕ → Shape) (t : ℤ) → InvariantIn shapes m → IsLaterRecord m (moved t m.cluster) m.in_hand
 moved_later m shapes t inv = record {
   up = refl;
+  incarnations = refl;
   last = refl;
   rises = IdentitiesRise-filter (stays t) m.cluster.entries inv.rises;
   up_to = AllUpTo-filter (stays t) m.cluster.last_identity m.cluster.entries inv.up_to;
   swept = AllStay-swept t m.cluster.entries;
   later = λ k f found. elim (filter_leaves (stays t) m.cluster.entries inv.rises k) [
     | inl none ↦ absurd (let w : None ≡ Some f = sym none ∙ found in cc)
-    | inr same ↦ (f, sym same ∙ found, IsLaterEntry-refl f)
+    | inr same ↦ (f, sym same ∙ found, IsLaterEntry-refl m.cluster.up f)
   ];
   none_live = inv.none_live;
   clients = inv.clients;
   was_held = λ a z held. held;
+  dead = λ d dead. dead.gone;
   live = λ a z held live. live;
   lives = λ a z held. refl;
   makes = λ a z k e held found by. ap is_some (found_swept t k m.cluster.entries e found (making_stays t e (ap is_some by)));

@@ -1,10 +1,9 @@
 -- Replicas are on complete nodes still, after a step of the record and where one of them is changed.
-use Rattle.std.proofs.Common.{◌≡◌, ℕ, ◌≤◌, arith, Option, Some, None, Bool, true, false, cond, ◌&&◌, ◌==◌, refl, sym, ap, subst, ◌∙◌}
+use Rattle.std.proofs.Common.{◌≡◌, ℕ, ◌≤◌, arith, List, Option, Some, None, Bool, true, false, cond, ◌&&◌, ◌==◌, refl, sym, ap, subst, ◌∙◌}
 use Rattle.std.specs.Prelude.{IsSomeAnd, slice_index}
 use Rattle.std.proofs.lemmas.Bool.{eqb-true, and_parts}
 use Rattle.std.proofs.lemmas.Option.{same_Some}
 use Rattle.cluster_record.specs.declared.entries.Entry.{Entry}
-use Rattle.cluster_record.specs.Placement.{is_collocated}
 use Rattle.cluster_record.specs.Places.{put2}
 use Rattle.cluster_record.specs.RecordState.{RecordState}
 use Rattle.ckpt_machine.specs.Invariant.{IsOfGeneration, IsCompleteAt}
@@ -15,14 +14,13 @@ use Rattle.ckpt_machine.specs.Steps.{opened_state, replica_under}
 
 -- the generation of its checkpoint is one that each replica may have
 pub present_generation : (e : Entry) (r generation : ℕ) → generation ≡ e.generation → IsOfGeneration e r generation
-present_generation e r generation same = record { within = omega (arith, same); led = λ led. same; placed = λ apart. same }
+present_generation e r generation same = record { within = omega (arith, same); led = λ led. same }
 
 -- a replica may have what it had, under a later entry
-pub IsOfGeneration-later : (e f : Entry) (r generation : ℕ) → IsLaterEntry e f → IsOfGeneration e r generation → IsOfGeneration f r generation
-IsOfGeneration-later e f r generation later was = record {
+pub IsOfGeneration-later : (up : List ℕ) (e f : Entry) (r generation : ℕ) → IsLaterEntry up e f → IsOfGeneration e r generation → IsOfGeneration f r generation
+IsOfGeneration-later up e f r generation later was = record {
   within = let at_most : generation ≤ e.generation = was.within in let same : f.generation ≡ e.generation = later.generation in omega (arith, at_most, same);
   led = λ led. was.led (sym later.active ∙ led) ∙ sym later.generation;
-  placed = λ apart. was.placed (ap is_collocated (sym later.attributes) ∙ apart) ∙ sym later.generation;
 }
 
 -- what is left of a replica under an entry is on a node on which this is complete, and may have its generation, where it had one that it may have

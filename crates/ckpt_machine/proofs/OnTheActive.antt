@@ -20,7 +20,7 @@ use Rattle.cluster_record.specs.RecordState.{entry_of, is_live}
 use Rattle.ckpt_machine.specs.Drivers as drivers
 use Rattle.ckpt_machine.specs.Driving.{refused_cause}
 use Rattle.ckpt_machine.specs.Guards.{OnActive, ActiveRefused, ActiveHeld}
-use Rattle.ckpt_machine.specs.InHand.{is_enter, is_marked_by, IsInPlace, IsActiveIn}
+use Rattle.ckpt_machine.specs.InHand.{is_enter, is_marked_by, are_present, IsInPlace, IsActiveIn}
 use Rattle.ckpt_machine.specs.Invariant.{IsGoodIn, InvariantIn, Invariant}
 use Rattle.ckpt_machine.specs.Machine.{Machine, ReplicaState, CallState, who}
 use Rattle.ckpt_machine.specs.Options.{is_all, is_weak, is_by_element}
@@ -104,7 +104,7 @@ module _ (m : Machine) (shapes : ℕ → Shape) (inv : InvariantIn shapes m) (s 
 
     -- another's marks hold it off, which is live
     pub another : (marks : Marked) → (shapes k).marks ≡ Some marks → same_call marks.call s.call ≡ false
-    another marks stand = sym (ap (is_marked_by s.call) stand) ∙ at_active.marks at.entry at.found ∙ ap is_some none
+    another marks stand = sym (ap (is_marked_by s.call) stand) ∙ at_active.marks at.entry at.found ∙ ap (are_present at.entry) none
 
     pub holder_live : (marks : Marked) → (shapes k).marks ≡ Some marks → is_live m.cluster marks.call ≡ true
     holder_live marks stand = marker_live m shapes k marks inv (spread.marked marks stand)

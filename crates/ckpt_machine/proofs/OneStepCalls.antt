@@ -43,11 +43,11 @@ use Rattle.ckpt_machine.proofs.Whose.{other_call}
 
 -- ---- changes that the invariant does not look at
 
-unnamed-later : (e : Entry) → IsLaterEntry e (unnamed e)
-unnamed-later e = same_nodes-later e (unnamed e) refl refl refl refl refl refl refl
+unnamed-later : (up : List ℕ) (e : Entry) → IsLaterEntry up e (unnamed e)
+unnamed-later up e = same_nodes-later up e (unnamed e) refl refl refl refl refl refl refl
 
-retaining-later : (duration : ℤ) (e : Entry) → IsLaterEntry e (retaining duration e)
-retaining-later duration e = same_nodes-later e (retaining duration e) refl refl refl refl refl refl refl
+retaining-later : (up : List ℕ) (duration : ℤ) (e : Entry) → IsLaterEntry up e (retaining duration e)
+retaining-later up duration e = same_nodes-later up e (retaining duration e) refl refl refl refl refl refl refl
 
 -- ---- a close
 
@@ -79,7 +79,7 @@ module _ (m : Machine) (shapes : ℕ → Shape) (inv : InvariantIn shapes m) (s 
       record {
         shapes = shapes;
         holds = closing_ends s m shapes inv held plain_close n.cluster n.replicas n.reserved n.snapshots
-            (changed_keeps without_syncs_then shapes syncs_keep s held_then (ap (λ d. is_plain d s.snapshot) is) k (unreferred c m.cluster.moment) (released-identity c m.cluster.moment) (λ e found. released-later c m.cluster.moment e));
+            (changed_keeps without_syncs_then shapes syncs_keep s held_then (ap (λ d. is_plain d s.snapshot) is) k (unreferred c m.cluster.moment) (released-identity c m.cluster.moment) (λ e found. released-later m.cluster.up c m.cluster.moment e));
       }
 
   -- also where it does nothing else
@@ -125,7 +125,7 @@ module _ (m : Machine) (shapes : ℕ → Shape) (inv : InvariantIn shapes m) (s 
     unlink_event t made event = elim (IsEvent-told m s events.Unlink t (drivers.Once (Unlink name)) event is refl tt) [
       | inl ok ↦ subst (Goes m s (driver_of s)) (sym (ok ∙ (λ i. record { verb = verbs.Unlink; ckpt = identity_in (found i); node = None; reply = words.Ok; end = Some (Done answers.Nothing); details = beside.Nothing }))) (record {
         row = ((name, at_unlink, (IsSomeAnd-from (named name m.cluster.entries) (CanUnlink e.identity) e found (record { identity = refl; made = made }), refl)), refl);
-        holds = record { shapes = shapes; holds = changed_keeps m shapes inv s held (ap (λ d. is_plain d s.snapshot) is) e.identity unnamed (λ x. refl) (λ e found. unnamed-later e) };
+        holds = record { shapes = shapes; holds = changed_keeps m shapes inv s held (ap (λ d. is_plain d s.snapshot) is) e.identity unnamed (λ x. refl) (λ e found. unnamed-later m.cluster.up e) };
         nearer = λ none. absurd (cc none);
       })
       | inr memory ↦ absurd (cc (memory.0))
@@ -167,7 +167,7 @@ module _ (m : Machine) (shapes : ℕ → Shape) (inv : InvariantIn shapes m) (s 
     | inl ok ↦ subst (Goes m s (driver_of s)) (sym ok) (record {
       row = ((at_retain.place, duration, at_retain.asks, (at_retain.kept, IsSomeAnd-from (entry_of k m.cluster.entries) (λ e. IsSome e.name) e found has, refl)), refl);
       holds = subst (λ ask. Invariant (ending s (record_step (retained_for ask k) m))) (sym at_retain.asks)
-          (record { shapes = shapes; holds = changed_keeps m shapes inv s held (ap (λ d. is_plain d s.snapshot) is) k (retaining duration) (λ x. refl) (λ e found. retaining-later duration e) });
+          (record { shapes = shapes; holds = changed_keeps m shapes inv s held (ap (λ d. is_plain d s.snapshot) is) k (retaining duration) (λ x. refl) (λ e found. retaining-later m.cluster.up duration e) });
       nearer = λ none. absurd (cc none);
     })
     | inr memory ↦ absurd (cc (memory.0))

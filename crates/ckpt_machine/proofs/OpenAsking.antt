@@ -144,16 +144,18 @@ module _ (m : Machine) (shapes : ℕ → Shape) (inv : InvariantIn shapes m) (s 
       built = hand.built;
       driven = hand.driven;
       live = λ others. hand.live (ap is_enter is);
+      home = λ others. hand.home (ap is_enter is);
       here = subst (IsInPlace then_machine shapes then_state) (sym driver_then) (record {
         caller = at_open.caller;
         client = at_open.client;
         within = at_open.within;
         node = at_open.node;
+        home = at_open.home;
         asks = let open_asks = at_open.asks in record { place = open_asks.place; flags = open_asks.flags; timeout = open_asks.timeout; asks = open_asks.asks };
         named = at_open.named;
         declared = at_open.declared;
         deadline = at_open.deadline;
-        making = record { there = IsSomeAnd-from (entry_of next after_it.entries) (λ e. e.making ≡ Some s.call) new found_new refl; declares = IsSomeAnd-from (entry_of next after_it.entries) _ new found_new (ap attributes_asked at_open.asks.asks ∙ given); nodes = refl; reserved = λ r had. absurd (none_reserved r (slice_index m.cluster.up r) had); only = λ r none. never_reserved r; within = λ r some. absurd (let w : true ≡ false = sym (ap (λ (n : ℕ). n == 0) (slice_index-replicate 8 r)) ∙ some in cc w) };
+        making = record { there = IsSomeAnd-from (entry_of next after_it.entries) (λ e. e.making ≡ Some s.call) new found_new refl; declares = IsSomeAnd-from (entry_of next after_it.entries) _ new found_new (ap attributes_asked at_open.asks.asks ∙ given); nodes = refl; reserved = λ r had. absurd (none_reserved r (slice_index m.cluster.up r) had); only = λ r none. never_reserved r; within = λ r some. absurd (let w : false ≡ true = sym (ap is_some (never_reserved r)) ∙ some in cc w) };
         given = λ some. ap is_some given;
       });
     }
@@ -193,7 +195,7 @@ module _ (m : Machine) (shapes : ℕ → Shape) (inv : InvariantIn shapes m) (s 
 
     -- its reservations and its finish are left
     create_nearer : steps_left after_it (drivers.Open at_making) < steps_left m.cluster (drivers.Open asking)
-    create_nearer = let few = lacking-few m.cluster.up no_nodes in let nodes : length m.cluster.up ≡ 8 = ap length inv.up.1 in omega (arith, few, nodes)
+    create_nearer = let few = lacking-few m.cluster.up no_nodes in let nodes : length m.cluster.up ≡ 8 = inv.up in omega (arith, few, nodes)
 
     -- it may be created
     may_create : (rooms_of m s).handles ≡ true → length m.cluster.entries < 16 → MayCreate m s ask.name ask.attrs next

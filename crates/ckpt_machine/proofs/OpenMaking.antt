@@ -159,7 +159,7 @@ module _ (m : Machine) (shapes : ℕ → Shape) (inv : InvariantIn shapes m) (s 
   targets_are = ap (λ a. targets_by a (home_of ask.client m.cluster) m.cluster.up) (sym (ap attributes_asked at_open.asks.asks) ∙ subst (λ o. IsSomeAnd o (λ (e : Entry). attributes_asked (asked s.op) ≡ Some e.attributes)) entry.1 its.declares)
 
   targets_length : length (targets_of ask m.cluster) ≡ 8
-  targets_length = ap length targets_are ∙ targets-length entry.0.attributes (home_of ask.client m.cluster) m.cluster.up (ap length inv.up.1)
+  targets_length = ap length targets_are ∙ targets-length entry.0.attributes (home_of ask.client m.cluster) m.cluster.up inv.up
 
   -- one of them is up, in its incarnation
   there_up : (r : ℕ) → (slice_index (targets_of ask m.cluster) r == 0) ≡ false → slice_index (targets_of ask m.cluster) r ≡ slice_index m.cluster.up r
@@ -246,13 +246,13 @@ module _ (m : Machine) (shapes : ℕ → Shape) (inv : InvariantIn shapes m) (s 
 
     -- it keeps one incarnation for each node
     same_length : length making.reserved ≡ length m.cluster.up
-    same_length = its.nodes ∙ sym (ap length inv.up.1)
+    same_length = its.nodes ∙ sym inv.up
 
     -- the node is up
     up_there : is_up r m.cluster ≡ true
     up_there =
         let there : (slice_index m.cluster.up r == 0) ≡ false = (lacked-has (slice_index m.cluster.up r) (slice_index making.reserved r) lacked).0 in
-        let within : r < 8 = subst (λ (n : ℕ). r < n) (ap length inv.up.1) (index-within m.cluster.up r there) in
+        let within : r < 8 = subst (λ (n : ℕ). r < n) inv.up (index-within m.cluster.up r there) in
         λ i. lt-ltb r 8 within i && not (there i)
 
     -- it is to be made there
@@ -283,11 +283,13 @@ module _ (m : Machine) (shapes : ℕ → Shape) (inv : InvariantIn shapes m) (s 
         built = hand.built;
         driven = hand.driven;
         live = λ others. hand.live (ap is_enter is);
+        home = λ others. hand.home (ap is_enter is);
         here = subst (IsInPlace then_machine shapes then_state) (sym driver_then) (record {
           caller = at_open.caller;
           client = at_open.client;
           within = at_open.within;
           node = at_open.node;
+          home = at_open.home;
           asks = let open_asks = at_open.asks in record { place = open_asks.place; flags = open_asks.flags; timeout = open_asks.timeout; asks = open_asks.asks };
           named = at_open.named;
           declared = at_open.declared;
@@ -332,11 +334,11 @@ module _ (m : Machine) (shapes : ℕ → Shape) (inv : InvariantIn shapes m) (s 
     targets_now : targets_by (attributes_asked (asked s.op)) (home_of (client_of s.call) m.cluster) m.cluster.up ≡ targets_of ask m.cluster
     targets_now = (λ i. targets_by (ap attributes_asked at_open.asks.asks i) (home_of (sym at_open.client i) m.cluster) m.cluster.up)
 
-    within_then : (q : ℕ) → (slice_index (slice_set making.reserved r (slice_index m.cluster.up r)) q == 0) ≡ false → (slice_index (targets_by (attributes_asked (asked s.op)) (home_of (client_of s.call) m.cluster) m.cluster.up) q == 0) ≡ false
-    within_then q some = elim (q == r) as (λ b. (q == r) ≡ b → (slice_index (targets_by (attributes_asked (asked s.op)) (home_of (client_of s.call) m.cluster) m.cluster.up) q == 0) ≡ false) [
-      | true ↦ λ same. ap (λ nodes. slice_index nodes q == 0) targets_now ∙ ap (λ (n : ℕ). slice_index (targets_of ask m.cluster) n == 0) (eqb-true q r same) ∙ target
-      | false ↦ λ other. its.within q (ap (λ (n : ℕ). n == 0) (sym (index-other making.reserved r q (slice_index m.cluster.up r) other)) ∙ some)
-    ] refl
+    within_then : (q : ℕ) → IsSome (put_there k q) → (slice_index (targets_by (attributes_asked (asked s.op)) (home_of (client_of s.call) m.cluster) m.cluster.up) q == 0) ≡ false
+    within_then q some = elim (q == r) as (λ b. (q == r) ≡ b → IsSome (cond b (Some (slice_index m.cluster.up r)) (m.reserved k q)) → (slice_index (targets_by (attributes_asked (asked s.op)) (home_of (client_of s.call) m.cluster) m.cluster.up) q == 0) ≡ false) [
+      | true ↦ λ same has. ap (λ nodes. slice_index nodes q == 0) targets_now ∙ ap (λ (n : ℕ). slice_index (targets_of ask m.cluster) n == 0) (eqb-true q r same) ∙ target
+      | false ↦ λ other had. its.within q had
+    ] refl (subst (λ b. IsSome (cond (b && (q == r)) (Some (slice_index m.cluster.up r)) (m.reserved k q))) (eq-eqb k k refl) some)
 
     -- the invariant holds after the reservation
     reserved_holds : Invariant (going_on s reserve_done (with_reservation k r m))

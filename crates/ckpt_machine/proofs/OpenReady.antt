@@ -181,7 +181,7 @@ module _ (m : Machine) (shapes : ℕ → Shape) (inv : InvariantIn shapes m) (s 
 
     -- it keeps one incarnation for each node
     same_length : length making.reserved ≡ length (targets_of o.ask m.cluster)
-    same_length = its.nodes ∙ sym (ap length targets_are ∙ targets-length entry.0.attributes (home_of o.ask.client m.cluster) m.cluster.up (ap length inv.up.1))
+    same_length = its.nodes ∙ sym (ap length targets_are ∙ targets-length entry.0.attributes (home_of o.ask.client m.cluster) m.cluster.up inv.up)
 
     -- one of them is up, in its incarnation
     there_up : (r : ℕ) → (slice_index (targets_of o.ask m.cluster) r == 0) ≡ false → slice_index (targets_of o.ask m.cluster) r ≡ slice_index m.cluster.up r
@@ -203,7 +203,7 @@ module _ (m : Machine) (shapes : ℕ → Shape) (inv : InvariantIn shapes m) (s 
         let same : at_r.place ≡ r = omega (arith, here) in
         let target : (slice_index (targets_of o.ask m.cluster) r == 0) ≡ false = (lacked-has (slice_index (targets_of o.ask m.cluster) r) (slice_index making.reserved r) (subst (λ (q : ℕ). lacks (slice_index (targets_of o.ask m.cluster) q) (slice_index making.reserved q) ≡ true) same at_r.lacked)).0 in
         let there : (slice_index m.cluster.up r == 0) ≡ false = ap (λ (n : ℕ). n == 0) (sym (there_up r target)) ∙ target in
-        let within : r < 8 = subst (λ (n : ℕ). r < n) (ap length inv.up.1) (index-within m.cluster.up r there) in (
+        let within : r < 8 = subst (λ (n : ℕ). r < n) inv.up (index-within m.cluster.up r there) in (
           within,
           IsSomeAnd-from (entry_of making.ckpt m.cluster.entries) (IsReservable m.cluster r) entry.0 entry.1 (record {
             up = λ i. lt-ltb r 8 within i && not (there i);
@@ -216,14 +216,14 @@ module _ (m : Machine) (shapes : ℕ → Shape) (inv : InvariantIn shapes m) (s 
 
     -- a node on which it is not made has not reserved
     pub none_else : (r : ℕ) → (slice_index (targets entry.0.attributes (home_of o.ask.client m.cluster) m.cluster.up) r == 0) ≡ true → m.reserved making.ckpt r ≡ None
-    none_else r none = by_test (slice_index making.reserved r == 0) refl
+    none_else r none = by_reserved (m.reserved making.ckpt r) refl
       where
         targets_now : targets_by (attributes_asked (asked s.op)) (home_of (client_of s.call) m.cluster) m.cluster.up ≡ targets_of o.ask m.cluster
         targets_now = (λ i. targets_by (ap attributes_asked at_open.asks.asks i) (home_of (sym at_open.client i) m.cluster) m.cluster.up)
 
-        by_test : (b : Bool) → (slice_index making.reserved r == 0) ≡ b → m.reserved making.ckpt r ≡ None
-        by_test true free = its.only r free
-        by_test false some = absurd (let w : true ≡ false = sym none ∙ ap (λ nodes. slice_index nodes r == 0) (sym (targets_now ∙ targets_are)) ∙ its.within r some in cc w)
+        by_reserved : (n : Option ℕ) → m.reserved making.ckpt r ≡ n → m.reserved making.ckpt r ≡ None
+        by_reserved None free = free
+        by_reserved (Some n) some = absurd (let w : true ≡ false = sym none ∙ ap (λ nodes. slice_index nodes r == 0) (sym (targets_now ∙ targets_are)) ∙ its.within r (ap is_some some) in cc w)
 
     -- where none is lacked it can be finished
     finish_ready : first_lacking 0 (targets_of o.ask m.cluster) making.reserved ≡ None → IsReadyOpen m s o (Event events.Finish)

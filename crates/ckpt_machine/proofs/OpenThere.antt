@@ -49,14 +49,14 @@ module _ (m : Machine) (shapes : ℕ → Shape) (inv : InvariantIn shapes m) (s 
   change-identity = opened_with-identity (home_of c m.cluster) m.cluster.up c
 
   -- its entry is a later one
-  change-later : (x : Entry) → entry_of e.identity m.cluster.entries ≡ Some x → IsLaterEntry x (change x)
+  change-later : (x : Entry) → entry_of e.identity m.cluster.entries ≡ Some x → IsLaterEntry m.cluster.up x (change x)
   change-later x found = opened_with-later (home_of c m.cluster) m.cluster.up c x (ap (λ (y : Entry). y.making) (same_Some x e (sym found ∙ there)) ∙ made)
 
   -- the entries are later ones
-  opened_later : ComesOf IsLaterEntry m.cluster.entries R.entries
-  opened_later = ComesOf-then IsLaterEntry IsLaterEntry IsLaterEntry IsLaterEntry-then m.cluster.entries (opened e.identity c m.cluster).entries R.entries
-      (ComesOf-change_found IsLaterEntry IsLaterEntry-refl change change-identity e.identity m.cluster.entries change-later)
-      (ComesOf-filter IsLaterEntry IsLaterEntry-refl (stays m.cluster.moment) (opened e.identity c m.cluster).entries (IdentitiesRise-change_key change change-identity e.identity m.cluster.entries inv.rises))
+  opened_later : ComesOf (IsLaterEntry m.cluster.up) m.cluster.entries R.entries
+  opened_later = ComesOf-then (IsLaterEntry m.cluster.up) (IsLaterEntry m.cluster.up) (IsLaterEntry m.cluster.up) (IsLaterEntry-then m.cluster.up) m.cluster.entries (opened e.identity c m.cluster).entries R.entries
+      (ComesOf-change_found (IsLaterEntry m.cluster.up) (IsLaterEntry-refl m.cluster.up) change change-identity e.identity m.cluster.entries change-later)
+      (ComesOf-filter (IsLaterEntry m.cluster.up) (IsLaterEntry-refl m.cluster.up) (stays m.cluster.moment) (opened e.identity c m.cluster).entries (IdentitiesRise-change_key change change-identity e.identity m.cluster.entries inv.rises))
 
   -- it was made, and is
   was_made : WasMade R e.identity

@@ -1,6 +1,7 @@
 -- A state that looks like the one before, to a call in hand or to a checkpoint: they are where they were.
 use Rattle.std.specs.Option.{option_map}
-use Rattle.std.proofs.Common.{◌≡◌, ℕ, ◌<◌, ◌≤◌, arith, List, Option, Some, None, Bool, true, false, cond, ◌==◌, refl, sym, ap, subst, ◌∙◌}
+use Rattle.std.proofs.Common.{◌≡◌, ◌⊎◌, inl, inr, ℕ, ◌<◌, ◌≤◌, arith, List, Option, Some, None, Bool, true, false, cond, ◌==◌, refl, sym, ap, subst, ◌∙◌}
+use Rattle.std.proofs.lemmas.Bool.{eq-eqb, ne_eqb}
 use Rattle.std.specs.Prelude.{is_some, IsSome, IsSomeAnd, IfSome, slice_get, slice_index}
 use Rattle.ckpt_types.specs.Attributes.{is_malformed}
 use Rattle.ckpt_types.specs.Updates.{outcome}
@@ -23,7 +24,7 @@ use Rattle.cluster_record.specs.DueOpen.{OpenState}
 use Rattle.cluster_record.specs.DueSync.{SyncState}
 use Rattle.cluster_record.specs.DueUpdate.{UpdateState}
 use Rattle.cluster_record.specs.Placement.{is_collocated}
-use Rattle.cluster_record.specs.RecordState.{entry_of, is_live, is_live_client, is_up}
+use Rattle.cluster_record.specs.RecordState.{entry_of, home_of, is_live, is_live_client, is_up}
 use Rattle.cluster_record.specs.StepDone.{has, last_having}
 use Rattle.ckpt_types.specs.Asks.{asked}
 use Rattle.ckpt_types.specs.OpWord.{is_async, word_of_op}
@@ -39,14 +40,15 @@ use Rattle.ckpt_machine.specs.Machine.{Machine, ReplicaState, Snapshot, CallStat
 use Rattle.ckpt_machine.specs.Options.{is_all, is_weak}
 use Rattle.ckpt_machine.specs.Propagation.{on_node, copied}
 use Rattle.weak_marks.specs.Marks.{Marked}
-use Rattle.ckpt_machine.specs.Shape.{Shape, IsCompleteOn, marks_at, IsShapedBy, is_owner, IsOwner, IsMarker, IsActiveBy, IsHolder}
+use Rattle.ckpt_machine.specs.Shape.{Shape, IsCompleteOn, marks_at, IsShapedBy, is_owner, PhaseFits, IsOwner, IsLeft, IsMarker, IsActiveBy, IsHolder}
 use Rattle.ckpt_machine.specs.Steps.{opened_state, driver_of, asked_handle}
-use Rattle.ckpt_machine.specs.InHand.{active_kind, is_marked_by, is_held_by, IsMakingIn, IsOpenIn, IsUpdateIn, HasSome, HasServedActive, IsSettingIn, IsSyncBy, IsOnceAt, IsInPlace, IsInHand}
+use Rattle.ckpt_machine.specs.InHand.{active_kind, is_marked_by, are_present, is_held_by, IsMakingIn, IsOpenIn, IsUpdateIn, IsDoneIn, PhaseKeeps, HasSome, HasServedActive, IsSettingIn, IsSyncBy, IsOnceAt, IsInPlace, IsInHand}
 use Rattle.ckpt_machine.specs.Invariant.{IsMaker, IsGoodIn}
 use Rattle.ckpt_machine.specs.Later.{IsLaterEntry}
 pub use Rattle.ckpt_machine.proofs.Joining.{IsLaterEntry-refl}
 use Rattle.ckpt_machine.proofs.Joining.{all_apart, collocated_apart}
 use Rattle.ckpt_machine.proofs.ActiveBy.{active_by-complete, active_by-grows}
+use Rattle.ckpt_machine.proofs.Lives.{LivesOn, owner_in}
 use Rattle.ckpt_machine.proofs.MarksAt.{marks_at-apart}
 use Rattle.ckpt_machine.proofs.NodeLists.{first_complete-some, first_complete-there}
 use Rattle.ckpt_machine.proofs.OptionLemmas.{IsSomeAnd-from, IfSome-from}
@@ -75,8 +77,8 @@ pub LooksLater-refl : (z : CallState) (marks : Option Marked) (e : Entry) → Lo
 LooksLater-refl z marks e = record { complete = λ all. refl; grows = λ r there. there; attributes = refl; rises = omega arith; generation = λ own. refl; active = λ same. refl; hold = refl }
 
 -- and a later one
-pub LooksLater-later : (z : CallState) (marks : Option Marked) (e f : Entry) → IsLaterEntry e f → LooksLater z marks e f
-LooksLater-later z marks e f later = record {
+pub LooksLater-later : (up : List ℕ) (z : CallState) (marks : Option Marked) (e f : Entry) → IsLaterEntry up e f → LooksLater z marks e f
+LooksLater-later up z marks e f later = record {
   complete = λ all. later.placed (all_apart e.attributes all);
   grows = later.grows;
   attributes = later.attributes;
@@ -100,6 +102,7 @@ plain_active all weak op kind is = refl
 pub record LooksAlike (m n : Machine) (shapes then_shapes : ℕ → Shape) (z : CallState) : Type 0 where
   pub up : (r : ℕ) → is_up r m.cluster ≡ true → is_up r n.cluster ≡ true
   pub lives : is_live_client (client_of z.call) n.cluster ≡ is_live_client (client_of z.call) m.cluster
+  pub home : home_of (client_of z.call) n.cluster ≡ home_of (client_of z.call) m.cluster
   -- the handle that it is about is there where it was
   pub handle : IsSome (handle_of m z) → IsSome (handle_of n z)
   pub making : (o : OpenState) → IsOpenIn m z o → IfSome o.making (IsMakingIn n z)
@@ -108,6 +111,8 @@ pub record LooksAlike (m n : Machine) (shapes then_shapes : ℕ → Shape) (z : 
   pub later : (k : ℕ) → WasMade m.cluster k → (f : Entry) → entry_of k n.cluster.entries ≡ Some f → (e : Entry) × (entry_of k m.cluster.entries ≡ Some e) × LooksLater z (shapes k).marks e f
   pub owners : (k : ℕ) → WasMade m.cluster k → (r : ℕ) → is_owner z.call ((then_shapes k).owners r) ≡ is_owner z.call ((shapes k).owners r)
   pub marks : (k : ℕ) → WasMade m.cluster k → is_marked_by z.call (then_shapes k).marks ≡ is_marked_by z.call (shapes k).marks
+  -- an update that it has done is so still
+  pub done : (k : ℕ) → WasMade m.cluster k → IsDoneIn (shapes k) z → IsDoneIn (then_shapes k) z
 
 module _ (m n : Machine) (shapes then_shapes : ℕ → Shape) (z : CallState) (alike : LooksAlike m n shapes then_shapes z) where
   -- the handle of one that is no asynchronous one is there
@@ -129,6 +134,10 @@ module _ (m n : Machine) (shapes then_shapes : ℕ → Shape) (z : CallState) (a
   -- the checkpoint of an update
   all_at : (u : UpdateState) → IsUpdateIn m shapes z u → (e : Entry) → entry_of u.ckpt m.cluster.entries ≡ Some e → is_all e.attributes ≡ true
   all_at u at e was = subst (λ o. IfSome o (λ (e : Entry). is_all e.attributes ≡ true)) was at.all
+
+  PhaseKeeps-alike : (u : UpdateState) (ph : UpdatePhase) → WasMade m.cluster u.ckpt → PhaseKeeps m (shapes u.ckpt) z u ph → PhaseKeeps n (then_shapes u.ckpt) z u ph
+  PhaseKeeps-alike u Staging was keeps = tt
+  PhaseKeeps-alike u Committing was keeps = alike.done u.ckpt was keeps
 
   HasSome-alike : (u : UpdateState) (e f : Entry) → f.complete ≡ e.complete → (ph : UpdatePhase) → HasSome u e ph → HasSome u f ph
   HasSome-alike u e f same Staging some = tt
@@ -209,6 +218,7 @@ module _ (m n : Machine) (shapes then_shapes : ℕ → Shape) (z : CallState) (a
     client = at.client;
     within = at.within;
     node = alike.up o.ask.node at.node;
+    home = at.home;
     asks = at.asks;
     named = at.named;
     declared = at.declared;
@@ -229,6 +239,7 @@ module _ (m n : Machine) (shapes then_shapes : ℕ → Shape) (z : CallState) (a
         let (e, was, look) = alike.later u.ckpt at.made f is in
         subst (λ (cs : List ℕ). (slice_index cs r == 0) ≡ false → has (slice_index cs r) (slice_index u.owned r) ≡ is_owner z.call ((shapes u.ckpt).owners r)) (sym (look.complete (all_at u at e was))) (at.owns e was r) full
         ∙ sym (alike.owners u.ckpt at.made r);
+    keeps = λ f is. let (e, was, look) = alike.later u.ckpt at.made f is in PhaseKeeps-alike u u.phase at.made (at.keeps e was);
     some = λ f is. let (e, was, look) = alike.later u.ckpt at.made f is in HasSome-alike u e f (look.complete (all_at u at e was)) u.phase (at.some e was);
   }
   IsIn-alike (drivers.Active a) at = record {
@@ -241,28 +252,63 @@ module _ (m n : Machine) (shapes then_shapes : ℕ → Shape) (z : CallState) (a
     all = declared_alike (λ b. z.kept.all ≡ is_all b) a.ckpt at.made at.all;
     weak = declared_alike (λ b. z.kept.weak ≡ is_weak b) a.ckpt at.made at.weak;
     handle = handle_alike (plain_active z.kept.all z.kept.weak z.op a.kind at.kind) at.handle;
-    marks = λ f is. let (e, was, look) = alike.later a.ckpt at.made f is in alike.marks a.ckpt at.made ∙ at.marks e was;
-    generation = λ f is. (
+    marks = λ f is. (
         let (e, was, look) = alike.later a.ckpt at.made f is in
-        generation_alike (shapes a.ckpt).marks e f look a.marks (at.marks e was) (at.generation e was));
+        alike.marks a.ckpt at.made ∙ marks_alike (shapes a.ckpt).marks e f look a.marks (at.marks e was) (at.generation e was));
+    generation = λ f is. let (e, was, look) = alike.later a.ckpt at.made f is in generation_alike (shapes a.ckpt).marks e f look a.marks (at.generation e was);
+    present = λ f is. let (e, was, look) = alike.later a.ckpt at.made f is in present_alike (shapes a.ckpt).marks e f look a.marks (at.marks e was) (at.present e was);
   }
     where
-      -- marks that it has made are of the present generation still
-      generation_alike : (stand : Option Marked) (e f : Entry) → LooksLater z stand e f → (o : Option MarksMade) → is_marked_by z.call stand ≡ is_some o → IfSome o (λ marks. marks.generation ≡ e.generation) → IfSome o (λ marks. marks.generation ≡ f.generation)
-      generation_alike stand e f look None own was = tt
-      generation_alike stand e f look (Some marks) own was = was ∙ sym (look.generation own)
+      -- marks that it has made stand where they are of the present generation, which stays with them
+      marks_alike : (stand : Option Marked) (e f : Entry) → LooksLater z stand e f → (o : Option MarksMade) → is_marked_by z.call stand ≡ are_present e o → IfSome o (λ marks. marks.generation ≤ e.generation) → is_marked_by z.call stand ≡ are_present f o
+      marks_alike stand e f look None own within = own
+      marks_alike stand e f look (Some made) own within = by_test (is_marked_by z.call stand) refl
+        where
+          by_test : (b : Bool) → is_marked_by z.call stand ≡ b → is_marked_by z.call stand ≡ (made.generation == f.generation)
+          by_test true stands = own ∙ ap (λ n. made.generation == n) (sym (look.generation stands))
+          by_test false none =
+              let not_now : (made.generation == e.generation) ≡ false = sym own ∙ none in
+              let rises : e.generation ≤ f.generation = look.rises in
+              let at_most : made.generation ≤ e.generation = within in
+              none ∙ sym (ne_eqb made.generation f.generation (λ same.
+              let now : made.generation ≡ f.generation = same in
+              let is : made.generation ≡ e.generation = omega (arith, rises, at_most, now) in
+              (let w : true ≡ false = sym (eq-eqb made.generation e.generation is) ∙ not_now in cc w)))
+
+      generation_alike : (stand : Option Marked) (e f : Entry) → LooksLater z stand e f → (o : Option MarksMade) → IfSome o (λ marks. marks.generation ≤ e.generation) → IfSome o (λ marks. marks.generation ≤ f.generation)
+      generation_alike stand e f look None within = tt
+      generation_alike stand e f look (Some made) within = let rises : e.generation ≤ f.generation = look.rises in let at_most : made.generation ≤ e.generation = within in omega (arith, rises, at_most)
+
+      present_alike : (stand : Option Marked) (e f : Entry) → LooksLater z stand e f → (o : Option MarksMade) → is_marked_by z.call stand ≡ are_present e o → IfSome o (λ marks. marks.generation ≡ e.generation) → IfSome o (λ marks. marks.generation ≡ f.generation)
+      present_alike stand e f look None own was = tt
+      present_alike stand e f look (Some made) own was = was ∙ sym (look.generation (own ∙ eq-eqb made.generation e.generation was))
   IsIn-alike (drivers.Sync u) at = IsSync-alike u u.kind at
 
   -- and all holds of it that did
   pub IsInHand-alike : (w : Who) → (is_live m.cluster z.call ≡ true → is_live n.cluster z.call ≡ true) → z.call.number < n.next z.call.actor → IsInHand m shapes w z → IsInHand n then_shapes w z
-  IsInHand-alike w live number was = record { whose = was.whose; client = was.client; number = number; built = was.built; driven = was.driven; live = λ others. live (was.live others); here = IsIn-alike (driver_of z) was.here }
+  IsInHand-alike w live number was = record { whose = was.whose; client = was.client; number = number; built = was.built; driven = was.driven; live = λ others. live (was.live others); home = λ others. was.home others ∙ sym alike.home; here = IsIn-alike (driver_of z) was.here }
 
 -- ---- a checkpoint
 
+-- what its phase says of an update is so still
+pub PhaseFits-alike : (m n : Machine) → LivesOn m n → (sh : Shape) (z : CallState) (u : UpdateState) (ph : UpdatePhase) → PhaseFits m sh z u ph → PhaseFits n sh z u ph
+PhaseFits-alike m n lives sh z u Staging fits = fits
+PhaseFits-alike m n lives sh z u Committing fits = fits
+
 module _ (m n : Machine) (k : ℕ) where
   -- who owns a slot has the same in hand
-  pub IsOwner-alike : (sh : Shape) (d : CallId) (own : IsOwner m k sh d) → n.in_hand (who own.state) ≡ m.in_hand (who own.state) → IsOwner n k sh d
-  IsOwner-alike sh d own same = record { state = own.state; in_hand = same ∙ own.in_hand; call_is = own.call_is; driver = own.driver; driver_is = own.driver_is; ckpt = own.ckpt; phase = own.phase }
+  pub IsOwner-alike : LivesOn m n → (sh : Shape) (d : CallId) (own : IsOwner m k sh d) → n.in_hand (who own.state) ≡ m.in_hand (who own.state) → IsOwner n k sh d
+  IsOwner-alike lives sh d own same = record { state = own.state; in_hand = same ∙ own.in_hand; call_is = own.call_is; driver = own.driver; driver_is = own.driver_is; ckpt = own.ckpt; phase = PhaseFits-alike m n lives sh own.state own.driver own.driver.phase own.phase }
+
+  -- or is dead, as the call is whose update is staged
+  pub owned_alike : LivesOn m n → (sh : Shape) (d : CallId) → ((own : IsOwner m k sh d) → n.in_hand (who own.state) ≡ m.in_hand (who own.state)) → IsOwner m k sh d ⊎ IsLeft m sh d → IsOwner n k sh d ⊎ IsLeft n sh d
+  owned_alike lives sh d same (inl own) = inl (IsOwner-alike lives sh d own (same own))
+  owned_alike lives sh d same (inr dead) = inr (lives.dead d dead.0, lives.dead sh.origin dead.1)
+
+  -- who owns a slot then did so before, as it is not dead
+  pub owner_before : LivesOn m n → (sh : Shape) (d : CallId) → IsOwner m k sh d ⊎ IsLeft m sh d → IsOwner n k sh d → IsOwner m k sh d
+  owner_before lives sh d (inl own) now = own
+  owner_before lives sh d (inr dead) now = absurd (let w : true ≡ false = sym (lives.owners k sh d now) ∙ (lives.dead d dead.0).gone in cc w)
 
   -- so has whose marks stand
   pub IsMarker-alike : (marks : Marked) (own : IsMarker m k marks) → n.in_hand (who own.state) ≡ m.in_hand (who own.state) → IsMarker n k marks
@@ -270,11 +316,11 @@ module _ (m n : Machine) (k : ℕ) where
 
   -- so has whose hold it is, where the replica of the active stays
   pub IsHolder-alike : (active : Option ℕ) (d : CallId) (own : IsHolder m k active d) → n.in_hand (who own.state) ≡ m.in_hand (who own.state) → on_node (n.replicas k) active ≡ on_node (m.replicas k) active → IsHolder n k active d
-  IsHolder-alike active d own same replica = record { state = own.state; in_hand = same ∙ own.in_hand; call_is = own.call_is; driver = own.driver; driver_is = own.driver_is; local = own.local; kind = own.kind; ckpt = own.ckpt; some = own.some; copies = own.copies ∙ ap (option_map copied) (sym replica) }
+  IsHolder-alike active d own same replica = record { state = own.state; in_hand = same ∙ own.in_hand; call_is = own.call_is; driver = own.driver; driver_is = own.driver_is; local = own.local; kind = own.kind; ckpt = own.ckpt; some = own.some; copies = λ led. own.copies led ∙ ap (option_map copied) (sym replica) }
 
   -- the active's replica stays where those on complete nodes do
-  active_stays : (e : Entry) → ((r : ℕ) → IsCompleteOn e r → n.replicas k r ≡ m.replicas k r) → IsActiveBy (is_collocated e.attributes) e.complete e.active → on_node (n.replicas k) e.active ≡ on_node (m.replicas k) e.active
-  active_stays e replicas led = by_active e.active (active_by-complete (is_collocated e.attributes) e.complete e.active led)
+  active_stays : (e : Entry) → ((r : ℕ) → IsCompleteOn e r → n.replicas k r ≡ m.replicas k r) → IsActiveBy (is_collocated e.attributes) (is_all e.attributes) e.complete e.active → on_node (n.replicas k) e.active ≡ on_node (m.replicas k) e.active
+  active_stays e replicas led = by_active e.active (active_by-complete (is_collocated e.attributes) (is_all e.attributes) e.complete e.active led)
     where
       by_active : (o : Option ℕ) → ((r : ℕ) → o ≡ Some r → IsCompleteOn e r) → on_node (n.replicas k) o ≡ on_node (m.replicas k) o
       by_active None complete = refl
@@ -298,18 +344,22 @@ module _ (m n : Machine) (k : ℕ) where
   MakersStay = (d : CallId) (own : IsMaker m k d) → n.in_hand (who own.state) ≡ m.in_hand (who own.state)
 
   -- the checkpoint is as it was, where its replicas stay, a node on which it is complete now has the opening one, and those who own its slots, have marks on it, hold it or are making it stay
-  pub IsGoodIn-later : (sh : Shape) (e f : Entry) → IsLaterEntry e f → ((r : ℕ) → IsCompleteOn e r → n.replicas k r ≡ m.replicas k r) → ((r : ℕ) → (slice_index e.complete r == 0) ≡ true → IsCompleteOn f r → n.replicas k r ≡ Some (opened_state f))
-      → ((d : CallId) → IsOwner m k sh d → f.complete ≡ e.complete) → OwnersStay sh → MarkersStay → HoldersStay → MakersStay
+  pub IsGoodIn-later : LivesOn m n → (sh : Shape) (e f : Entry) → IsLaterEntry m.cluster.up e f → ((r : ℕ) → IsCompleteOn e r → n.replicas k r ≡ m.replicas k r) → ((r : ℕ) → (slice_index e.complete r == 0) ≡ true → IsCompleteOn f r → n.replicas k r ≡ Some (opened_state f))
+      → OwnersStay sh → MarkersStay → HoldersStay → MakersStay
       → (maker : Option CallId) → (IsSome maker → f.complete ≡ e.complete) → IsGoodIn m k sh e maker → IsGoodIn n k sh f maker
-  IsGoodIn-later sh e f later replicas joins same_owned owners markers holders makers None unmade was = record {
+  IsGoodIn-later lives sh e f later replicas joins owners markers holders makers None unmade was = record {
     nodes = later.nodes ∙ was.nodes;
     some = let (q, there) = first_complete-some 0 e.complete was.some in first_complete-there 0 f.complete q (later.grows q there);
-    active = subst (λ (z : Bool × Option ℕ). IsActiveBy z.0 f.complete z.1) (λ i. (is_collocated (sym later.attributes i), sym later.active i)) (active_by-grows (is_collocated e.attributes) e.complete f.complete e.active later.placed later.grows was.active);
+    up = λ r there. let at : slice_index m.cluster.up r ≡ slice_index f.complete r = later.lives was.up r there in lives.up r (ap (λ n. n == 0) at ∙ there) ∙ at;
+    active = subst (λ (z : CreationAttributes × Option ℕ). IsActiveBy (is_collocated z.0) (is_all z.0) f.complete z.1) (λ i. (sym later.attributes i, sym later.active i)) (active_by-grows (is_collocated e.attributes) (is_all e.attributes) e.complete f.complete e.active later.placed later.grows was.active);
     replicas = λ r there. by_before r there (slice_index e.complete r == 0) refl;
     fits = λ r d owns. ap (λ a. outcome a sh.update sh.moment sh.sections) later.attributes ∙ was.fits r d owns;
+    all = λ r d owns. ap is_all later.attributes ∙ was.all r d owns;
     complete = λ r d owns. later.grows r (was.complete r d owns);
-    lowest = λ q r d below there owns. was.lowest q r d below (subst (λ (cs : List ℕ). (slice_index cs q == 0) ≡ false) (same_owned d (was.owned r d owns)) there) owns;
-    owned = λ r d owns. let own = was.owned r d owns in IsOwner-alike sh d own (owners d own);
+    lowest = λ q r d below there owns. was.lowest q r d below (was_there r d owns q there) owns;
+    first = λ q r d below there owns own. was.first q r d below (was_there r d owns q there) owns (owner_before lives sh d (was.owned r d owns) own);
+    owned = λ r d owns. owned_alike lives sh d (owners d) (was.owned r d owns);
+    live = λ r d owns. let own = owner_in m k sh d (was.owned r d owns) (was.live r d owns) in lives.owners k sh d (IsOwner-alike lives sh d own (owners d own));
     led = λ marks is. ap is_some later.active ∙ was.led marks is;
     marked = λ marks is. let own = was.marked marks is in IsMarker-alike marks own (markers marks own);
     held = λ d is. (
@@ -322,6 +372,10 @@ module _ (m n : Machine) (k : ℕ) where
         });
   }
     where
+      -- a checkpoint with a slot has the nodes that it had
+      was_there : (r : ℕ) (d : CallId) → sh.owners r ≡ Some d → (q : ℕ) → IsCompleteOn f q → IsCompleteOn e q
+      was_there r d owns q there = subst (λ (cs : List ℕ). (slice_index cs q == 0) ≡ false) (later.placed (all_apart e.attributes (was.all r d owns))) there
+
       -- one that a node joins is collocated
       joined_collocated : (r : ℕ) → (slice_index e.complete r == 0) ≡ true → IsCompleteOn f r → (b : Bool) → is_collocated e.attributes ≡ b → is_collocated e.attributes ≡ true
       joined_collocated r none there true is = is
@@ -333,13 +387,14 @@ module _ (m n : Machine) (k : ℕ) where
       by_before r there true none =
           let collocated : is_collocated e.attributes ≡ true = joined_collocated r none there (is_collocated e.attributes) refl in
           let not_all : is_all f.attributes ≡ false = ap is_all later.attributes ∙ collocated_apart e.attributes collocated in
-          let elsewhere : marks_at f.active sh.marks r ≡ None = ap (λ active. marks_at active sh.marks r) later.active ∙ marks_at-apart e.active sh.marks r (λ led. (let w : true ≡ false = sym none ∙ active_by-complete (is_collocated e.attributes) e.complete e.active was.active r led in cc w)) in
+          let elsewhere : marks_at f.active sh.marks r ≡ None = ap (λ active. marks_at active sh.marks r) later.active ∙ marks_at-apart e.active sh.marks r (λ led. (let w : true ≡ false = sym none ∙ active_by-complete (is_collocated e.attributes) (is_all e.attributes) e.complete e.active was.active r led in cc w)) in
           IsSomeAnd-from (n.replicas k r) (IsShapedBy (is_all f.attributes) sh f.active r) (opened_state f) (joins r none there)
           (subst (λ b. IsShapedBy b sh f.active r (opened_state f)) (sym not_all) (record { free = refl; marks_are = sym elsewhere }))
-  IsGoodIn-later sh e f later replicas joins same_owned owners markers holders makers (Some d) unmade was = (
+  IsGoodIn-later lives sh e f later replicas joins owners markers holders makers (Some d) unmade was = (
     record {
       complete = unmade refl ∙ was.0.complete;
       generation = later.generation ∙ was.0.generation;
+      unled = later.active ∙ was.0.unled;
       free = later.hold ∙ was.0.free;
       well_formed = ap is_malformed later.attributes ∙ was.0.well_formed;
       clients = later.clients ∙ was.0.clients;
@@ -348,9 +403,9 @@ module _ (m n : Machine) (k : ℕ) where
   )
 
   -- the checkpoint is as it was, where its entry and its replicas are and where those who own its slots, have marks on it, hold it or are making it stay
-  pub IsGoodIn-alike : (sh : Shape) (e : Entry) → ((r : ℕ) → IsCompleteOn e r → n.replicas k r ≡ m.replicas k r) → OwnersStay sh → MarkersStay → HoldersStay → MakersStay
+  pub IsGoodIn-alike : LivesOn m n → (sh : Shape) (e : Entry) → ((r : ℕ) → IsCompleteOn e r → n.replicas k r ≡ m.replicas k r) → OwnersStay sh → MarkersStay → HoldersStay → MakersStay
       → (maker : Option CallId) → IsGoodIn m k sh e maker → IsGoodIn n k sh e maker
-  IsGoodIn-alike sh e replicas owners markers holders makers maker was = IsGoodIn-later sh e e (IsLaterEntry-refl e) replicas (λ r none there. absurd (let w : true ≡ false = sym none ∙ there in cc w)) (λ d own. refl) owners markers holders makers maker (λ some. refl) was
+  IsGoodIn-alike lives sh e replicas owners markers holders makers maker was = IsGoodIn-later lives sh e e (IsLaterEntry-refl m.cluster.up e) replicas (λ r none there. absurd (let w : true ≡ false = sym none ∙ there in cc w)) owners markers holders makers maker (λ some. refl) was
 
 -- ---- other calls in hand, others that are not dispatched, and other numbers
 
@@ -362,12 +417,14 @@ module _ (m : Machine) (shapes : ℕ → Shape) (next : ActorName → ℕ) (pend
   looks_apart z = record {
     up = λ r up. up;
     lives = refl;
+    home = refl;
     handle = λ there. there;
     making = λ o at. making_still m with_hands z o (λ w at. record { there = at.there; declares = at.declares; nodes = at.nodes; reserved = at.reserved; only = at.only; within = at.within }) at;
     made = λ k was. was;
     later = λ k was e found. (e, found, LooksLater-refl z (shapes k).marks e);
     owners = λ k was r. refl;
     marks = λ k was. refl;
+    done = λ k was done. done;
   }
 
   -- a call is where it was
@@ -375,6 +432,6 @@ module _ (m : Machine) (shapes : ℕ → Shape) (next : ActorName → ℕ) (pend
   IsIn-apart z d at = IsIn-alike m with_hands shapes shapes z (looks_apart z) d at
 
   -- a checkpoint is as it was, where those who own its slots, have marks on it, hold it or are making it stay
-  pub IsGoodIn-apart : ((k : ℕ) (sh : Shape) → OwnersStay m with_hands k sh) → ((k : ℕ) → MarkersStay m with_hands k) → ((k : ℕ) → HoldersStay m with_hands k) → ((k : ℕ) → MakersStay m with_hands k)
+  pub IsGoodIn-apart : LivesOn m with_hands → ((k : ℕ) (sh : Shape) → OwnersStay m with_hands k sh) → ((k : ℕ) → MarkersStay m with_hands k) → ((k : ℕ) → HoldersStay m with_hands k) → ((k : ℕ) → MakersStay m with_hands k)
       → (k : ℕ) (sh : Shape) (e : Entry) (maker : Option CallId) → IsGoodIn m k sh e maker → IsGoodIn with_hands k sh e maker
-  IsGoodIn-apart owners markers holders makers k sh e maker was = IsGoodIn-alike m with_hands k sh e (λ r there. refl) (owners k sh) (markers k) (holders k) (makers k) maker was
+  IsGoodIn-apart lives owners markers holders makers k sh e maker was = IsGoodIn-alike m with_hands k lives sh e (λ r there. refl) (owners k sh) (markers k) (holders k) (makers k) maker was

@@ -7,7 +7,7 @@ use Rattle.cluster_record.specs.declared.calls.UpdatePhase.{UpdatePhase}
 use Rattle.cluster_record.specs.declared.calls.UpdatePhase.TheVariants.{Staging, Committing}
 use Rattle.cluster_record.specs.DueUpdate.{UpdateState}
 use Rattle.cluster_record.specs.Places.{put}
-use Rattle.cluster_record.specs.RecordState.{entry_of, is_live}
+use Rattle.cluster_record.specs.RecordState.{entry_of}
 use Rattle.cluster_record.specs.StepDone.{has}
 use Rattle.ckpt_machine.specs.Drivers as drivers
 use Rattle.ckpt_machine.specs.Machine.{Machine, ReplicaState, CallState, who}
@@ -17,15 +17,17 @@ use Rattle.ckpt_machine.specs.Guards.{OnReplica, OnAll}
 use Rattle.ckpt_machine.specs.Options.{is_all}
 use Rattle.ckpt_machine.proofs.OnAll.{shaped_replicas}
 use Rattle.ckpt_machine.specs.Shape.{Shape, IsCompleteOn, IsShaped, is_owner, IsOwner, IsSpread, PhaseFits}
-use Rattle.ckpt_machine.specs.InHand.{is_enter, IsInPlace, IsUpdateIn}
+use Rattle.ckpt_machine.specs.InHand.{IsInPlace, IsUpdateIn}
 use Rattle.ckpt_machine.specs.Invariant.{IsGoodIn, InvariantIn, Invariant}
 use Rattle.ckpt_machine.proofs.Joining.{all_apart}
-use Rattle.ckpt_machine.proofs.ReplicaSteps.{IsOwner-other, IsMarker-other, none_changed, step_keeps}
+use Rattle.ckpt_machine.proofs.Lives.{LivesOn, owner_in}
+use Rattle.ckpt_machine.proofs.OtherCalls.{owned_alike, owner_before}
+use Rattle.ckpt_machine.proofs.ReplicaSteps.{IsMarker-other, none_changed, step_keeps}
 use Rattle.ckpt_machine.proofs.OptionLemmas.{IsSomeAnd-at, IsSomeAnd-from}
 use Rattle.ckpt_machine.specs.Whose.{put_who, same_who}
 use Rattle.ckpt_machine.proofs.Actors.{same_call-refl, same_call-true}
 use Rattle.ckpt_machine.proofs.CallsKept.{same_call-None}
-use Rattle.ckpt_machine.proofs.Whose.{same_state, apart_states}
+use Rattle.ckpt_machine.proofs.Whose.{same_state, apart_states, put_who-other}
 
 -- ---- calls
 
@@ -43,7 +45,7 @@ is_owner-here c o is = ap (is_owner c) is ∙ same_call-refl c
 pub owner_origin : (m : Machine) (k : ℕ) (sh : Shape) (call : CallId) → IsOwner m k sh call → sh.origin ≡ call
 owner_origin m k sh call own = by_phase own.driver.phase own.phase ∙ own.call_is
   where
-    by_phase : (ph : UpdatePhase) → PhaseFits sh own.state own.driver ph → sh.origin ≡ own.state.call
+    by_phase : (ph : UpdatePhase) → PhaseFits m sh own.state own.driver ph → sh.origin ≡ own.state.call
     by_phase Staging fits = fits.origin
     by_phase Committing fits = fits.origin
 
@@ -51,18 +53,13 @@ owner_origin m k sh call own = by_phase own.driver.phase own.phase ∙ own.call_
 pub owner_update : (m : Machine) (k : ℕ) (sh : Shape) (call : CallId) (own : IsOwner m k sh call) → sh.update ≡ update_of own.state.op
 owner_update m k sh call own = by_phase own.driver.phase own.phase
   where
-    by_phase : (ph : UpdatePhase) → PhaseFits sh own.state own.driver ph → sh.update ≡ update_of own.state.op
+    by_phase : (ph : UpdatePhase) → PhaseFits m sh own.state own.driver ph → sh.update ≡ update_of own.state.op
     by_phase Staging fits = fits.update
     by_phase Committing fits = fits.update
 
 -- where the slots are of one call, an owner is that call
 pub owner_alone : (m : Machine) (k : ℕ) (sh : Shape) (s : CallState) → sh.origin ≡ s.call → (d : CallId) → IsOwner m k sh d → d ≡ s.call
 owner_alone m k sh s origin d own = sym (owner_origin m k sh d own) ∙ origin
-
--- and live
-pub owner_live : (m : Machine) (shapes : ℕ → Shape) (k : ℕ) (sh : Shape) (call : CallId) → InvariantIn shapes m → IsOwner m k sh call → is_live m.cluster call ≡ true
-owner_live m shapes k sh call inv own =
-    ap (is_live m.cluster) (sym own.call_is) ∙ (inv.hands (who own.state) own.state own.in_hand).live (ap is_enter own.driver_is)
 
 module _ (m : Machine) (shapes : ℕ → Shape) (inv : InvariantIn shapes m) (s : CallState) (u : UpdateState) (held : m.in_hand (who s) ≡ Some s) (is : driver_of s ≡ drivers.Update u) where
   abbrev k : ℕ
@@ -82,13 +79,17 @@ module _ (m : Machine) (shapes : ℕ → Shape) (inv : InvariantIn shapes m) (s 
   pub spread : (e : Entry) → entry_of u.ckpt m.cluster.entries ≡ Some e → IsSpread m u.ckpt (shapes u.ckpt) e
   spread e found = subst (λ maker. IsGoodIn m u.ckpt (shapes u.ckpt) e maker) (made e found) (inv.entries u.ckpt e found)
 
+  -- a slot of its checkpoint is of a call in hand
+  pub owner_of : (e : Entry) → entry_of u.ckpt m.cluster.entries ≡ Some e → (r : ℕ) (call : CallId) → (shapes u.ckpt).owners r ≡ Some call → IsOwner m u.ckpt (shapes u.ckpt) call
+  owner_of e found r call owns = owner_in m u.ckpt (shapes u.ckpt) call ((spread e found).owned r call owns) ((spread e found).live r call owns)
+
   -- where it owns a slot, the shape is as its phase says
-  pub own_phase : (sh : Shape) (own : IsOwner m u.ckpt sh s.call) → PhaseFits sh s u u.phase
+  pub own_phase : (sh : Shape) (own : IsOwner m u.ckpt sh s.call) → PhaseFits m sh s u u.phase
   own_phase sh own =
       let state : own.state ≡ s = same_state m.in_hand m.pending m.next inv.calls own.state s own.in_hand held own.call_is in
       let drivers_same : drivers.Update own.driver ≡ drivers.Update u = sym own.driver_is ∙ ap driver_of state ∙ is in
       let driver : own.driver ≡ u = cc drivers_same in
-      subst (λ v. PhaseFits sh s v v.phase) driver (subst (λ z. PhaseFits sh z own.driver own.driver.phase) state own.phase)
+      subst (λ v. PhaseFits m sh s v v.phase) driver (subst (λ z. PhaseFits m sh z own.driver own.driver.phase) state own.phase)
 
   -- an owner that is another call is in hand under another name
   pub owner_same : (z : Shape) (call : CallId) (own : IsOwner m u.ckpt z call) → call ≢ s.call → same_who (who own.state) (who s) ≡ false
@@ -129,19 +130,23 @@ module _ (m : Machine) (shapes : ℕ → Shape) (inv : InvariantIn shapes m) (s 
   pub ended_keeps : ((e : Entry) → entry_of u.ckpt m.cluster.entries ≡ Some e → OwnsNone) → Invariant (record m { in_hand = put_who m.in_hand (who s) None })
   ended_keeps none = record {
     shapes = put shapes u.ckpt (shapes u.ckpt);
-    holds = step_keeps m shapes inv s u held is m.replicas None (shapes u.ckpt) (none_changed m shapes inv s u held is) (refl, λ call q other. refl) (same_call-None s) stays (λ z there. absurd (cc there)) made inv.replicas;
+    holds = step_keeps m shapes inv s u held is m.replicas None (shapes u.ckpt) (none_changed m shapes inv s u held is) (record { marks = refl; owners = λ call q other. refl; done = λ z other done. done }) (same_call-None s) stays (λ z there. absurd (cc there)) made inv.replicas;
   }
     where
-      stays : (e : Entry) → entry_of u.ckpt m.cluster.entries ≡ Some e → e.making ≡ None → IsSpread (record m { in_hand = put_who m.in_hand (who s) None }) u.ckpt (shapes u.ckpt) e
-      stays e found making = let was = spread e found in record {
+      stays : LivesOn m (record m { in_hand = put_who m.in_hand (who s) None }) → (e : Entry) → entry_of u.ckpt m.cluster.entries ≡ Some e → e.making ≡ None → IsSpread (record m { in_hand = put_who m.in_hand (who s) None }) u.ckpt (shapes u.ckpt) e
+      stays lives e found making = let was = spread e found in record {
         nodes = was.nodes;
         some = was.some;
+        up = was.up;
         active = was.active;
         replicas = was.replicas;
         fits = was.fits;
+        all = was.all;
         complete = was.complete;
         lowest = was.lowest;
-        owned = λ q call owns. let own = was.owned q call owns in IsOwner-other m shapes inv s u held is m.replicas None u.ckpt (shapes u.ckpt) call own (owner_same (shapes u.ckpt) call own (none e found q call owns));
+        first = λ p q call below there owns own. was.first p q call below there owns (owner_before m (record m { in_hand = put_who m.in_hand (who s) None }) u.ckpt lives (shapes u.ckpt) call (was.owned q call owns) own);
+        owned = λ q call owns. owned_alike m (record m { in_hand = put_who m.in_hand (who s) None }) u.ckpt lives (shapes u.ckpt) call (λ own. put_who-other m.in_hand (who s) None (who own.state) (owner_same (shapes u.ckpt) call own (none e found q call owns))) (was.owned q call owns);
+        live = was.live;
         led = was.led;
         marked = λ marks is_some. IsMarker-other m shapes inv s u held is m.replicas None u.ckpt marks (was.marked marks is_some);
         held = λ d is_some. absurd (never_held e found d is_some);

@@ -1,5 +1,5 @@
 -- A call that is no update, has no marks and makes no checkpoint owns nothing and makes nothing: where it goes on or ends, what holds of all others stays.
-use Rattle.std.proofs.Common.{◌≡◌, ℕ, inl, inr, [], Option, Some, None, Bool, true, false, filter, not, refl, sym, ap, subst, ◌∙◌}
+use Rattle.std.proofs.Common.{◌≡◌, ℕ, inl, inr, List, [], Option, Some, None, Bool, true, false, filter, not, refl, sym, ap, subst, ◌∙◌}
 use Rattle.std.specs.Prelude.{is_some, IsSome, IfSome, Contains}
 use Rattle.std.proofs.lemmas.Option.{same_Some}
 use Rattle.ckpt_types.specs.declared.ais_error.AisError.{AisError}
@@ -35,6 +35,8 @@ use Rattle.weak_marks.specs.Marks.{Marked}
 use Rattle.ckpt_machine.specs.InHand.{IsInHand}
 use Rattle.ckpt_machine.specs.Invariant.{IsMaker, IsGoodClient, InvariantIn, Invariant}
 use Rattle.ckpt_machine.specs.Later.{IsLaterEntry, IsLaterRecord}
+use Rattle.ckpt_machine.specs.Dead.{IsDead}
+use Rattle.ckpt_machine.proofs.Lives.{LivesOn, lives_on-one}
 use Rattle.ckpt_machine.proofs.OtherCalls.{IsIn-apart, IsGoodIn-apart}
 use Rattle.ckpt_machine.proofs.Entries.{ComesOf, ComesOf-filter, ComesOf-change_found, ComesOf-then, found_filter, there_still}
 use Rattle.ckpt_machine.proofs.Moment.{IsLaterEntry-refl, making_stays}
@@ -75,13 +77,14 @@ makes_none (drivers.Sync u) copy plain = refl
 abbrev pub ending : CallState → Machine → Machine
 ending s m = record m { in_hand = put_who m.in_hand (who s) None }
 
-pub IsLaterEntry-then : (e f g : Entry) → IsLaterEntry e f → IsLaterEntry f g → IsLaterEntry e g
-IsLaterEntry-then e f g first second = record {
+pub IsLaterEntry-then : (up : List ℕ) (e f g : Entry) → IsLaterEntry up e f → IsLaterEntry up f g → IsLaterEntry up e g
+IsLaterEntry-then up e f g first second = record {
   making = second.making ∙ first.making;
   unmade = λ some. second.unmade (ap (λ o. is_some o) first.making ∙ some) ∙ first.unmade some;
   placed = λ apart. second.placed (ap is_collocated first.attributes ∙ apart) ∙ first.placed apart;
   nodes = second.nodes ∙ first.nodes;
   grows = λ r there. second.grows r (first.grows r there);
+  lives = λ was. second.lives (first.lives was);
   active = second.active ∙ first.active;
   attributes = second.attributes ∙ first.attributes;
   generation = second.generation ∙ first.generation;
@@ -99,16 +102,11 @@ look_ends m shapes inv s held error cause t look makes ends done =
       nearer = λ none. absurd (cc none);
     })
 
--- ---- a step of the record that leaves all calls in hand, behind which what is over is swept away
+-- ---- a step of the record behind which what is over is swept away
 
-module _ (n : Machine) (shapes : ℕ → Shape) (inv : InvariantIn shapes n) (R : RecordState) (rises : IdentitiesRise R.entries) (up_to : AllUpTo n.cluster.last_identity R.entries) (up : R.up ≡ n.cluster.up) (last : R.last_identity ≡ n.cluster.last_identity) (later : ComesOf IsLaterEntry n.cluster.entries R.entries)
-    (none_live : n.cluster.up ≡ no_nodes → R.clients ≡ []) (clients : (c : ℕ) → IfSome (find_key client_key c R.clients) (IsGoodClient n.next R c))
-    (live : (a : Who) (z : CallState) → n.in_hand a ≡ Some z → is_live n.cluster z.call ≡ true → is_live R z.call ≡ true)
-    (lives : (a : Who) (z : CallState) → n.in_hand a ≡ Some z → find_key client_key (client_of z.call) R.clients ≡ find_key client_key (client_of z.call) n.cluster.clients)
-    (makes : (a : Who) (z : CallState) (k : ℕ) (e : Entry) → n.in_hand a ≡ Some z → entry_of k n.cluster.entries ≡ Some e → e.making ≡ Some z.call → IsSome (entry_of k R.entries))
-    (homes : (a : ActorName) (h : HandleView) → Contains (n.tables a).handles h → find_key client_key (number_of a) R.clients ≡ find_key client_key (number_of a) n.cluster.clients) where
-  left_later : ComesOf IsLaterEntry n.cluster.entries (swept R).entries
-  left_later = ComesOf-then IsLaterEntry IsLaterEntry IsLaterEntry IsLaterEntry-then n.cluster.entries R.entries (swept R).entries later (ComesOf-filter IsLaterEntry IsLaterEntry-refl (stays R.moment) R.entries rises)
+module _ (n : Machine) (R : RecordState) (rises : IdentitiesRise R.entries) (later : ComesOf (IsLaterEntry n.cluster.up) n.cluster.entries R.entries) where
+  left_later : ComesOf (IsLaterEntry n.cluster.up) n.cluster.entries (swept R).entries
+  left_later = ComesOf-then (IsLaterEntry n.cluster.up) (IsLaterEntry n.cluster.up) (IsLaterEntry n.cluster.up) (IsLaterEntry-then n.cluster.up) n.cluster.entries R.entries (swept R).entries later (ComesOf-filter (IsLaterEntry n.cluster.up) (IsLaterEntry-refl n.cluster.up) (stays R.moment) R.entries rises)
 
   -- what is in the making is not swept away
   makes_still : (k : ℕ) (e : Entry) (call : CallId) → entry_of k n.cluster.entries ≡ Some e → e.making ≡ Some call → IsSome (entry_of k R.entries) → IsSome (entry_of k (swept R).entries)
@@ -121,30 +119,6 @@ module _ (n : Machine) (shapes : ℕ → Shape) (inv : InvariantIn shapes n) (R 
           let same : g ≡ e = same_Some g e (sym there ∙ was) in
           let made_by : f.making ≡ Some call = after.making ∙ ap (λ (x : Entry). x.making) same ∙ by in
           ap is_some (found_filter (stays R.moment) k R.entries f found (making_stays R.moment f (ap is_some made_by)))
-
-  swept_later : IsLaterRecord n (swept R) n.in_hand
-  swept_later = record {
-    up = up;
-    last = last;
-    rises = IdentitiesRise-filter (stays R.moment) R.entries rises;
-    up_to = subst (λ i. AllUpTo i (filter (stays R.moment) R.entries)) (sym last) (AllUpTo-filter (stays R.moment) n.cluster.last_identity R.entries up_to);
-    swept = AllStay-swept R.moment R.entries;
-    later = left_later;
-    none_live = none_live;
-    clients = clients;
-    was_held = λ a z left. left;
-    live = live;
-    lives = lives;
-    makes = λ a z k e left was by. makes_still k e z.call was by (makes a z k e left was by);
-    homes = homes;
-    owners = λ k sh d own. refl;
-    markers = λ k marks there own. refl;
-    holders = λ k active d there own. refl;
-    makers = λ k d there maker. refl;
-  }
-
-  pub resting_keeps : InvariantIn shapes (with_record n (swept R))
-  resting_keeps = record_keeps n shapes inv (swept R) n.in_hand swept_later
 
 -- a call in hand once another has ended is another's, and was in hand
 pub left_other : {P : Type 0} → (s : CallState) (m : Machine) (a : Who) (z : CallState) → put_who m.in_hand (who s) None a ≡ Some z → (same_who a (who s) ≡ false → m.in_hand a ≡ Some z → P) → P
@@ -184,11 +158,12 @@ module _ (m : Machine) (shapes : ℕ → Shape) (inv : InvariantIn shapes m) (s 
   pub plain_steps : (o : Option CallState) → IsSameCall s o → ((z : CallState) → o ≡ Some z → IsInHand (record m { in_hand = put_who m.in_hand (who s) o }) shapes (who s) z) → InvariantIn shapes (record m { in_hand = put_who m.in_hand (who s) o })
   plain_steps o same own = record {
     up = inv.up;
+    first_up = inv.first_up;
     none_live = inv.none_live;
     rises = inv.rises;
     up_to = inv.up_to;
     swept = inv.swept;
-    entries = λ k e found. IsGoodIn-apart m shapes m.next m.pending (put_who m.in_hand (who s) o)
+    entries = λ k e found. IsGoodIn-apart m shapes m.next m.pending (put_who m.in_hand (who s) o) lives
         (λ k sh d own. put_who-other m.in_hand (who s) o (who own.state) (owner_apart k sh d own)) (λ k marks own. put_who-other m.in_hand (who s) o (who own.state) (marker_apart k marks own)) (λ k active d own. put_who-other m.in_hand (who s) o (who own.state) (holder_apart k active d own)) (λ k d own. put_who-other m.in_hand (who s) o (who own.state) (maker_apart k d own))
         k (shapes k) e e.making (inv.entries k e found);
     replicas = inv.replicas;
@@ -197,12 +172,18 @@ module _ (m : Machine) (shapes : ℕ → Shape) (inv : InvariantIn shapes m) (s 
     rest = inv.rest;
     clients = inv.clients;
     places = inv.places;
-    hands = λ a z left. elim (put_who-cases m.in_hand (who s) o a z left) [
-      | inl here ↦ subst (λ b. IsInHand (record m { in_hand = put_who m.in_hand (who s) o }) shapes b z) (sym here.0) (own z here.1)
-      | inr other ↦ (let was = inv.hands a z other.1 in record { whose = was.whose; client = was.client; number = was.number; built = was.built; driven = was.driven; live = was.live; here = IsIn-apart m shapes m.next m.pending (put_who m.in_hand (who s) o) z (driver_of z) was.here })
-    ];
+    hands = hands_then;
     calls = calls_left m.in_hand m.pending m.next inv.calls s held o same;
   }
+    where
+      hands_then : (a : Who) (z : CallState) → put_who m.in_hand (who s) o a ≡ Some z → IsInHand (record m { in_hand = put_who m.in_hand (who s) o }) shapes a z
+      hands_then a z left = elim (put_who-cases m.in_hand (who s) o a z left) [
+        | inl here ↦ subst (λ b. IsInHand (record m { in_hand = put_who m.in_hand (who s) o }) shapes b z) (sym here.0) (own z here.1)
+        | inr other ↦ (let was = inv.hands a z other.1 in record { whose = was.whose; client = was.client; number = was.number; built = was.built; driven = was.driven; live = was.live; home = was.home; here = IsIn-apart m shapes m.next m.pending (put_who m.in_hand (who s) o) z (driver_of z) was.here })
+      ]
+
+      lives : LivesOn m (record m { in_hand = put_who m.in_hand (who s) o })
+      lives = lives_on-one m (record m { in_hand = put_who m.in_hand (who s) o }) shapes shapes inv (λ d. refl) refl refl hands_then s held o same (λ w. refl)
 
   -- it ends
   pub plain_ends : InvariantIn shapes (record m { in_hand = put_who m.in_hand (who s) None })
@@ -214,19 +195,41 @@ module _ (m : Machine) (shapes : ℕ → Shape) (inv : InvariantIn shapes m) (s 
 
   -- ---- it ends with a step of the record, and what is over is swept away
 
-  module _ (R : RecordState) (rises : IdentitiesRise R.entries) (up_to : AllUpTo m.cluster.last_identity R.entries) (up : R.up ≡ m.cluster.up) (last : R.last_identity ≡ m.cluster.last_identity) (later : ComesOf IsLaterEntry m.cluster.entries R.entries)
-      (none_live : m.cluster.up ≡ no_nodes → R.clients ≡ []) (clients : (c : ℕ) → IfSome (find_key client_key c R.clients) (IsGoodClient m.next R c))
+  module _ (R : RecordState) (rises : IdentitiesRise R.entries) (up_to : AllUpTo m.cluster.last_identity R.entries) (up : R.up ≡ m.cluster.up) (incarnations : R.last_incarnations ≡ m.cluster.last_incarnations) (last : R.last_identity ≡ m.cluster.last_identity) (later : ComesOf (IsLaterEntry m.cluster.up) m.cluster.entries R.entries)
+      (none_live : m.cluster.up ≡ no_nodes → R.clients ≡ []) (clients : (c : ℕ) → IfSome (find_key client_key c R.clients) (IsGoodClient m.next R c)) (dead : (d : CallId) → IsDead m d → is_live R d ≡ false)
       (live : (a : Who) (z : CallState) → same_who a (who s) ≡ false → m.in_hand a ≡ Some z → is_live m.cluster z.call ≡ true → is_live R z.call ≡ true)
       (lives : (a : Who) (z : CallState) → same_who a (who s) ≡ false → m.in_hand a ≡ Some z → find_key client_key (client_of z.call) R.clients ≡ find_key client_key (client_of z.call) m.cluster.clients)
       (makes : (a : Who) (z : CallState) (k : ℕ) (e : Entry) → same_who a (who s) ≡ false → m.in_hand a ≡ Some z → entry_of k m.cluster.entries ≡ Some e → e.making ≡ Some z.call → IsSome (entry_of k R.entries))
       (homes : (a : ActorName) (h : HandleView) → Contains (m.tables a).handles h → find_key client_key (number_of a) R.clients ≡ find_key client_key (number_of a) m.cluster.clients) where
+    swept_later : IsLaterRecord m (swept R) (put_who m.in_hand (who s) None)
+    swept_later = record {
+      up = up;
+      incarnations = incarnations;
+      last = last;
+      rises = IdentitiesRise-filter (stays R.moment) R.entries rises;
+      up_to = subst (λ i. AllUpTo i (filter (stays R.moment) R.entries)) (sym last) (AllUpTo-filter (stays R.moment) m.cluster.last_identity R.entries up_to);
+      swept = AllStay-swept R.moment R.entries;
+      later = left_later m R rises later;
+      none_live = none_live;
+      clients = clients;
+      was_held = λ a z left. left_other s m a z left (λ other at. at);
+      dead = dead;
+      live = λ a z left. left_other s m a z left (λ other at. live a z other at);
+      lives = λ a z left. left_other s m a z left (λ other at. lives a z other at);
+      makes = λ a z k e left was by. makes_still m R rises later k e z.call was by (left_other s m a z left (λ other at. makes a z k e other at was by));
+      homes = homes;
+      owners = λ k sh d own. put_who-other m.in_hand (who s) None (who own.state) (owner_apart k sh d own);
+      markers = λ k marks there own. put_who-other m.in_hand (who s) None (who own.state) (marker_apart k marks own);
+      holders = λ k active d there own. put_who-other m.in_hand (who s) None (who own.state) (holder_apart k active d own);
+      makers = λ k d there own. put_who-other m.in_hand (who s) None (who own.state) (maker_apart k d own);
+    }
+
     pub swept_keeps : InvariantIn shapes (record (with_record m (swept R)) { in_hand = put_who m.in_hand (who s) None })
-    swept_keeps = resting_keeps (ending s m) shapes plain_ends R rises up_to up last later none_live clients
-        (λ a z left. left_other s m a z left (λ other at. live a z other at)) (λ a z left. left_other s m a z left (λ other at. lives a z other at)) (λ a z k e left. left_other s m a z left (λ other at. makes a z k e other at)) homes
+    swept_keeps = record_keeps m shapes inv (swept R) (put_who m.in_hand (who s) None) swept_later
 
   -- one entry was changed
-  pub changed_keeps : (k : ℕ) (f : Entry → Entry) → KeepsIdentity f → ((e : Entry) → entry_of k m.cluster.entries ≡ Some e → IsLaterEntry e (f e)) → InvariantIn shapes (record (with_record m (swept (record m.cluster { entries = change_key identity_of k f m.cluster.entries }))) { in_hand = put_who m.in_hand (who s) None })
+  pub changed_keeps : (k : ℕ) (f : Entry → Entry) → KeepsIdentity f → ((e : Entry) → entry_of k m.cluster.entries ≡ Some e → IsLaterEntry m.cluster.up e (f e)) → InvariantIn shapes (record (with_record m (swept (record m.cluster { entries = change_key identity_of k f m.cluster.entries }))) { in_hand = put_who m.in_hand (who s) None })
   changed_keeps k f keeps later = swept_keeps (record m.cluster { entries = change_key identity_of k f m.cluster.entries })
-      (IdentitiesRise-change_key f keeps k m.cluster.entries inv.rises) (AllUpTo-change_key f keeps m.cluster.last_identity k m.cluster.entries inv.up_to) refl refl
-      (ComesOf-change_found IsLaterEntry IsLaterEntry-refl f keeps k m.cluster.entries later) inv.none_live inv.clients
+      (IdentitiesRise-change_key f keeps k m.cluster.entries inv.rises) (AllUpTo-change_key f keeps m.cluster.last_identity k m.cluster.entries inv.up_to) refl refl refl
+      (ComesOf-change_found (IsLaterEntry m.cluster.up) (IsLaterEntry-refl m.cluster.up) f keeps k m.cluster.entries later) inv.none_live inv.clients (λ d dead. dead.gone)
       (λ a z other at live. live) (λ a z other at. refl) (λ a z j e other at was by. there_still f keeps k j m.cluster.entries e was) (λ a h among. refl)

@@ -22,7 +22,10 @@ use Rattle.ckpt_machine.proofs.MarksAt.{none_elsewhere}
 use Rattle.ckpt_machine.proofs.NodeLists.{slice_index-replicate}
 use Rattle.ckpt_machine.proofs.OnComplete.{present_generation, put_complete}
 use Rattle.ckpt_machine.proofs.OptionLemmas.{IsSomeAnd-at, IsSomeAnd-from}
-use Rattle.ckpt_machine.proofs.OtherCalls.{LooksAlike, LooksLater-refl, IsHolder-alike, making_still, IsInHand-alike, IsOwner-alike, IsMarker-alike, IsMaker-alike}
+use Rattle.ckpt_machine.specs.InHand.{IsInHand}
+use Rattle.ckpt_types.specs.declared.identities.Who.{Who}
+use Rattle.ckpt_machine.proofs.Lives.{LivesOn, lives_on-fewer}
+use Rattle.ckpt_machine.proofs.OtherCalls.{LooksAlike, LooksLater-refl, IsHolder-alike, making_still, IsInHand-alike, owned_alike, owner_before, IsMarker-alike, IsMaker-alike}
 
 -- ---- what they are about
 
@@ -96,16 +99,20 @@ module _ (m : Machine) (shapes : ℕ → Shape) (inv : InvariantIn shapes m) (f 
   then_machine = record m { replicas = f; snapshots = g }
 
   -- a checkpoint is as it was
-  IsGoodIn-then : (j : ℕ) (e : Entry) → entry_of j m.cluster.entries ≡ Some e → (maker : Option CallId) → IsGoodIn m j (shapes j) e maker → IsGoodIn then_machine j (shapes j) e maker
-  IsGoodIn-then j e found None good = record {
+  IsGoodIn-then : LivesOn m then_machine → (j : ℕ) (e : Entry) → entry_of j m.cluster.entries ≡ Some e → (maker : Option CallId) → IsGoodIn m j (shapes j) e maker → IsGoodIn then_machine j (shapes j) e maker
+  IsGoodIn-then lives j e found None good = record {
     nodes = good.nodes;
     some = good.some;
+    up = good.up;
     active = good.active;
     replicas = λ q there. shaped j q e found (good.replicas q there);
     fits = good.fits;
+    all = good.all;
     complete = good.complete;
     lowest = good.lowest;
-    owned = λ q d owns. IsOwner-alike m then_machine j (shapes j) d (good.owned q d owns) refl;
+    first = λ p q d below there owns own. good.first p q d below there owns (owner_before m then_machine j lives (shapes j) d (good.owned q d owns) own);
+    owned = λ q d owns. owned_alike m then_machine j lives (shapes j) d (λ own. refl) (good.owned q d owns);
+    live = good.live;
     led = good.led;
     marked = λ marks is. IsMarker-alike m then_machine j marks (good.marked marks is) refl;
     held = λ d is. (let own = good.held d is in record { collocated = own.collocated; led = own.led; unmarked = own.unmarked; holder = IsHolder-alike m then_machine j e.active d own.holder refl (active_same e.active refl) });
@@ -115,39 +122,48 @@ module _ (m : Machine) (shapes : ℕ → Shape) (inv : InvariantIn shapes m) (f 
       active_same : (o : Option ℕ) → e.active ≡ o → on_node (f j) o ≡ on_node (m.replicas j) o
       active_same None is = refl
       active_same (Some q) is = led j q e found is
-  IsGoodIn-then j e found (Some d) good = (good.0, IsMaker-alike m then_machine j d good.1 refl)
+  IsGoodIn-then lives j e found (Some d) good = (good.0, IsMaker-alike m then_machine j d good.1 refl)
 
   -- a call sees what it saw
   looks_then : (z : CallState) → LooksAlike m then_machine shapes shapes z
   looks_then z = record {
     up = λ r up. up;
     lives = refl;
+    home = refl;
     handle = λ there. there;
     making = λ o at. making_still m then_machine z o (λ w at. record { there = at.there; declares = at.declares; nodes = at.nodes; reserved = at.reserved; only = at.only; within = at.within }) at;
     made = λ k was. was;
     later = λ k was e found. (e, found, LooksLater-refl z (shapes k).marks e);
     owners = λ k was r. refl;
     marks = λ k was. refl;
+    done = λ k was done. done;
   }
 
   -- the invariant holds
   alike_keeps : InvariantIn shapes then_machine
   alike_keeps = record {
     up = inv.up;
+    first_up = inv.first_up;
     none_live = inv.none_live;
     rises = inv.rises;
     up_to = inv.up_to;
     swept = inv.swept;
-    entries = λ j e found. IsGoodIn-then j e found e.making (inv.entries j e found);
+    entries = λ j e found. IsGoodIn-then lives j e found e.making (inv.entries j e found);
     replicas = complete;
     reserves = inv.reserves;
     handles = inv.handles;
     rest = inv.rest;
     clients = inv.clients;
     places = inv.places;
-    hands = λ a z held. let was = inv.hands a z held in IsInHand-alike m then_machine shapes shapes z (looks_then z) a (λ live. live) was.number was;
+    hands = hands_then;
     calls = inv.calls;
   }
+    where
+      hands_then : (a : Who) (z : CallState) → m.in_hand a ≡ Some z → IsInHand then_machine shapes a z
+      hands_then a z held = let was = inv.hands a z held in IsInHand-alike m then_machine shapes shapes z (looks_then z) a (λ live. live) was.number was
+
+      lives : LivesOn m then_machine
+      lives = lives_on-fewer m then_machine shapes shapes inv (λ d. refl) refl refl hands_then (λ a z held. held)
 
 -- ---- the two labels
 

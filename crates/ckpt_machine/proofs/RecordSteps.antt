@@ -6,20 +6,19 @@ use Rattle.ckpt_types.specs.declared.identities.CallId.{CallId}
 use Rattle.cluster_record.specs.declared.calls.Making.{Making}
 use Rattle.cluster_record.specs.declared.entries.Entry.{Entry}
 use Rattle.cluster_record.specs.DueOpen.{targets_by}
-use Rattle.cluster_record.specs.RecordState.{RecordState, entry_of, node_of_client, complete_of, no_nodes}
+use Rattle.cluster_record.specs.RecordState.{RecordState, entry_of, node_of_client, complete_of, no_nodes, is_live}
 use Rattle.cluster_record.specs.StepDone.{has}
 use Rattle.ckpt_machine.specs.Entries.{WasMade}
 use Rattle.ckpt_types.specs.Asks.{asked}
-use Rattle.ckpt_machine.specs.InHand.{attributes_asked, IsMakingIn, IsUpdateIn, IsInPlace}
+use Rattle.ckpt_machine.specs.InHand.{attributes_asked, is_enter, IsMakingIn}
 use Rattle.ckpt_machine.specs.Invariant.{IsGoodIn, IsOfGeneration, InvariantIn}
 use Rattle.ckpt_machine.specs.Machine.{Machine, CallState, who}
-use Rattle.ckpt_machine.specs.Options.{is_all}
 use Rattle.ckpt_machine.specs.Steps.{opened_state, with_record, replica_under, reservation_under}
-use Rattle.ckpt_machine.specs.Shape.{Shape, IsCompleteOn, IsOwner}
+use Rattle.ckpt_machine.specs.Shape.{Shape, IsCompleteOn}
 use Rattle.ckpt_machine.specs.Later.{IsLaterEntry, IsLaterRecord}
 use Rattle.ckpt_machine.proofs.OtherCalls.{LooksAlike, LooksLater-later, making_still, IsInHand-alike, IsGoodIn-later}
 use Rattle.ckpt_machine.proofs.Handles.{IsGoodHandle-later}
-use Rattle.ckpt_machine.proofs.Joining.{all_apart}
+use Rattle.ckpt_machine.proofs.Lives.{LivesOn}
 use Rattle.ckpt_machine.proofs.OptionLemmas.{IsSomeAnd-at, IsSomeAnd-from}
 use Rattle.ckpt_machine.proofs.OnComplete.{IsOfGeneration-later, under_complete}
 use Rattle.ckpt_machine.proofs.ReservedUnder.{was_reserved}
@@ -44,12 +43,6 @@ module _ (m : Machine) (shapes : ℕ → Shape) (inv : InvariantIn shapes m) (R 
       ∙ ap (λ o. replica_under (Some f) (slice_index (complete_of o) r) r (m.replicas k r)) was
       ∙ (λ i. cond (there i) None (cond (before i) (Some (opened_state f)) (m.replicas k r)))
 
-  -- an update that owns a slot is of a checkpoint whose nodes stay
-  owned_placed : (k : ℕ) (sh : Shape) (e f : Entry) → entry_of k m.cluster.entries ≡ Some e → IsLaterEntry e f → (d : CallId) → IsOwner m k sh d → f.complete ≡ e.complete
-  owned_placed k sh e f was later d own =
-      let at : IsUpdateIn m shapes own.state own.driver = subst (λ d. IsInPlace m shapes own.state d) own.driver_is (inv.hands (who own.state) own.state own.in_hand).here in
-      later.placed (all_apart e.attributes (subst (λ o. IfSome o (λ (x : Entry). is_all x.attributes ≡ true)) (ap (λ j. entry_of j m.cluster.entries) own.ckpt ∙ was) at.all))
-
   -- ---- what was made
 
   WasMade-kept : (k : ℕ) → WasMade m.cluster k → WasMade R k
@@ -66,8 +59,18 @@ module _ (m : Machine) (shapes : ℕ → Shape) (inv : InvariantIn shapes m) (R 
 
   -- ---- checkpoints
 
-  IsGoodIn-kept : (k : ℕ) (sh : Shape) (e f : Entry) (maker : Option CallId) → entry_of k m.cluster.entries ≡ Some e → entry_of k R.entries ≡ Some f → IsLaterEntry e f → (IsSome maker → f.complete ≡ e.complete) → IsGoodIn m k sh e maker → IsGoodIn then_machine k sh f maker
-  IsGoodIn-kept k sh e f maker was is later unmade good = IsGoodIn-later m then_machine k sh e f later (λ r there. replica_by k r e f false was is (later.grows r there) there) (λ r none there. replica_by k r e f true was is there none) (owned_placed k sh e f was later) (after_it.owners k sh) (λ marks own. after_it.markers k marks (subst (λ o. IsSome o) (sym is) refl) own) (λ active d own. after_it.holders k active d (subst (λ o. IsSome o) (sym is) refl) own) (λ d own. after_it.makers k d (subst (λ o. IsSome o) (sym is) refl) own) maker unmade good
+  -- dead calls are dead still, and calls that are left are live as they were
+  lives : LivesOn m then_machine
+  lives = record {
+    dead = λ d dead. record { begun = dead.begun; gone = after_it.dead d dead; before = λ w z left. dead.before w z (after_it.was_held w z left) };
+    owners = λ k sh d own. (
+        let was : m.in_hand (who own.state) ≡ Some own.state = after_it.was_held (who own.state) own.state own.in_hand in
+        ap (is_live R) (sym own.call_is) ∙ after_it.live (who own.state) own.state own.in_hand ((inv.hands (who own.state) own.state was).live (ap is_enter own.driver_is)));
+    up = λ r there. ap (λ nodes. slice_index nodes r) after_it.up;
+  }
+
+  IsGoodIn-kept : (k : ℕ) (sh : Shape) (e f : Entry) (maker : Option CallId) → entry_of k m.cluster.entries ≡ Some e → entry_of k R.entries ≡ Some f → IsLaterEntry m.cluster.up e f → (IsSome maker → f.complete ≡ e.complete) → IsGoodIn m k sh e maker → IsGoodIn then_machine k sh f maker
+  IsGoodIn-kept k sh e f maker was is later unmade good = IsGoodIn-later m then_machine k lives sh e f later (λ r there. replica_by k r e f false was is (later.grows r there) there) (λ r none there. replica_by k r e f true was is there none) (after_it.owners k sh) (λ marks own. after_it.markers k marks (subst (λ o. IsSome o) (sym is) refl) own) (λ active d own. after_it.holders k active d (subst (λ o. IsSome o) (sym is) refl) own) (λ d own. after_it.makers k d (subst (λ o. IsSome o) (sym is) refl) own) maker unmade good
 
   -- ---- where a call is
 
@@ -96,7 +99,8 @@ module _ (m : Machine) (shapes : ℕ → Shape) (inv : InvariantIn shapes m) (R 
                   ∙ at.reserved r (subst (λ nodes. has (slice_index nodes r) (slice_index making.reserved r) ≡ true) after_it.up had)
                   ∙ ap (λ nodes. Some (slice_index nodes r)) (sym after_it.up);
               only = λ r nothing. reservation_kept making.ckpt r f is (ap (λ nodes. slice_index nodes r == 0) none ∙ zeros r) ∙ at.only r nothing;
-              within = λ r some. (λ i. slice_index (targets_by (attributes_asked (asked z.op)) (node_of_client (after_it.lives a z left i)) (after_it.up i)) r == 0) ∙ at.within r some;
+              within = λ r some. (λ i. slice_index (targets_by (attributes_asked (asked z.op)) (node_of_client (after_it.lives a z left i)) (after_it.up i)) r == 0)
+                  ∙ at.within r (ap is_some (sym (reservation_kept making.ckpt r f is (ap (λ nodes. slice_index nodes r == 0) none ∙ zeros r))) ∙ some);
             }
           where
             declared_at : (e : Entry) → entry_of making.ckpt m.cluster.entries ≡ Some e → IsMakingIn m z making → attributes_asked (asked z.op) ≡ Some e.attributes
@@ -109,12 +113,14 @@ module _ (m : Machine) (shapes : ℕ → Shape) (inv : InvariantIn shapes m) (R 
     looks_kept = record {
       up = λ r up. ap (λ nodes. nat_lt r 8 && not (slice_index nodes r == 0)) after_it.up ∙ up;
       lives = ap is_some (after_it.lives a z left);
+      home = ap node_of_client (after_it.lives a z left);
       handle = λ there. there;
       making = λ o at. making_still m then_machine z o making_kept at;
       made = WasMade-kept;
-      later = λ k was f found. let (e, there, later) = after_it.later k f found in (e, there, LooksLater-later z (shapes k).marks e f later);
+      later = λ k was f found. let (e, there, later) = after_it.later k f found in (e, there, LooksLater-later m.cluster.up z (shapes k).marks e f later);
       owners = λ k was r. refl;
       marks = λ k was. refl;
+      done = λ k was done. done;
     }
 
   -- ---- the whole
@@ -132,7 +138,8 @@ module _ (m : Machine) (shapes : ℕ → Shape) (inv : InvariantIn shapes m) (R 
   -- the invariant holds after the step
   pub record_keeps : InvariantIn shapes then_machine
   record_keeps = record {
-    up = (inv.up.0, after_it.up ∙ inv.up.1);
+    up = ap length after_it.up ∙ inv.up;
+    first_up = λ never. after_it.up ∙ inv.first_up (sym after_it.incarnations ∙ never);
     none_live = λ none. after_it.none_live (sym after_it.up ∙ none);
     rises = after_it.rises;
     up_to = after_it.up_to;
@@ -140,7 +147,7 @@ module _ (m : Machine) (shapes : ℕ → Shape) (inv : InvariantIn shapes m) (R 
     entries = λ k f is. (
         let (e, was, later) = after_it.later k f is in
         subst (IsGoodIn then_machine k (shapes k) f) (sym later.making) (IsGoodIn-kept k (shapes k) e f e.making was is later later.unmade (inv.entries k e was)));
-    replicas = λ j q x is. under_complete (entry_of j R.entries) (slice_index (complete_of (entry_of j m.cluster.entries)) q) q (m.replicas j q) x (λ f found was. let (e, there, later) = after_it.later j f found in IsOfGeneration-later e f q x.generation later ((subst (λ o. IsSomeAnd o (λ (e : Entry). IsCompleteOn e q × IsOfGeneration e q x.generation)) there (inv.replicas j q x was)).1)) is;
+    replicas = λ j q x is. under_complete (entry_of j R.entries) (slice_index (complete_of (entry_of j m.cluster.entries)) q) q (m.replicas j q) x (λ f found was. let (e, there, later) = after_it.later j f found in IsOfGeneration-later m.cluster.up e f q x.generation later ((subst (λ o. IsSomeAnd o (λ (e : Entry). IsCompleteOn e q × IsOfGeneration e q x.generation)) there (inv.replicas j q x was)).1)) is;
     reserves = λ j q n reserved. was_reserved (entry_of j R.entries) q n (m.reserved j q) (λ f. IsSome f.making) (λ f found free was. reserves_kept j q n f found was) reserved;
     handles = λ b h among. IsGoodHandle-later m.cluster R WasMade-kept (λ k was f found. let (e, there, later) = after_it.later k f found in (e, there, later.attributes, later.grows)) b h (after_it.homes b h among) (inv.handles b h among);
     rest = inv.rest;

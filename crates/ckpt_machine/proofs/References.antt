@@ -26,20 +26,20 @@ released_all-identity c t e = left_identity e t (slice_set e.references c 0) (sl
 -- ---- references that go
 
 -- a last close changes nothing that the invariant looks at, nor does what is left where a client has no reference
-fewer_later : (e : Entry) (t : ℤ) (references : List ℕ) → length references ≡ length e.references → (none left : Bool) → IsLaterEntry e (cond none e (cond left (record e { references = references }) (record e { references = references; idle = t })))
-fewer_later e t references same true left = IsLaterEntry-refl e
-fewer_later e t references same false true = same_nodes-later e _ refl refl refl refl refl refl same
-fewer_later e t references same false false = same_nodes-later e _ refl refl refl refl refl refl same
+fewer_later : (up : List ℕ) (e : Entry) (t : ℤ) (references : List ℕ) → length references ≡ length e.references → (none left : Bool) → IsLaterEntry up e (cond none e (cond left (record e { references = references }) (record e { references = references; idle = t })))
+fewer_later up e t references same true left = IsLaterEntry-refl up e
+fewer_later up e t references same false true = same_nodes-later up e _ refl refl refl refl refl refl same
+fewer_later up e t references same false false = same_nodes-later up e _ refl refl refl refl refl refl same
 
-module _ (c : ℕ) (t : ℤ) (e : Entry) where
+module _ (up : List ℕ) (c : ℕ) (t : ℤ) (e : Entry) where
   abbrev one_less : List ℕ
   one_less = slice_set e.references c (slice_index e.references c - 1)
 
   abbrev none_of_it : List ℕ
   none_of_it = slice_set e.references c 0
 
-  pub released-later : IsLaterEntry e (unreferred c t e)
-  released-later = fewer_later e t one_less (length-slice_set e.references c (slice_index e.references c - 1)) (slice_index e.references c == 0) (has_references (record e { references = one_less }))
+  pub released-later : IsLaterEntry up e (unreferred c t e)
+  released-later = fewer_later up e t one_less (length-slice_set e.references c (slice_index e.references c - 1)) (slice_index e.references c == 0) (has_references (record e { references = one_less }))
 
-  pub released_all-later : IsLaterEntry e (released_all c t e)
-  released_all-later = fewer_later e t none_of_it (length-slice_set e.references c 0) (slice_index e.references c == 0) (has_references (record e { references = none_of_it }))
+  pub released_all-later : IsLaterEntry up e (released_all c t e)
+  released_all-later = fewer_later up e t none_of_it (length-slice_set e.references c 0) (slice_index e.references c == 0) (has_references (record e { references = none_of_it }))

@@ -4,6 +4,7 @@ use Rattle.std.proofs.lemmas.Option.{same_Some}
 use Rattle.std.specs.Prelude.{is_some, IsSome, IsSomeAnd}
 use Rattle.std.proofs.lemmas.Bool.{eqb-true}
 use Rattle.ckpt_types.specs.declared.identities.CallId.{CallId}
+use Rattle.ckpt_types.specs.declared.identities.Who.{Who}
 use Rattle.cluster_record.specs.declared.calls.Making.{Making}
 use Rattle.cluster_record.specs.declared.entries.Entry.{Entry}
 use Rattle.cluster_record.specs.DueOpen.{OpenState}
@@ -17,7 +18,8 @@ use Rattle.ckpt_machine.specs.InHand.{IsMakingIn, IsInHand}
 use Rattle.ckpt_machine.specs.Invariant.{IsMaker, IsGoodIn, InvariantIn}
 use Rattle.ckpt_types.specs.OpWord.{word_of_op, stepped_as}
 use Rattle.ckpt_machine.proofs.CallsKept.{apart_from, same_call-Some, calls_left}
-use Rattle.ckpt_machine.proofs.OtherCalls.{making_still, LooksAlike, LooksLater-refl, IsHolder-alike, IsInHand-alike, IsOwner-alike, IsMarker-alike, IsMaker-alike}
+use Rattle.ckpt_machine.proofs.Lives.{LivesOn, lives_on-one}
+use Rattle.ckpt_machine.proofs.OtherCalls.{making_still, LooksAlike, LooksLater-refl, IsHolder-alike, IsInHand-alike, owned_alike, owner_before, IsMarker-alike, IsMaker-alike}
 use Rattle.ckpt_machine.proofs.OwnMaking.{making_at, owner_apart, marker_apart, holder_apart, maker_same, not_own}
 use Rattle.ckpt_machine.proofs.OptionLemmas.{IsSomeAnd-at, IsSomeAnd-from}
 use Rattle.ckpt_machine.specs.Whose.{put_who, same_who}
@@ -37,8 +39,8 @@ module _ (m : Machine) (shapes : ℕ → Shape) (inv : InvariantIn shapes m) (s 
   -- ---- checkpoints
 
   -- a slot has its owner still
-  IsOwner-then : (j : ℕ) (sh : Shape) (d : CallId) → IsOwner m j sh d → IsOwner then_machine j sh d
-  IsOwner-then j sh d own = IsOwner-alike m then_machine j sh d own (put_who-other m.in_hand (who s) (Some w) (who own.state) (owner_apart m s o held is j sh d own))
+  owner_stays : (j : ℕ) (sh : Shape) (d : CallId) (own : IsOwner m j sh d) → then_machine.in_hand (who own.state) ≡ m.in_hand (who own.state)
+  owner_stays j sh d own = put_who-other m.in_hand (who s) (Some w) (who own.state) (owner_apart m s o held is j sh d own)
 
   -- and marks their call
   IsMarker-then : (j : ℕ) (marks : Marked) → IsMarker m j marks → IsMarker then_machine j marks
@@ -69,39 +71,45 @@ module _ (m : Machine) (shapes : ℕ → Shape) (inv : InvariantIn shapes m) (s 
           }
 
   -- a checkpoint is as it was
-  IsGoodIn-then : (j : ℕ) (sh : Shape) (e : Entry) (maker : Option CallId) → IsGoodIn m j sh e maker → IsGoodIn then_machine j sh e maker
-  IsGoodIn-then j sh e None good = record {
+  IsGoodIn-then : LivesOn m then_machine → (j : ℕ) (sh : Shape) (e : Entry) (maker : Option CallId) → IsGoodIn m j sh e maker → IsGoodIn then_machine j sh e maker
+  IsGoodIn-then lives j sh e None good = record {
     nodes = good.nodes;
     some = good.some;
+    up = good.up;
     active = good.active;
     replicas = good.replicas;
     fits = good.fits;
+    all = good.all;
     complete = good.complete;
     lowest = good.lowest;
-    owned = λ r d owns. IsOwner-then j sh d (good.owned r d owns);
+    first = λ q r d below there owns own. good.first q r d below there owns (owner_before m then_machine j lives sh d (good.owned r d owns) own);
+    owned = λ r d owns. owned_alike m then_machine j lives sh d (owner_stays j sh d) (good.owned r d owns);
+    live = good.live;
     led = good.led;
     marked = λ marks is. IsMarker-then j marks (good.marked marks is);
     held = λ d is. (let own = good.held d is in record { collocated = own.collocated; led = own.led; unmarked = own.unmarked; holder = IsHolder-then j e.active d own.holder });
   }
-  IsGoodIn-then j sh e (Some d) good = (good.0, IsMaker-then j d good.1)
+  IsGoodIn-then lives j sh e (Some d) good = (good.0, IsMaker-then j d good.1)
 
   -- ---- where the calls of others are
 
   -- another call makes what it made
   making_then : (z : CallState) → z.call ≢ s.call → (x : Making) → IsMakingIn m z x → IsMakingIn then_machine z x
-  making_then z other x at = record { there = at.there; declares = at.declares; nodes = at.nodes; reserved = λ r had. elsewhere x.ckpt r (not_own m shapes inv s o making held is makes z other x at) ∙ at.reserved r had; only = λ r none. elsewhere x.ckpt r (not_own m shapes inv s o making held is makes z other x at) ∙ at.only r none; within = at.within }
+  making_then z other x at = record { there = at.there; declares = at.declares; nodes = at.nodes; reserved = λ r had. elsewhere x.ckpt r (not_own m shapes inv s o making held is makes z other x at) ∙ at.reserved r had; only = λ r none. elsewhere x.ckpt r (not_own m shapes inv s o making held is makes z other x at) ∙ at.only r none; within = λ r some. at.within r (ap is_some (sym (elsewhere x.ckpt r (not_own m shapes inv s o making held is makes z other x at))) ∙ some) }
 
   -- so it sees what it saw
   looks_then : (z : CallState) → z.call ≢ s.call → LooksAlike m then_machine shapes shapes z
   looks_then z other = record {
     up = λ r up. up;
     lives = refl;
+    home = refl;
     handle = λ there. there;
     making = λ o at. making_still m then_machine z o (making_then z other) at;
     made = λ k was. was;
     later = λ k was e found. (e, found, LooksLater-refl z (shapes k).marks e);
     owners = λ k was r. refl;
     marks = λ k was. refl;
+    done = λ k was done. done;
   }
 
   -- ---- the whole
@@ -120,20 +128,27 @@ module _ (m : Machine) (shapes : ℕ → Shape) (inv : InvariantIn shapes m) (s 
   pub reserved_keeps : IsInHand then_machine shapes (who s) w → InvariantIn shapes then_machine
   reserved_keeps own = record {
     up = inv.up;
+    first_up = inv.first_up;
     none_live = inv.none_live;
     rises = inv.rises;
     up_to = inv.up_to;
     swept = inv.swept;
-    entries = λ j e found. IsGoodIn-then j (shapes j) e e.making (inv.entries j e found);
+    entries = λ j e found. IsGoodIn-then lives j (shapes j) e e.making (inv.entries j e found);
     replicas = inv.replicas;
     reserves = there_then;
     handles = inv.handles;
     rest = inv.rest;
     clients = inv.clients;
     places = inv.places;
-    hands = λ a z there. elim (put_who-cases m.in_hand (who s) (Some w) a z there) [
-      | inl here ↦ subst (λ b. IsInHand then_machine shapes b z) (sym here.0) (subst (IsInHand then_machine shapes (who s)) (same_Some w z here.1) own)
-      | inr other ↦ (let was = inv.hands a z other.1 in IsInHand-alike m then_machine shapes shapes z (looks_then z (apart_from m.in_hand m.pending m.next inv.calls s held a z other.1 other.0)) a (λ live. live) was.number was)
-    ];
+    hands = hands_then;
     calls = calls_left m.in_hand m.pending m.next inv.calls s held (Some w) (same_call-Some s w call_is op_is);
   }
+    where
+      hands_then : (a : Who) (z : CallState) → put_who m.in_hand (who s) (Some w) a ≡ Some z → IsInHand then_machine shapes a z
+      hands_then a z there = elim (put_who-cases m.in_hand (who s) (Some w) a z there) [
+        | inl here ↦ subst (λ b. IsInHand then_machine shapes b z) (sym here.0) (subst (IsInHand then_machine shapes (who s)) (same_Some w z here.1) own)
+        | inr other ↦ (let was = inv.hands a z other.1 in IsInHand-alike m then_machine shapes shapes z (looks_then z (apart_from m.in_hand m.pending m.next inv.calls s held a z other.1 other.0)) a (λ live. live) was.number was)
+      ]
+
+      lives : LivesOn m then_machine
+      lives = lives_on-one m then_machine shapes shapes inv (λ d. refl) refl refl hands_then s held (Some w) (same_call-Some s w call_is op_is) (λ a. refl)

@@ -1,5 +1,6 @@
 -- A run goes on by one label.
-use Rattle.std.proofs.Common.{◌≡◌, List, [], ◌∷◌, ◌++◌, refl, subst}
+use Rattle.std.proofs.Common.{◌≡◌, List, [], ◌∷◌, ◌++◌, refl, sym, subst, append_assoc}
+use Rattle.std.proofs.lemmas.List.{append-nil}
 use Rattle.run_labels.specs.declared.labels.Label.{Label}
 use Rattle.ckpt_machine.specs.Machine.{Machine, empty_cluster}
 use Rattle.ckpt_machine.specs.Steps.{IsDue, after}
@@ -25,11 +26,6 @@ pub run_before : (m : Machine) (log : List Label) (l : Label) → IsRunFrom m (l
 run_before m [] l run = (tt, run.0, run.1)
 run_before m (x ∷ log) l run = let (before, allowed, is) = run_before (after m x) log l run.2 in ((run.0, run.1, before), allowed, is)
 
--- the state after two lists of labels is the state after the second from the state after the first
-pub last_from-append : (m : Machine) (xs ys : List Label) → last_from m (xs ++ ys) ≡ last_from (last_from m xs) ys
-last_from-append m [] ys = refl
-last_from-append m (x ∷ xs) ys = last_from-append (after m x) xs ys
-
 -- what comes behind a front may come from the state after it
 pub IsRunFrom-back : (m : Machine) (front back : List Label) → IsRunFrom m (front ++ back) → IsRunFrom (last_from m front) back
 IsRunFrom-back m [] back run = run
@@ -47,3 +43,15 @@ run_front log front back is run = IsRunFrom-front empty_cluster front back (subs
 -- a run of the machine goes on by a label that is allowed and due
 pub run_more : (log : List Label) (l : Label) → IsRun log → Allowed (last log) l → IsDue (last log) l → IsRun (log ++ l ∷ [])
 run_more log l run allowed due = IsRunFrom-push empty_cluster log l run allowed due
+
+-- ---- what holds in a run
+
+-- what holds behind a front of a run, and stays with each label that comes, holds behind the whole
+pub along : (P : List Label → Machine → Type 0) → ((front : List Label) (l : Label) → IsRun front → Allowed (last front) l → IsDue (last front) l → P front (last front) → P (front ++ l ∷ []) (after (last front) l))
+    → (front more : List Label) → IsRun (front ++ more) → P front (last front) → P (front ++ more) (last (front ++ more))
+along P stays front [] run holds = subst (λ (log : List Label). P log (last log)) (sym (append-nil front)) holds
+along P stays front (l ∷ more) run holds =
+    let there = IsRunFrom-back empty_cluster front (l ∷ more) run in
+    let then = stays front l (IsRunFrom-front empty_cluster front (l ∷ more) run) there.0 there.1 holds in
+    let longer = append_assoc front (l ∷ []) more in
+    subst (λ (log : List Label). P log (last log)) longer (along P stays (front ++ l ∷ []) more (subst IsRun (sym longer) run) (subst (P (front ++ l ∷ [])) (sym (last-push front l)) then))

@@ -40,7 +40,7 @@ use Rattle.ckpt_machine.proofs.ActiveBy.{active_by-complete}
 use Rattle.ckpt_machine.proofs.Actors.{same_call-true, same_call-refl, same_call-false}
 use Rattle.ckpt_machine.proofs.CallsKept.{same_call-None, same_call-Some, apart_from}
 use Rattle.ckpt_machine.proofs.DueStep.{Goes}
-use Rattle.ckpt_machine.proofs.EntrySteps.{owner_other, marker_other, gone_ends, entry_here, record_is, WasMade-then, left_snapshots, then_machine, entry_keeps, entry_other}
+use Rattle.ckpt_machine.proofs.EntrySteps.{marker_other, gone_ends, entry_here, record_is, WasMade-then, left_snapshots, then_machine, entry_keeps, entry_other}
 use Rattle.ckpt_machine.proofs.HeldBy.{held_by}
 use Rattle.ckpt_machine.proofs.Installing.{synchronize_goes}
 use Rattle.ckpt_machine.proofs.Joining.{collocated_apart}
@@ -48,7 +48,7 @@ use Rattle.ckpt_machine.proofs.MarksAt.{marks_here, none_marked}
 use Rattle.ckpt_machine.proofs.OnComplete.{present_generation}
 use Rattle.ckpt_machine.proofs.OnTheActive.{marker_live}
 use Rattle.ckpt_machine.proofs.OptionLemmas.{IsSomeAnd-at, IsSomeAnd-from, IfSome-at}
-use Rattle.ckpt_machine.proofs.OtherCalls.{LooksLater, IsOwner-alike, IsMarker-alike}
+use Rattle.ckpt_machine.proofs.OtherCalls.{LooksLater, IsMarker-alike}
 use Rattle.ckpt_machine.proofs.PlainCalls.{is_plain_sync, is_plain, look_ends, look_goes, plain_ends}
 use Rattle.ckpt_machine.proofs.StepLabels.{Told-is, unhindered-told, IsEvent-told}
 use Rattle.ckpt_machine.specs.Whose.{put_who}
@@ -114,6 +114,10 @@ module _ (m : Machine) (shapes : ℕ → Shape) (inv : InvariantIn shapes m) (s 
     pub alone : is_all e.attributes ≡ false
     alone = collocated_apart e.attributes collocated
 
+    -- so nothing is staged on it
+    no_slot : {P : Type 0} → (q : ℕ) (d : CallId) → (shapes k).owners q ≡ Some d → P
+    no_slot q d owns = absurd (let w : true ≡ false = sym (spread.all q d owns) ∙ alone in cc w)
+
     -- a replica on a node on which it is complete
     pub record OnNode (q : ℕ) : Type 0 where
       pub replica : ReplicaState
@@ -146,7 +150,7 @@ module _ (m : Machine) (shapes : ℕ → Shape) (inv : InvariantIn shapes m) (s 
 
     module _ (r : ℕ) (active : e.active ≡ Some r) (other : (r == local) ≡ false) (free : e.hold ≡ None) where
       abbrev leads : OnNode r
-      leads = on_complete r (active_by-complete (is_collocated e.attributes) e.complete e.active spread.active r active)
+      leads = on_complete r (active_by-complete (is_collocated e.attributes) (is_all e.attributes) e.complete e.active spread.active r active)
 
       -- the marks of the checkpoint stand there
       marks_are : leads.replica.marks ≡ (shapes k).marks
@@ -197,19 +201,23 @@ module _ (m : Machine) (shapes : ℕ → Shape) (inv : InvariantIn shapes m) (s 
           kind = kind;
           ckpt = refl;
           some = copy_there;
-          copies = ap (λ o. option_map copied (on_node (m.replicas k) o)) (sym active);
+          copies = λ led. ap (λ o. option_map copied (on_node (m.replicas k) o)) (sym active);
         }
 
         spread_then : IsSpread held_machine k (shapes k) held_entry
         spread_then = record {
           nodes = spread.nodes;
           some = spread.some;
+          up = spread.up;
           active = spread.active;
           replicas = spread.replicas;
           fits = spread.fits;
+          all = spread.all;
           complete = spread.complete;
           lowest = spread.lowest;
-          owned = λ q d owns. let own = spread.owned q d owns in IsOwner-alike m held_machine k (shapes k) d own (put_who-other m.in_hand (who s) _ (who own.state) (owner_other m shapes inv s u held is k (shapes k) d own));
+          first = λ p q d below there owns own. no_slot q d owns;
+          owned = λ q d owns. no_slot q d owns;
+          live = spread.live;
           led = spread.led;
           marked = λ marks stand. absurd (let w : Some marks ≡ None = sym stand ∙ unmarked in cc w);
           held = λ d holds. record { collocated = collocated; led = ap is_some active; unmarked = unmarked; holder = subst (IsHolder held_machine k e.active) (same_Some s.call d holds) holder_then };
@@ -243,7 +251,7 @@ module _ (m : Machine) (shapes : ℕ → Shape) (inv : InvariantIn shapes m) (s 
 
         held_keeps : InvariantIn shapes held_machine
         held_keeps = entry_keeps m shapes inv s u held is e found made (with_hold s.call) (with_hold-identity s.call) held_entry held_is made refl (ap (λ (x : Entry). x.attributes) held_is) (ap (stays m.cluster.moment) held_is)
-            m.replicas (λ j q apart. refl) (Some (then_state (hold_set k s.call m.cluster))) looks_then (same_call-Some s (then_state (hold_set k s.call m.cluster)) refl refl) spread_then
+            m.replicas (λ j q apart. refl) (Some (then_state (hold_set k s.call m.cluster))) looks_then (same_call-Some s (then_state (hold_set k s.call m.cluster)) refl refl) (λ lives. spread_then)
             (λ j q x there. generation_then j q x there (j == k) refl)
             (λ z same. subst (IsInHand held_machine shapes (who s)) (same_Some (then_state (hold_set k s.call m.cluster)) z same) (let hand = inv.hands (who s) s held in record {
               whose = refl;
@@ -252,6 +260,7 @@ module _ (m : Machine) (shapes : ℕ → Shape) (inv : InvariantIn shapes m) (s 
               built = hand.built;
               driven = hand.driven;
               live = λ others. hand.live (ap is_enter is);
+              home = λ others. hand.home (ap is_enter is);
               here = subst (IsInPlace held_machine shapes (then_state (hold_set k s.call m.cluster))) (sym (ap (driver_taken (hold_done (hold_set k s.call m.cluster))) is)) (subst (IsSyncBy held_machine (then_state (hold_set k s.call m.cluster)) u) (sym kind) here_then);
             }))
           where
@@ -260,7 +269,7 @@ module _ (m : Machine) (shapes : ℕ → Shape) (inv : InvariantIn shapes m) (s 
             generation_then j q x there true same =
                 let k_is : j ≡ k = eqb-true j k same in
                 let was = subst (λ o. IsSomeAnd o (λ (g : Entry). IsCompleteOn g q × IsOfGeneration g q x.generation)) (ap (λ n. entry_of n m.cluster.entries) k_is ∙ found) (inv.replicas j q x there) in
-                subst (λ o. IsSomeAnd o (λ (g : Entry). IsCompleteOn g q × IsOfGeneration g q x.generation)) (sym (ap (λ n. entry_of n (hold_set k s.call m.cluster).entries) k_is ∙ here_is)) (was.0, record { within = was.1.within; led = was.1.led; placed = was.1.placed })
+                subst (λ o. IsSomeAnd o (λ (g : Entry). IsCompleteOn g q × IsOfGeneration g q x.generation)) (sym (ap (λ n. entry_of n (hold_set k s.call m.cluster).entries) k_is ∙ here_is)) (was.0, record { within = was.1.within; led = was.1.led })
 
         -- fewer steps are left
         left_then : setting_left u.call (entry_of k (swept (hold_set k s.call m.cluster)).entries) ≡ 1
@@ -417,12 +426,16 @@ module _ (m : Machine) (shapes : ℕ → Shape) (inv : InvariantIn shapes m) (s 
       led_spread = record {
         nodes = spread.nodes;
         some = spread.some;
-        active = subst (λ b. IsActiveBy b e.complete (Some local)) (sym collocated) complete_here;
+        up = spread.up;
+        active = subst (λ b. IsActiveBy b (is_all e.attributes) e.complete (Some local)) (sym collocated) complete_here;
         replicas = replicas_then;
         fits = spread.fits;
+        all = spread.all;
         complete = spread.complete;
         lowest = spread.lowest;
-        owned = λ q d owns. let has = spread.owned q d owns in IsOwner-alike m led_machine k (shapes k) d has (put_who-other m.in_hand (who s) _ (who has.state) (owner_other m shapes inv s u held is k (shapes k) d has));
+        first = λ p q d below there owns own. no_slot q d owns;
+        owned = λ q d owns. no_slot q d owns;
+        live = spread.live;
         led = λ marks stand. refl;
         marked = λ marks stand. let has = spread.marked marks stand in IsMarker-alike m led_machine k marks has (put_who-other m.in_hand (who s) _ (who has.state) (marker_other m shapes inv s u held is k marks has));
         held = λ d none. absurd (cc none);
@@ -464,7 +477,6 @@ module _ (m : Machine) (shapes : ℕ → Shape) (inv : InvariantIn shapes m) (s 
                 record {
                   within = omega (arith, at_most, rises);
                   led = λ led. absurd (let w : true ≡ false = sym (eq-eqb q local (sym (same_Some local q led))) ∙ apart in cc w);
-                  placed = λ apart. absurd (let w : true ≡ false = sym collocated ∙ apart in cc w);
                 },
               )
 
@@ -476,7 +488,7 @@ module _ (m : Machine) (shapes : ℕ → Shape) (inv : InvariantIn shapes m) (s 
 
       led_keeps : InvariantIn shapes led_machine
       led_keeps = entry_keeps m shapes inv s u held is e found made (with_active local) (with_active-identity local) led_entry led_is made refl (ap (λ (x : Entry). x.attributes) led_is) (ap (stays m.cluster.moment) led_is)
-          led_replicas led_elsewhere None led_looks (same_call-None s) led_spread led_generation (λ z none. absurd (cc none))
+          led_replicas led_elsewhere None led_looks (same_call-None s) (λ lives. led_spread) led_generation (λ z none. absurd (cc none))
 
       -- the node may lead
       may_lead : MayLead s.call local e.hold e.active

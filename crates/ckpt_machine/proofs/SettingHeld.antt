@@ -1,7 +1,6 @@
 -- What is so of the setting of an active that is in hand: its client is on the node that it keeps, and what it has in its hand the active had when it held the checkpoint.
 use Rattle.std.proofs.Common.{◌≡◌, ◌⊎◌, ℕ, ◌<◌, inl, inr, List, [], ◌∷◌, ◌++◌, Option, Some, None, true, false, refl, sym, ap, subst, ◌∙◌, append_assoc, arith}
 use Rattle.std.specs.Option.{option_map}
-use Rattle.std.proofs.lemmas.List.{append-nil}
 use Rattle.std.proofs.lemmas.Option.{same_Some}
 use Rattle.ckpt_types.specs.declared.answers.Outcome.{Outcome}
 use Rattle.ckpt_types.specs.declared.identities.CallId.{CallId}
@@ -24,19 +23,19 @@ use Rattle.ckpt_machine.specs.ActivesSet.{IsHoldOf, WasActiveWith, HasHeld}
 use Rattle.ckpt_machine.specs.Driving.{Kept}
 use Rattle.ckpt_machine.specs.Guards.{HoldOk, MayLead, IsOnOwn, Row, Allowed}
 use Rattle.ckpt_machine.specs.Invariant.{Invariant}
-use Rattle.ckpt_machine.specs.Machine.{Machine, Effect, Snapshot, CallState, empty_cluster, who}
+use Rattle.ckpt_machine.specs.Machine.{Machine, Effect, Snapshot, CallState, who}
 use Rattle.ckpt_machine.specs.Propagation.{copied}
 use Rattle.ckpt_machine.specs.Runs.{last, IsRun}
 use Rattle.ckpt_machine.specs.Steps.{Told, IsDue, call_begun, changed, pulled_by, kept_behind, step_of, after}
 use Rattle.ckpt_machine.specs.Whose.{same_who}
 use Rattle.ckpt_machine.proofs.BegunOnce.{step_below}
-use Rattle.ckpt_machine.proofs.Copying.{after_pull, after_put}
+use Rattle.ckpt_machine.proofs.Quiet.{quiet}
 use Rattle.ckpt_machine.proofs.Dropped.{held_as}
 use Rattle.ckpt_machine.proofs.HeldIn.{IsHeldIn, held_in}
 use Rattle.ckpt_machine.proofs.Histories.{follows, on_replica-there, run_history}
 use Rattle.ckpt_machine.proofs.OptionLemmas.{IsSomeAnd-from}
 use Rattle.ckpt_machine.proofs.Refusing.{at_node}
-use Rattle.ckpt_machine.proofs.Runs.{last-push, IsRunFrom-front, IsRunFrom-back}
+use Rattle.ckpt_machine.proofs.Runs.{along}
 use Rattle.ckpt_machine.proofs.SameClients.{client_stays}
 use Rattle.ckpt_machine.proofs.Starting.{first_kept, begun_as}
 use Rattle.ckpt_machine.proofs.Sync.{left_is}
@@ -215,23 +214,10 @@ module _ (log : List Label) (run : IsRun log) (all : AllSetting log (last log)) 
             cc w in
             longer log l (last log).cluster n.cluster z.call z.kept z.snapshot no_hold (client_stays (last log) inv s held z was place is end details verb j q reply row) (all z was place is))
       ])
-  after_setting (labels.Word by word said) allowed due z held place is = other_setting (labels.Word by word said) (last log).cluster z held place is refl (λ k r of. of)
-  after_setting (labels.Nodes n) allowed due z held place is = other_setting (labels.Nodes n) (after (last log) (labels.Nodes n)).cluster z held place is refl (λ k r of. of)
-  after_setting (labels.Moved t) allowed due z held place is = other_setting (labels.Moved t) (after (last log) (labels.Moved t)).cluster z held place is refl (λ k r of. of)
-  after_setting (labels.Shown k replicas) allowed due z held place is = other_setting (labels.Shown k replicas) (last log).cluster z held place is refl (λ k r of. of)
-  after_setting (labels.Pulled k reply) allowed due z held place is = after_pull (AllSetting (log ++ labels.Pulled k reply ∷ [])) (last log) k reply due (λ z held place is. other_setting (labels.Pulled k reply) (last log).cluster z held place is refl (λ k r of. of)) (λ x from none z held place is. other_setting (labels.Pulled k reply) (last log).cluster z held place is refl (λ k r of. of)) z held place is
-  after_setting (labels.Put k r reply) allowed due z held place is = after_put (AllSetting (log ++ labels.Put k r reply ∷ [])) (last log) k r reply (λ z held place is. other_setting (labels.Put k r reply) (last log).cluster z held place is refl (λ k r of. of)) (λ copy x copied_is on z held place is. other_setting (labels.Put k r reply) (last log).cluster z held place is refl (λ k r of. of)) z held place is
-  after_setting l allowed due z held place is = absurd due
-
-setting_from : (front more : List Label) → IsRun (front ++ more) → AllSetting front (last front) → AllSetting (front ++ more) (last (front ++ more))
-setting_from front [] run all = subst (λ (log : List Label). AllSetting log (last log)) (sym (append-nil front)) all
-setting_from front (l ∷ more) run all =
-    let before : IsRun front = IsRunFrom-front empty_cluster front (l ∷ more) run in
-    let there = IsRunFrom-back empty_cluster front (l ∷ more) run in
-    let then = after_setting front before all l there.0 there.1 in
-    let again = append_assoc front (l ∷ []) more in
-    subst (λ (log : List Label). AllSetting log (last log)) again (setting_from (front ++ l ∷ []) more (subst IsRun (sym again) run) (subst (AllSetting (front ++ l ∷ [])) (sym (last-push front l)) then))
+  after_setting l allowed due z held place is =
+      let still = quiet (last log) l tt due in
+      other_setting l (after (last log) l).cluster z (ap (λ f. f (who z)) (sym still.in_hand) ∙ held) place is still.clients (λ k r of. of)
 
 -- so in a run
 pub all_setting : (log : List Label) → IsRun log → AllSetting log (last log)
-all_setting log run = setting_from [] log run (λ z held place is. absurd (cc held))
+all_setting log run = along AllSetting (λ front l before allowed due all. after_setting front before all l allowed due) [] log run (λ z held place is. absurd (cc held))

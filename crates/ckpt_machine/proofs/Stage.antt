@@ -9,7 +9,7 @@ use Rattle.cluster_record.specs.declared.entries.Entry.{Entry}
 use Rattle.cluster_record.specs.declared.calls.UpdatePhase.TheVariants.{Staging}
 use Rattle.cluster_record.specs.DueUpdate.{UpdateState, kept_moment}
 use Rattle.cluster_record.specs.Places.{put, put2}
-use Rattle.cluster_record.specs.RecordState.{entry_of, complete_of}
+use Rattle.cluster_record.specs.RecordState.{entry_of, complete_of, is_live}
 use Rattle.cluster_record.specs.StepDone.{StepDone, done_of, has, lacks, last_having}
 use Rattle.node_msgs.specs.declared.steps.Verb.TheVariants as verbs
 use Rattle.node_msgs.specs.declared.steps.StepReply.TheVariants as words
@@ -21,11 +21,13 @@ use Rattle.ckpt_machine.specs.Steps.{driver_of, staged_moment, with_slot, left_i
 use Rattle.ckpt_machine.specs.Complete.{complete_replicas, replicas_from}
 use Rattle.ckpt_machine.specs.Guards.{OnEach, IfSlot, StageOk, StageRow}
 use Rattle.ckpt_machine.specs.Shape.{Shape, IsCompleteOn, IsShaped, is_owner, IsOwner, IsSpread, slot_by, sections_by, effects_by}
-use Rattle.ckpt_machine.specs.InHand.{is_enter, IsUpdateIn, IsInPlace, IsInHand, OwnsIn}
+use Rattle.ckpt_machine.specs.InHand.{is_enter, IsUpdateIn, IsDoneIn, IsInPlace, IsInHand, OwnsIn}
+use Rattle.ckpt_machine.specs.Owned.{HasUpdate}
 use Rattle.ckpt_machine.specs.Invariant.{InvariantIn, Invariant}
 use Rattle.ckpt_machine.proofs.NodeLists.{OnEach-from, index-set, index-other, length-slice_set, index-within, not-lacked, has-itself}
 use Rattle.ckpt_machine.proofs.OnComplete.{put_complete}
-use Rattle.ckpt_machine.proofs.ReplicaSteps.{IsMarker-other, one_changed, step_keeps}
+use Rattle.ckpt_machine.proofs.Lives.{LivesOn, owner_in}
+use Rattle.ckpt_machine.proofs.ReplicaSteps.{KeepsOthers, IsMarker-other, one_changed, step_keeps}
 use Rattle.ckpt_machine.proofs.Owning.{never_held, is_owner-true, owner_alone, at, made, on_all, all_is}
 use Rattle.ckpt_machine.proofs.OnAll.{shaped_replicas, by_shape}
 use Rattle.ckpt_machine.specs.Whose.{put_who}
@@ -69,7 +71,7 @@ module _ (m : Machine) (shapes : ℕ → Shape) (inv : InvariantIn shapes m) (s 
     (e : Entry) (found : entry_of u.ckpt m.cluster.entries ≡ Some e) (z : Shape) (t : ℤ) (spread : IsSpread m u.ckpt z e) (stages : Stages z s t e) (mom : staged_moment m u.ckpt ≡ t) where
   -- each slot is of this very update
   pub own_alone : (q : ℕ) (d : CallId) → z.owners q ≡ Some d → d ≡ s.call
-  own_alone q d owns = owner_alone m u.ckpt z s stages.origin d (spread.owned q d owns)
+  own_alone q d owns = owner_alone m u.ckpt z s stages.origin d (owner_in m u.ckpt z d (spread.owned q d owns) (spread.live q d owns))
 
   slots_own : (q : ℕ) (o : Option CallId) → z.owners q ≡ o → IfSlot (slot_by z o) (λ slot. slot ≡ record { owner = s.call; origin = s.call; update = update_of s.op; moment = staged_moment m u.ckpt })
   slots_own q None owns = tt
@@ -113,14 +115,20 @@ module _ (m : Machine) (shapes : ℕ → Shape) (inv : InvariantIn shapes m) (s 
     abbrev then_machine : Machine
     then_machine = record m { replicas = put2 m.replicas u.ckpt r (Some with_stage); in_hand = put_who m.in_hand (who s) (Some then_state) }
 
-    module _ (complete : IsCompleteOn e r) (moment_is : kept_moment (last_having 0 e.complete u.owned) m.cluster.moment u.moment ≡ t) (owns : OwnsIn z s u e) (before : (q : ℕ) → q < r → lacks (slice_index e.complete q) (slice_index u.owned q) ≡ false) (free : z.owners r ≡ None)
-        (keeps : (z.marks ≡ (shapes u.ckpt).marks) × ((call : CallId) (q : ℕ) → call ≢ s.call → is_owner call (z.owners q) ≡ is_owner call ((shapes u.ckpt).owners q))) where
+    module _ (complete : IsCompleteOn e r) (moment_is : kept_moment (last_having 0 e.complete u.owned) m.cluster.moment u.moment ≡ t) (owns : OwnsIn z s u e) (before : (q : ℕ) → q < r → lacks (slice_index e.complete q) (slice_index u.owned q) ≡ false) (free : z.owners r ≡ None) (keeps : KeepsOthers m shapes inv s u held is z) where
       driver_then : driver_of then_state ≡ drivers.Update then_driver
       unfolding stage_done
       driver_then =
           ap (driver_taken stage_done) is
           ∙ ap (λ o. drivers.Update (record { call = u.call; ckpt = u.ckpt; owned = slice_set u.owned r (slice_index (complete_of o) r); moment = kept_moment (last_having 0 (complete_of o) u.owned) m.cluster.moment u.moment; phase = Staging })) found
           ∙ ap (λ w. drivers.Update (record { call = u.call; ckpt = u.ckpt; owned = slice_set u.owned r (slice_index e.complete r); moment = w; phase = Staging })) moment_is
+
+      -- an owner after it is the call
+      owners_then : (q : ℕ) (d : CallId) → staged.owners q ≡ Some d → ((q ≡ r) ⊎ (z.owners q ≡ Some d)) × (d ≡ s.call)
+      owners_then q d has_it = elim (q == r) as (λ b. (q == r) ≡ b → cond b (Some s.call) (z.owners q) ≡ Some d → ((q ≡ r) ⊎ (z.owners q ≡ Some d)) × (d ≡ s.call)) [
+        | true ↦ λ same here. (inl (eqb-true q r same), sym (same_Some s.call d here))
+        | false ↦ λ same was. (inr was, own_alone q d was)
+      ] refl has_it
 
       owner_then : IsOwner then_machine u.ckpt staged s.call
       owner_then = record {
@@ -130,15 +138,8 @@ module _ (m : Machine) (shapes : ℕ → Shape) (inv : InvariantIn shapes m) (s 
         driver = then_driver;
         driver_is = driver_then;
         ckpt = refl;
-        phase = record { origin = stages.origin; update = stages.update; moment = stages.moment; undone = stages.undone };
+        phase = record { origin = stages.origin; update = stages.update; moment = stages.moment; undone = stages.undone; alone = λ q d has_it. (owners_then q d has_it).1 };
       }
-
-      -- an owner after it is the call
-      owners_then : (q : ℕ) (d : CallId) → staged.owners q ≡ Some d → ((q ≡ r) ⊎ (z.owners q ≡ Some d)) × (d ≡ s.call)
-      owners_then q d has_it = elim (q == r) as (λ b. (q == r) ≡ b → cond b (Some s.call) (z.owners q) ≡ Some d → ((q ≡ r) ⊎ (z.owners q ≡ Some d)) × (d ≡ s.call)) [
-        | true ↦ λ same here. (inl (eqb-true q r same), sym (same_Some s.call d here))
-        | false ↦ λ same was. (inr was, own_alone q d was)
-      ] refl has_it
 
       -- a complete node before the new slot has one
       lower : (q : ℕ) → q < r → IsCompleteOn e q → z.owners q ≡ Some s.call
@@ -152,6 +153,13 @@ module _ (m : Machine) (shapes : ℕ → Shape) (inv : InvariantIn shapes m) (s 
         | inl here ↦ some_then q (subst (λ o. IsSome o) (sym (lower q (let at : p ≡ r = here in omega (arith, below, at)) there)) refl)
         | inr was ↦ some_then q (spread.lowest q p d below there was)
       ]
+
+      first_then : (q p : ℕ) (d : CallId) → q < p → IsCompleteOn e q → staged.owners p ≡ Some d → staged.owners q ≡ Some d
+      first_then q p d below there has_it = by_owner (staged.owners q) refl (lowest_then q p d below there has_it)
+        where
+          by_owner : (o : Option CallId) → staged.owners q ≡ o → IsSome o → staged.owners q ≡ Some d
+          by_owner None none some = absurd (cc some)
+          by_owner (Some c) owns some = owns ∙ ap Some ((owners_then q c owns).1 ∙ sym (owners_then p d has_it).1)
 
       replicas_then : (q : ℕ) → IsCompleteOn e q → IsSomeAnd (then_machine.replicas u.ckpt q) (IsShaped staged (staged.owners q))
       replicas_then q there =
@@ -174,12 +182,16 @@ module _ (m : Machine) (shapes : ℕ → Shape) (inv : InvariantIn shapes m) (s 
       spread_then = record {
         nodes = spread.nodes;
         some = spread.some;
+        up = spread.up;
         active = spread.active;
         replicas = λ q there. by_shape e (all_is m shapes inv s u held is e found) staged q (then_machine.replicas u.ckpt q) (replicas_then q there);
         fits = λ q d has_it. (λ i. outcome e.attributes (stages.update i) (stages.moment i) z.sections) ∙ stages.gives;
+        all = λ q d has_it. all_is m shapes inv s u held is e found;
         complete = λ q d has_it. elim (owners_then q d has_it).0 [ inl here ↦ subst (IsCompleteOn e) (sym here) complete | inr was ↦ spread.complete q d was ];
         lowest = lowest_then;
-        owned = λ q d has_it. subst (IsOwner then_machine u.ckpt staged) (sym (owners_then q d has_it).1) owner_then;
+        first = λ q p d below there has_it own. first_then q p d below there has_it;
+        owned = λ q d has_it. inl (subst (IsOwner then_machine u.ckpt staged) (sym (owners_then q d has_it).1) owner_then);
+        live = λ q d has_it. ap (is_live m.cluster) (owners_then q d has_it).1 ∙ (inv.hands (who s) s held).live (ap is_enter is);
         led = spread.led;
         marked = λ marks is_some. IsMarker-other m shapes inv s u held is then_machine.replicas (Some then_state) u.ckpt marks (spread.marked marks is_some);
         held = λ d is_some. absurd (never_held m shapes inv s u held is e found d is_some);
@@ -197,8 +209,8 @@ module _ (m : Machine) (shapes : ℕ → Shape) (inv : InvariantIn shapes m) (s 
 
       keeps_then : (call : CallId) (q : ℕ) → call ≢ s.call → is_owner call (staged.owners q) ≡ is_owner call ((shapes u.ckpt).owners q)
       keeps_then call q other = elim (q == r) as (λ b. (q == r) ≡ b → is_owner call (cond b (Some s.call) (z.owners q)) ≡ is_owner call ((shapes u.ckpt).owners q)) [
-        | true ↦ λ same. not_own call other ∙ sym (ap (λ (p : ℕ). is_owner call (z.owners p)) (eqb-true q r same) ∙ ap (is_owner call) free) ∙ keeps.1 call q other
-        | false ↦ λ same. keeps.1 call q other
+        | true ↦ λ same. not_own call other ∙ sym (ap (λ (p : ℕ). is_owner call (z.owners p)) (eqb-true q r same) ∙ ap (is_owner call) free) ∙ keeps.owners call q other
+        | false ↦ λ same. keeps.owners call q other
       ] refl
         where
           not_own : (call : CallId) → call ≢ s.call → is_owner call (Some s.call) ≡ false
@@ -208,18 +220,28 @@ module _ (m : Machine) (shapes : ℕ → Shape) (inv : InvariantIn shapes m) (s 
               by_test false no_it = no_it
               by_test true owns = absurd (let w = is_owner-true call (Some s.call) owns in other (sym (same_Some s.call call w)))
 
+      -- what another call has done is under the new slot too
+      done_then : (y : CallState) → y.call ≢ s.call → IsDoneIn (shapes u.ckpt) y → IsDoneIn staged y
+      done_then y other done = let was = keeps.done y other done in record {
+        free = was.free;
+        under = λ q d has_it apart. elim (owners_then q d has_it).0 [
+          | inl here ↦ subst (HasUpdate y.call (update_of y.op)) (effects-undone z None stages.undone) was.free
+          | inr before ↦ was.under q d before apart
+        ];
+      }
+
       -- the invariant holds after it
       pub stage_keeps : Invariant then_machine
       stage_keeps =
           let was = at m shapes inv s u held is in
           record {
             shapes = put shapes u.ckpt staged;
-            holds = step_keeps m shapes inv s u held is (put2 m.replicas u.ckpt r (Some with_stage)) (Some then_state) staged (one_changed m shapes inv s u held is with_stage r) (keeps.0, keeps_then) (same_call-Some s then_state refl refl) spread_all own_then (made m shapes inv s u held is)
+            holds = step_keeps m shapes inv s u held is (put2 m.replicas u.ckpt r (Some with_stage)) (Some then_state) staged (one_changed m shapes inv s u held is with_stage r) (record { marks = keeps.marks; owners = keeps_then; done = done_then }) (same_call-Some s then_state refl refl) spread_all own_then (made m shapes inv s u held is)
                 (put_complete m.cluster m.replicas u.ckpt r with_stage (inv.replicas u.ckpt r x there) inv.replicas);
           }
         where
-          spread_all : (f : Entry) → entry_of u.ckpt m.cluster.entries ≡ Some f → f.making ≡ None → IsSpread then_machine u.ckpt staged f
-          spread_all f there none = subst (IsSpread then_machine u.ckpt staged) (same_Some e f (sym found ∙ there)) spread_then
+          spread_all : LivesOn m then_machine → (f : Entry) → entry_of u.ckpt m.cluster.entries ≡ Some f → f.making ≡ None → IsSpread then_machine u.ckpt staged f
+          spread_all lives f there none = subst (IsSpread then_machine u.ckpt staged) (same_Some e f (sym found ∙ there)) spread_then
 
           here_then : IsUpdateIn then_machine (put shapes u.ckpt staged) then_state then_driver
           here_then = let was = at m shapes inv s u held is in record {
@@ -232,6 +254,7 @@ module _ (m : Machine) (shapes : ℕ → Shape) (inv : InvariantIn shapes m) (s 
             all = was.all;
             nodes = length-slice_set u.owned r (slice_index e.complete r) ∙ was.nodes;
             owns = λ f there. subst (λ w. OwnsIn w s then_driver f) (sym (ap (λ b. cond b staged (shapes u.ckpt)) (eq-eqb u.ckpt u.ckpt refl))) (subst (OwnsIn staged s then_driver) (same_Some e f (sym found ∙ there)) owns_then);
+            keeps = λ f there. tt;
             some = λ f there. tt;
           }
 
@@ -243,6 +266,7 @@ module _ (m : Machine) (shapes : ℕ → Shape) (inv : InvariantIn shapes m) (s 
             built = hand.built;
             driven = hand.driven;
             live = λ others. hand.live (ap is_enter is);
+            home = λ others. hand.home (ap is_enter is);
             here = subst (IsInPlace then_machine (put shapes u.ckpt staged) then_state) (sym driver_then) here_then;
           })
 

@@ -13,7 +13,7 @@ use Rattle.ckpt_machine.specs.Steps.{driver_of, staged_moment, moment_from, mome
 use Rattle.ckpt_machine.specs.Shape.{Shape, IsCompleteOn, IsShaped, IsSpread, IsStaging, PhaseFits, slot_by}
 use Rattle.ckpt_machine.specs.Invariant.{InvariantIn}
 use Rattle.ckpt_machine.proofs.NodeLists.{trichotomy, last_having-None, moment-none, moment-some, not-lacked, had-there}
-use Rattle.ckpt_machine.proofs.Owning.{at, spread, own_phase, owns_had, all_is}
+use Rattle.ckpt_machine.proofs.Owning.{owner_of, at, spread, own_phase, owns_had, all_is}
 use Rattle.ckpt_machine.proofs.OnAll.{shaped_replicas}
 use Rattle.ckpt_machine.proofs.Stage.{IfSome-more}
 
@@ -60,7 +60,7 @@ module _ (m : Machine) (shapes : ℕ → Shape) (inv : InvariantIn shapes m) (s 
     owner_p = owns_had m shapes inv s u held is e found p (had-there (slice_index e.complete p) (slice_index u.owned p) had) had
 
     fits_p : IsStaging (shapes u.ckpt) s u
-    fits_p = subst (PhaseFits (shapes u.ckpt) s u) staging (own_phase m shapes inv s u held is (shapes u.ckpt) (was.owned p s.call owner_p))
+    fits_p = subst (PhaseFits m (shapes u.ckpt) s u) staging (own_phase m shapes inv s u held is (shapes u.ckpt) (owner_of m shapes inv s u held is e found p s.call owner_p))
 
     pub moment_later : staged_moment m u.ckpt ≡ u.moment
     moment_later =

@@ -14,7 +14,8 @@ pub invariant_empty : Invariant empty_cluster
 invariant_empty = record {
   shapes = λ k. no_shape;
   holds = record {
-    up = (0, refl);
+    up = refl;
+    first_up = λ never. refl;
     none_live = λ none. refl;
     rises = tt;
     up_to = tt;

@@ -148,6 +148,7 @@ module _ (m : Machine) (shapes : ℕ → Shape) (inv : InvariantIn shapes m) (s 
             built = hand.built;
             driven = hand.driven;
             live = λ others. hand.live (ap is_enter is);
+            home = λ others. hand.home (ap is_enter is);
             here = subst (IsInPlace then_machine shapes then_state) (sym (ap (driver_taken d) is ∙ takes)) (subst (IsSyncBy then_machine then_state then_driver) (sym sync.1) at);
           }
 

@@ -3,7 +3,6 @@ use Rattle.std.proofs.Common.{◌≡◌, ℕ, ◌+◌, ◌≤◌, inl, inr, List
 use Rattle.std.specs.List.{list_any}
 use Rattle.std.specs.Option.{option_map}
 use Rattle.std.specs.Prelude.{IsSome, IsSomeAnd}
-use Rattle.std.proofs.lemmas.List.{append-nil}
 use Rattle.std.proofs.lemmas.Option.{same_Some}
 use Rattle.ckpt_machine.proofs.Dropped.{held_as}
 use Rattle.ckpt_types.specs.declared.answers.Answer.{Answer}
@@ -45,7 +44,7 @@ use Rattle.ckpt_machine.proofs.BegunOnce.{step_begun}
 use Rattle.ckpt_machine.specs.BeginRows.{BeginRow}
 use Rattle.ckpt_machine.specs.Beginning.{Standing}
 use Rattle.ckpt_machine.proofs.Bringing.{HasPulledIn, HasFirst, IsBringing, stays_bringing, step_brings}
-use Rattle.ckpt_machine.proofs.Copying.{after_pull, after_put}
+use Rattle.ckpt_machine.proofs.Quiet.{quiet}
 use Rattle.ckpt_machine.proofs.EachReplica.{run_copies}
 use Rattle.ckpt_machine.proofs.Follows.{IsBare}
 use Rattle.ckpt_machine.proofs.Generations.{generation_there}
@@ -53,7 +52,7 @@ use Rattle.ckpt_machine.proofs.Growing.{GoesOn, after_goes, stepped_goes}
 use Rattle.ckpt_machine.proofs.Histories.{follows, on_replica-there, run_history}
 use Rattle.ckpt_machine.proofs.OptionLemmas.{IsSomeAnd-at}
 use Rattle.ckpt_machine.proofs.Refusing.{row_at_ckpt, at_node, at_none, at_node_alone}
-use Rattle.ckpt_machine.proofs.Runs.{last-push, run_before, run_front, run_more, IsRunFrom-front, IsRunFrom-back}
+use Rattle.ckpt_machine.proofs.Runs.{last-push, along, run_before, run_front, run_more}
 use Rattle.ckpt_machine.proofs.Starting.{first_kept, begun_as}
 use Rattle.ckpt_machine.proofs.Sync.{left_is}
 use Rattle.ckpt_types.specs.OpWord.{stepped_as, word_of_op}
@@ -116,25 +115,10 @@ module _ (log : List Label) (run : IsRun log) (all : AllBring log (last log)) wh
             let was : m.in_hand a ≡ Some z = (follows m inv history s held t row).in_hand a z other.1 in
             stays_bringing log l inv history (run_copies log run) z a was (all a z was asks_is) n.cluster.entries n.replicas goes)
       ])
-  after_brings (labels.Word by line said) allowed due a s held asks_is = other_brings (labels.Word by line said) allowed a s held asks_is
-  after_brings (labels.Nodes n) allowed due a s held asks_is = other_brings (labels.Nodes n) allowed a s held asks_is
-  after_brings (labels.Moved t) allowed due a s held asks_is = other_brings (labels.Moved t) allowed a s held asks_is
-  after_brings (labels.Shown k replicas) allowed due a s held asks_is = other_brings (labels.Shown k replicas) allowed a s held asks_is
-  after_brings (labels.Pulled k reply) allowed due a s held asks_is = other_brings (labels.Pulled k reply) allowed a s (after_pull (λ (n : Machine). n.in_hand a ≡ Some s → m.in_hand a ≡ Some s) m k reply due (λ held. held) (λ x from none held. held) held) asks_is
-  after_brings (labels.Put k r reply) allowed due a s held asks_is = other_brings (labels.Put k r reply) allowed a s (after_put (λ (n : Machine). n.in_hand a ≡ Some s → m.in_hand a ≡ Some s) m k r reply (λ held. held) (λ z x is on held. held) held) asks_is
-  after_brings l allowed due a s held asks_is = absurd due
-
-bring_from : (front more : List Label) → IsRun (front ++ more) → AllBring front (last front) → AllBring (front ++ more) (last (front ++ more))
-bring_from front [] run all = subst (λ (log : List Label). AllBring log (last log)) (sym (append-nil front)) all
-bring_from front (l ∷ more) run all =
-    let before : IsRun front = IsRunFrom-front empty_cluster front (l ∷ more) run in
-    let there = IsRunFrom-back empty_cluster front (l ∷ more) run in
-    let then = after_brings front before all l there.0 there.1 in
-    let longer = append_assoc front (l ∷ []) more in
-    subst (λ (log : List Label). AllBring log (last log)) longer (bring_from (front ++ l ∷ []) more (subst IsRun (sym longer) run) (subst (AllBring (front ++ l ∷ [])) (sym (last-push front l)) then))
+  after_brings l allowed due a s held asks_is = other_brings l allowed a s (ap (λ f. f a) (sym (quiet m l tt due).in_hand) ∙ held) asks_is
 
 all_bring : (log : List Label) → IsRun log → AllBring log (last log)
-all_bring log run = bring_from [] log run (λ a s held asks_is. absurd (cc held))
+all_bring log run = along AllBring (λ front l before allowed due all. after_brings front before all l allowed due) [] log run (λ a s held asks_is. absurd (cc held))
 
 -- ---- the label that answers OK
 

@@ -39,10 +39,10 @@ module _ (m : Machine) (shapes : ℕ → Shape) (inv : InvariantIn shapes m) (s 
   left_hands = put_who m.in_hand (who s) None
 
   -- the entries that are left
-  undone_later : ComesOf IsLaterEntry m.cluster.entries R.entries
-  undone_later = ComesOf-then IsLaterEntry IsLaterEntry IsLaterEntry IsLaterEntry-then m.cluster.entries (filter others m.cluster.entries) R.entries
-      (ComesOf-filter IsLaterEntry IsLaterEntry-refl others m.cluster.entries inv.rises)
-      (ComesOf-filter IsLaterEntry IsLaterEntry-refl (stays m.cluster.moment) (filter others m.cluster.entries) (IdentitiesRise-filter others m.cluster.entries inv.rises))
+  undone_later : ComesOf (IsLaterEntry m.cluster.up) m.cluster.entries R.entries
+  undone_later = ComesOf-then (IsLaterEntry m.cluster.up) (IsLaterEntry m.cluster.up) (IsLaterEntry m.cluster.up) (IsLaterEntry-then m.cluster.up) m.cluster.entries (filter others m.cluster.entries) R.entries
+      (ComesOf-filter (IsLaterEntry m.cluster.up) (IsLaterEntry-refl m.cluster.up) others m.cluster.entries inv.rises)
+      (ComesOf-filter (IsLaterEntry m.cluster.up) (IsLaterEntry-refl m.cluster.up) (stays m.cluster.moment) (filter others m.cluster.entries) (IdentitiesRise-filter others m.cluster.entries inv.rises))
 
   -- its own is gone
   own_gone : entry_of making.ckpt (filter others m.cluster.entries) ≡ None
@@ -74,7 +74,7 @@ module _ (m : Machine) (shapes : ℕ → Shape) (inv : InvariantIn shapes m) (s 
               by_entry : (x : Option Entry) → entry_of j R.entries ≡ x → entry_of j R.entries ≡ None
               by_entry None gone = gone
               by_entry (Some f) found =
-                  let (e, was, later) = ComesOf-filter IsLaterEntry IsLaterEntry-refl (stays m.cluster.moment) (filter others m.cluster.entries) (IdentitiesRise-filter others m.cluster.entries inv.rises) j f found in
+                  let (e, was, later) = ComesOf-filter (IsLaterEntry m.cluster.up) (IsLaterEntry-refl m.cluster.up) (stays m.cluster.moment) (filter others m.cluster.entries) (IdentitiesRise-filter others m.cluster.entries inv.rises) j f found in
                   absurd (let w : None ≡ Some e = sym none ∙ was in cc w)
 
   -- another's, where it is left
@@ -88,6 +88,7 @@ module _ (m : Machine) (shapes : ℕ → Shape) (inv : InvariantIn shapes m) (s 
   later : IsLaterRecord m R left_hands
   later = record {
     up = refl;
+    incarnations = refl;
     last = refl;
     rises = IdentitiesRise-filter (stays m.cluster.moment) (filter others m.cluster.entries) (IdentitiesRise-filter others m.cluster.entries inv.rises);
     up_to = AllUpTo-filter (stays m.cluster.moment) m.cluster.last_identity (filter others m.cluster.entries) (AllUpTo-filter others m.cluster.last_identity m.cluster.entries inv.up_to);
@@ -96,6 +97,7 @@ module _ (m : Machine) (shapes : ℕ → Shape) (inv : InvariantIn shapes m) (s 
     none_live = inv.none_live;
     clients = inv.clients;
     was_held = λ a z left. left_other a z left (λ other at. at);
+    dead = λ d dead. dead.gone;
     live = λ a z left live. live;
     lives = λ a z left. refl;
     makes = λ a z j e left found by. left_other a z left (λ other at. makes_still z (apart_from m.in_hand m.pending m.next inv.calls s held a z at other) j e found by);

@@ -25,7 +25,7 @@ use Rattle.node_msgs.specs.declared.steps.Verb.TheVariants as verbs
 use Rattle.node_msgs.specs.declared.steps.StepReply.TheVariants as words
 use Rattle.node_msgs.specs.declared.details.Details.TheVariants as beside
 use Rattle.ckpt_machine.specs.Drivers as drivers
-use Rattle.ckpt_machine.specs.InHand.{OwnsIn, HasSome}
+use Rattle.ckpt_machine.specs.InHand.{OwnsIn, IsDoneIn, HasSome}
 use Rattle.ckpt_machine.specs.Invariant.{InvariantIn, Invariant}
 use Rattle.ckpt_types.specs.Asks.{Ask, asked, update_asked, update_of}
 use Rattle.ckpt_types.specs.Asks as asks
@@ -40,7 +40,8 @@ use Rattle.ckpt_machine.specs.Left.{update_left, steps_left}
 use Rattle.ckpt_machine.proofs.StepsLeft.{update_nearer}
 use Rattle.ckpt_machine.specs.Shape.{Shape, IsCompleteOn, IsShaped, is_owner, IsOwner, IsSpread, IsStaging, IsCommitting, PhaseFits, slot_by, sections_by, effects_by}
 use Rattle.ckpt_machine.proofs.NodeLists.{first_lacking-is, first_lacking-None, last_having-is, last_having-None, first_complete-some, not-lacked, lacked-has, had-there}
-use Rattle.ckpt_machine.proofs.Owning.{never_held, is_owner-here, owner_alone, owner_live, at, spread, own_phase, owns_had, replica_at, seen_is, on_all, ended_keeps, all_is}
+use Rattle.ckpt_machine.proofs.ReplicaSteps.{KeepsOthers}
+use Rattle.ckpt_machine.proofs.Owning.{never_held, is_owner-here, owner_alone, at, spread, owner_of, own_phase, owns_had, replica_at, seen_is, on_all, ended_keeps, all_is}
 use Rattle.ckpt_machine.proofs.OnAll.{shaped_replicas, by_shape}
 use Rattle.ckpt_machine.proofs.StagedMoment.{none_owned, moment_first, moment_later}
 use Rattle.ckpt_machine.proofs.Stage.{Stages, IfSome-more, on_complete, sections-undone, stage_row, stage_leads}
@@ -127,7 +128,7 @@ module _ (m : Machine) (shapes : ℕ → Shape) (inv : InvariantIn shapes m) (s 
         held_moves : last ≡ None → (d : CallId) → (shapes u.ckpt).owners r ≡ Some d → x.slot ≡ slot_by (shapes u.ckpt) (Some d) → Goes m s (drivers.Update u) t
         held_moves none d owns slot =
             let another : same_call d s.call ≡ false = sym (ap (is_owner s.call) owns) ∙ lacks_it in
-            let live : is_live m.cluster d ≡ true = owner_live m shapes u.ckpt (shapes u.ckpt) d inv (was.owned r d owns) in
+            let live : is_live m.cluster d ≡ true = was.live r d owns in
             let told = IsServed-told m s r to_stage t (drivers.Update u) (replies.Held d) served is (answered _ slot) in
             subst (Goes m s (drivers.Update u)) (sym (told ∙ (λ i. record { verb = verbs.Stage; ckpt = Some u.ckpt; node = Some r; reply = words.Held d; end = cond (live i) (Some (Refused TryAgain (Holder d))) None; details = ended_details (cond (live i) (Some (Refused TryAgain (Holder d))) None) (no_details i) }))) (record {
               row = (
@@ -157,7 +158,7 @@ module _ (m : Machine) (shapes : ℕ → Shape) (inv : InvariantIn shapes m) (s 
 
         -- staged
         staged_moves : (w : Shape) (spread_w : IsSpread m u.ckpt w e) (stages : Stages w s moment e) (mom : staged_moment m u.ckpt ≡ moment) (shaped : IsShaped w None x) → OwnsIn w s u e → w.owners r ≡ None
-            → ((w.marks ≡ (shapes u.ckpt).marks) × ((call : CallId) (q : ℕ) → call ≢ s.call → is_owner call (w.owners q) ≡ is_owner call ((shapes u.ckpt).owners q))) → x.slot ≡ None → Gives (Ok w.outcome) → Goes m s (drivers.Update u) t
+            → KeepsOthers m shapes inv s u held is w → x.slot ≡ None → Gives (Ok w.outcome) → Goes m s (drivers.Update u) t
         staged_moves w spread_w stages mom shaped owns free keeps slot gives =
             let told = IsServed-told m s r to_stage t (drivers.Update u) (replies.Done answers.Nothing) served is (answered None slot ∙ ap (done_or_refused (replies.Done answers.Nothing)) gives) in
             subst (Goes m s (drivers.Update u)) (sym told) (record {
@@ -230,12 +231,16 @@ module _ (m : Machine) (shapes : ℕ → Shape) (inv : InvariantIn shapes m) (s 
           adopted_spread sections = record {
             nodes = was.nodes;
             some = was.some;
+            up = was.up;
             active = was.active;
             replicas = λ q there. by_shape e (all_is m shapes inv s u held is e found) (adopted sections) q (m.replicas u.ckpt q) (IsSomeAnd-each (m.replicas u.ckpt q) q (shaped_replicas m u.ckpt (shapes u.ckpt) e was (all_is m shapes inv s u held is e found) q there));
             fits = λ q d owns. absurd (nobody q d owns);
+            all = was.all;
             complete = was.complete;
             lowest = was.lowest;
+            first = λ p q d below there owns own. absurd (nobody q d owns);
             owned = λ q d owns. absurd (nobody q d owns);
+            live = was.live;
             led = was.led;
             marked = was.marked;
             held = λ d is_some. absurd (never_held m shapes inv s u held is e found d is_some);
@@ -245,6 +250,11 @@ module _ (m : Machine) (shapes : ℕ → Shape) (inv : InvariantIn shapes m) (s 
               IsSomeAnd-each None q is = is
               IsSomeAnd-each (Some y) q is = adopted_at sections q y is
 
+          -- under it another call has done what it had
+          adopted_done : (sections : List Section) (y : CallState) → IsDoneIn (shapes u.ckpt) y → IsDoneIn (adopted sections) y
+          unfolding adopted
+          adopted_done sections y done = record { free = done.free; under = λ q d owns apart. absurd (nobody q d owns) }
+
           moment_none : staged_moment m u.ckpt ≡ moment
           moment_none = moment_first m shapes inv s u held is e found r complete before none free ∙ ap (λ l. kept_moment l m.cluster.moment u.moment) (sym none)
 
@@ -253,7 +263,7 @@ module _ (m : Machine) (shapes : ℕ → Shape) (inv : InvariantIn shapes m) (s 
           first_moves (Err why) gives = refused_moves why none shaped.slot gives
           first_moves (Ok sections) gives = staged_moves (adopted sections) (adopted_spread sections)
               (record { origin = refl; update = refl; moment = refl; undone = refl; gives = ap (outcome e.attributes (update_of s.op) moment) (sym shaped.sections) ∙ gives })
-              moment_none (adopted_shaped sections x shaped) owns_at free (refl, λ call q other. refl) shaped.slot gives
+              moment_none (adopted_shaped sections x shaped) owns_at free (record { marks = refl; owners = λ call q other. refl; done = λ y other done. adopted_done sections y done }) shaped.slot gives
 
         -- ---- it has staged before
 
@@ -262,7 +272,7 @@ module _ (m : Machine) (shapes : ℕ → Shape) (inv : InvariantIn shapes m) (s 
           owner_p = owns_had m shapes inv s u held is e found p (had-there (slice_index e.complete p) (slice_index u.owned p) had) had
 
           fits_p : IsStaging (shapes u.ckpt) s u
-          fits_p = subst (PhaseFits (shapes u.ckpt) s u) staging (own_phase m shapes inv s u held is (shapes u.ckpt) (was.owned p s.call owner_p))
+          fits_p = subst (PhaseFits m (shapes u.ckpt) s u) staging (own_phase m shapes inv s u held is (shapes u.ckpt) (owner_of m shapes inv s u held is e found p s.call owner_p))
 
           kept : moment ≡ u.moment
           kept = ap (λ l. kept_moment l m.cluster.moment u.moment) some
@@ -280,13 +290,13 @@ module _ (m : Machine) (shapes : ℕ → Shape) (inv : InvariantIn shapes m) (s 
           moment_some = moment_later m shapes inv s u held is e found staging p had ∙ sym kept
 
           later_moves : (shapes u.ckpt).owners r ≡ None → IsShaped (shapes u.ckpt) None x → Goes m s (drivers.Update u) t
-          later_moves free shaped = staged_moves (shapes u.ckpt) was stages_p moment_some shaped owns_at free (refl, λ call q other. refl) shaped.slot
+          later_moves free shaped = staged_moves (shapes u.ckpt) was stages_p moment_some shaped owns_at free (record { marks = refl; owners = λ call q other. refl; done = λ y other done. done }) shaped.slot
               (ap (outcome e.attributes (update_of s.op) moment) (shaped.sections ∙ sections-undone (shapes u.ckpt) None fits_p.undone) ∙ stages_p.gives)
 
           -- no other call has a slot then
           not_held : (d : CallId) → (shapes u.ckpt).owners r ≡ Some d → ⊥
           not_held d owns =
-              let same : d ≡ s.call = owner_alone m u.ckpt (shapes u.ckpt) s fits_p.origin d (was.owned r d owns) in
+              let same : d ≡ s.call = owner_alone m u.ckpt (shapes u.ckpt) s fits_p.origin d (owner_of m shapes inv s u held is e found r d owns) in
               (let w : true ≡ false = sym (is_owner-here s.call ((shapes u.ckpt).owners r) (owns ∙ ap Some same)) ∙ lacks_it in cc w)
 
         -- by who owns the slot there, and by what the call has
@@ -353,7 +363,7 @@ module _ (m : Machine) (shapes : ℕ → Shape) (inv : InvariantIn shapes m) (s 
         commit_there r had (λ q above. at_r.others q (let k : r < q = above in omega (arith, k, same))) (commits had) t done
 
     owner_at : (r : ℕ) → has (slice_index e.complete r) (slice_index u.owned r) ≡ true → IsOwner m u.ckpt (shapes u.ckpt) s.call
-    owner_at r had = was.owned r s.call (owns_had m shapes inv s u held is e found r (had-there (slice_index e.complete r) (slice_index u.owned r) had) had)
+    owner_at r had = owner_of m shapes inv s u held is e found r s.call (owns_had m shapes inv s u held is e found r (had-there (slice_index e.complete r) (slice_index u.owned r) had) had)
 
     stage_first : (r : ℕ) → first_lacking 0 e.complete u.owned ≡ Some r → u.phase ≡ Staging → (t : Told) → IsDone m s (Serve r (requests.Stage u.call u.ckpt moment)) t → Goes m s (drivers.Update u) t
     stage_first r some staging t done =
@@ -366,12 +376,12 @@ module _ (m : Machine) (shapes : ℕ → Shape) (inv : InvariantIn shapes m) (s 
 
     by_next : (ph : UpdatePhase) → u.phase ≡ ph → (first last_one : Option ℕ) → first_lacking 0 e.complete u.owned ≡ first → last ≡ last_one → (t : Told) → IsDone m s (by_phase u m.cluster.moment first last_one ph) t → Goes m s (drivers.Update u) t
     by_next Staging staging (Some r) l lacked having t done = stage_first r lacked staging t (subst (λ o. IsDone m s (Serve r (requests.Stage u.call u.ckpt (kept_moment o m.cluster.moment u.moment))) t) (sym having) done)
-    by_next Staging staging None (Some r) lacked having t done = commit_last r having (λ had. let fits : IsStaging (shapes u.ckpt) s u = subst (PhaseFits (shapes u.ckpt) s u) staging (own_phase m shapes inv s u held is (shapes u.ckpt) (owner_at r had)) in
+    by_next Staging staging None (Some r) lacked having t done = commit_last r having (λ had. let fits : IsStaging (shapes u.ckpt) s u = subst (PhaseFits m (shapes u.ckpt) s u) staging (own_phase m shapes inv s u held is (shapes u.ckpt) (owner_at r had)) in
         record { origin = fits.origin; update = fits.update; rest = inr (λ q there. owns_had m shapes inv s u held is e found q there (not-lacked (slice_index e.complete q) (slice_index u.owned q) there (first_lacking-None 0 e.complete u.owned same_length lacked q))) }) t done
     by_next Staging staging None None lacked having t done =
         let (q, there) = first_complete-some 0 e.complete was.some in
         absurd (let w : true ≡ false = sym (not-lacked (slice_index e.complete q) (slice_index u.owned q) there (first_lacking-None 0 e.complete u.owned same_length lacked q)) ∙ last_having-None 0 e.complete u.owned same_length having q in cc w)
-    by_next Committing committing first (Some r) lacked having t done = commit_last r having (λ had. let fits : IsCommitting (shapes u.ckpt) s = subst (PhaseFits (shapes u.ckpt) s u) committing (own_phase m shapes inv s u held is (shapes u.ckpt) (owner_at r had)) in
+    by_next Committing committing first (Some r) lacked having t done = commit_last r having (λ had. let fits : IsCommitting (shapes u.ckpt) s = subst (PhaseFits m (shapes u.ckpt) s u) committing (own_phase m shapes inv s u held is (shapes u.ckpt) (owner_at r had)) in
         record { origin = fits.origin; update = fits.update; rest = inl fits.is_done }) t done
     by_next Committing committing first None lacked having t done =
         let some : HasSome u e Committing = subst (HasSome u e) committing ((at m shapes inv s u held is).some e found) in

@@ -24,7 +24,7 @@ use Rattle.ckpt_machine.specs.Shape.{Shape, IsCompleteOn, IsShaped, IsSpread, Ph
 use Rattle.ckpt_machine.specs.Invariant.{InvariantIn}
 use Rattle.ckpt_machine.proofs.NodeLists.{first_lacking-is, last_having-is, lacked-has, had-there, index-within}
 use Rattle.ckpt_machine.proofs.StagedMoment.{moment_first, moment_later}
-use Rattle.ckpt_machine.proofs.Owning.{at, spread, own_phase, owns_had, replica_at, seen_is}
+use Rattle.ckpt_machine.proofs.Owning.{owner_of, at, spread, own_phase, owns_had, replica_at, seen_is}
 use Rattle.ckpt_machine.proofs.OptionLemmas.{IsSomeAnd-at, IsSomeAnd-from}
 
 -- a due stage has the moment of the slots that stand, where its replica has none
@@ -68,9 +68,9 @@ module _ (m : Machine) (shapes : ℕ → Shape) (inv : InvariantIn shapes m) (s 
 
     -- the slots of the call are of its own update
     own_update : (r : ℕ) → (shapes u.ckpt).owners r ≡ Some s.call → (shapes u.ckpt).update ≡ update_of s.op
-    own_update r owns = by_phases u.phase (own_phase m shapes inv s u held is (shapes u.ckpt) (was.owned r s.call owns))
+    own_update r owns = by_phases u.phase (own_phase m shapes inv s u held is (shapes u.ckpt) (owner_of m shapes inv s u held is e found r s.call owns))
       where
-        by_phases : (ph : UpdatePhase) → PhaseFits (shapes u.ckpt) s u ph → (shapes u.ckpt).update ≡ update_of s.op
+        by_phases : (ph : UpdatePhase) → PhaseFits m (shapes u.ckpt) s u ph → (shapes u.ckpt).update ≡ update_of s.op
         by_phases Staging fits = fits.update
         by_phases Committing fits = fits.update
 

@@ -1,6 +1,6 @@
 -- A weak write: its marks, its elements one after the other, and the end of its marks.
 use Rattle.std.proofs.Common.{◌≡◌, ◌≢◌, ℕ, zero, suc, ◌+◌, ◌-◌, ◌<◌, ◌≤◌, List, ◌∷◌, length, Option, Some, None, Result, Ok, Err, Bool, true, false, cond, not, ◌==◌, refl, sym, ap, subst, ◌∙◌, arith}
-use Rattle.std.specs.Prelude.{is_some, IsOk, IsSomeAnd, IfSome}
+use Rattle.std.specs.Prelude.{IsOk, IsSomeAnd, IfSome}
 use Rattle.std.proofs.lemmas.Bool.{lt-ltb, le-ltb, eqb-true, eq-eqb}
 use Rattle.std.proofs.lemmas.Option.{same_Some}
 use Rattle.ckpt_types.specs.declared.ais_error.AisError.TheVariants.{TryAgain}
@@ -33,7 +33,7 @@ use Rattle.node_core.specs.Serving.{reply_at, reply_unless, details_at}
 use Rattle.ckpt_machine.specs.Drivers as drivers
 use Rattle.ckpt_machine.specs.Driving.{driver_taken}
 use Rattle.ckpt_machine.specs.Guards.{AreMarksOf}
-use Rattle.ckpt_machine.specs.InHand.{is_enter, is_marked_by, MarksFit, IsInPlace, IsActiveIn, IsInHand}
+use Rattle.ckpt_machine.specs.InHand.{are_present, is_enter, is_marked_by, MarksFit, IsInPlace, IsActiveIn, IsInHand}
 use Rattle.ckpt_machine.specs.Invariant.{InvariantIn, Invariant}
 use Rattle.ckpt_machine.specs.Left.{steps_left}
 use Rattle.ckpt_machine.specs.Machine.{Machine, ReplicaState, CallState, who}
@@ -120,6 +120,9 @@ module _ (m : Machine) (shapes : ℕ → Shape) (inv : InvariantIn shapes m) (s 
     few_then None fit = (fit, few)
     few_then (Some v) fit = (fit.0, few)
 
+    present_then : (e : Entry) → entry_of k m.cluster.entries ≡ Some e → w.generation ≡ e.generation
+    present_then e found = generation ∙ ap (λ (e : Entry). e.generation) (same_Some at.entry e (sym at.found ∙ found))
+
     here_then : IsActiveIn then_machine then_shapes (then_state verb) (driving (Some w))
     here_then = record {
       call = its.call;
@@ -131,8 +134,9 @@ module _ (m : Machine) (shapes : ℕ → Shape) (inv : InvariantIn shapes m) (s 
       all = its.all;
       weak = its.weak;
       handle = its.handle;
-      marks = λ e found. ap (λ (sh : Shape). is_marked_by s.call sh.marks) shape_then ∙ ap (λ c. same_call c s.call) own ∙ same_call-refl s.call;
-      generation = λ e found. generation ∙ ap (λ (e : Entry). e.generation) (same_Some at.entry e (sym at.found ∙ found));
+      marks = λ e found. ap (λ (sh : Shape). is_marked_by s.call sh.marks) shape_then ∙ ap (λ c. same_call c s.call) own ∙ same_call-refl s.call ∙ sym (eq-eqb w.generation e.generation (present_then e found));
+      generation = λ e found. let present = present_then e found in omega (arith, present);
+      present = present_then;
     }
 
     goes_on_keeps : Invariant then_machine
@@ -150,6 +154,7 @@ module _ (m : Machine) (shapes : ℕ → Shape) (inv : InvariantIn shapes m) (s 
                 built = hand.built;
                 driven = hand.driven;
                 live = λ others. hand.live (ap is_enter is);
+                home = λ others. hand.home (ap is_enter is);
                 here = subst (IsInPlace then_machine then_shapes (then_state verb)) (sym takes) here_then;
               }));
         }
@@ -163,7 +168,7 @@ module _ (m : Machine) (shapes : ℕ → Shape) (inv : InvariantIn shapes m) (s 
     left : marks.done + w.left ≡ length (elements_in marks.update)
 
   own_marks : (w : MarksMade) → made ≡ Some w → OwnMarks w
-  own_marks w made_is = by_marks (shapes k).marks refl (its.marks at.entry at.found ∙ ap is_some made_is)
+  own_marks w made_is = by_marks (shapes k).marks refl (its.marks at.entry at.found ∙ ap (are_present at.entry) made_is ∙ eq-eqb w.generation at.entry.generation (subst (λ o. IfSome o (λ (v : MarksMade). v.generation ≡ at.entry.generation)) made_is (its.present at.entry at.found)))
     where
       by_marks : (o : Option Marked) → (shapes k).marks ≡ o → is_marked_by s.call o ≡ true → OwnMarks w
       by_marks None none of_it = absurd (cc of_it)
@@ -303,7 +308,7 @@ module _ (m : Machine) (shapes : ℕ → Shape) (inv : InvariantIn shapes m) (s 
       holds_written : Invariant (record m { replicas = put2 m.replicas k at.node (Some (with_next_element (entry_of k m.cluster.entries) at.replica)); in_hand = put_who m.in_hand (who s) (Some (then_state verbs.Element)) })
       holds_written = subst (λ y. Invariant (record m { replicas = put2 m.replicas k at.node (Some y); in_hand = put_who m.in_hand (who s) (Some (then_state verbs.Element)) })) (sym element_is)
           (goes_on_keeps verbs.Element written next_marks next_made at.generation free next_done its_own.own its_own.update (let l = its_own.left in let above = positive w.left left_some in omega (arith, l, above)) (let f = few_left in omega (arith, f))
-          ((subst (λ o. IfSome o (λ (v : MarksMade). v.generation ≡ at.entry.generation)) made_is (its.generation at.entry at.found))) element_takes others_unmarked)
+          ((subst (λ o. IfSome o (λ (v : MarksMade). v.generation ≡ at.entry.generation)) made_is (its.present at.entry at.found))) element_takes others_unmarked)
 
       element_goes : (t : Told) → IsServed m s at.node to_do t → Goes m s (driver_of s) t
       element_goes t served = subst (Goes m s (driver_of s)) (sym (IsServed-told m s at.node to_do t _ (replies.Done answers.Nothing) served is

@@ -1,5 +1,5 @@
 -- An update that was answered OK, and where it is from then on.
-use Rattle.std.specs.Prelude.{◌≡◌, ◌⊎◌, ℕ, List, [], ◌∷◌, ◌++◌, Option, Some, None, true}
+use Rattle.std.specs.Prelude.{◌≡◌, ◌⊎◌, ℕ, List, ◌∷◌, ◌++◌, Option, Some, None, true}
 use Rattle.ckpt_types.specs.declared.answers.Outcome.{Outcome}
 use Rattle.ckpt_types.specs.declared.answers.Outcome.TheVariants.{Done}
 use Rattle.node_msgs.specs.declared.details.Details.{Details}
@@ -13,8 +13,9 @@ use Rattle.ckpt_types.specs.declared.words.OpWord.TheVariants as opwords
 use Rattle.ckpt_types.specs.OpWord.{word_of_op}
 use Rattle.cluster_record.specs.declared.entries.Entry.{Entry}
 use Rattle.cluster_record.specs.RecordState.{entry_of}
-use Rattle.ckpt_machine.specs.Machine.{Machine, Effect, Applied, ReplicaState}
+use Rattle.ckpt_machine.specs.Machine.{Machine, ReplicaState}
 use Rattle.ckpt_machine.specs.Options.{is_all}
+pub use Rattle.ckpt_machine.specs.Owned.{IsUpdateBy, HasUpdate}
 use Rattle.ckpt_machine.specs.Runs.{last}
 use Rattle.ckpt_types.specs.Asks.{update_of}
 use Rattle.ckpt_machine.specs.Steps.{asked_handle, goes_on}
@@ -55,16 +56,6 @@ pub record HasBegun (log : List Label) (call : CallId) (op : Op) (ckpt : Option 
   pub ckpt_is : ckpt ≡ ckpt_of_handle (asked_handle (last before) call.actor op)
 
 -- ---- what became of it
-
--- the effect is this very update, by this call
-abbrev pub IsUpdateBy : CallId → Update → Effect → Type 0
-IsUpdateBy call update (Applied origin applied moment) = (origin ≡ call) × (applied ≡ update)
-IsUpdateBy call update effect = ⊥
-
--- one of the effects is
-abbrev pub HasUpdate : CallId → Update → List Effect → Type 0
-HasUpdate call update [] = ⊥
-HasUpdate call update (x ∷ xs) = IsUpdateBy call update x ⊎ HasUpdate call update xs
 
 -- the node is one of those on which an update has to be: any, or where updates go to the active alone, the active
 abbrev pub IsToHave : Option Entry → ℕ → Type 0

@@ -23,6 +23,7 @@ WasMade R k = WasMadeIn R.last_identity R.entries k
 pub record IsMakingEntry (e : Entry) : Type 0 where
   pub complete : e.complete ≡ no_nodes
   pub generation : e.generation ≡ 1
+  pub unled : e.active ≡ None
   pub free : e.hold ≡ None
   pub well_formed : is_malformed e.attributes ≡ false
   pub clients : length e.references ≡ client_numbers

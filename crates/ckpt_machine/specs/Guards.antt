@@ -32,7 +32,7 @@ use Rattle.ckpt_types.specs.OpWord.{word_of_op, stepped_as}
 use Rattle.cluster_record.specs.declared.entries.Entry.{Entry}
 use Rattle.cluster_record.specs.Calls.{same_call, client_of}
 use Rattle.cluster_record.specs.Placement.{is_collocated, targets}
-use Rattle.cluster_record.specs.RecordState.{entry_of, home_of, named, attributes_now, is_live, is_live_client, is_up, IsMomentFrom}
+use Rattle.cluster_record.specs.RecordState.{entry_of, home_of, named, attributes_now, is_live, is_live_client, is_up, no_nodes, IsMomentFrom}
 use Rattle.cluster_record.specs.DueOpen.{IsBefore, accepts}
 use Rattle.ckpt_machine.specs.BeginRows.{IsAllowedBegin, IsAllowedWord}
 use Rattle.ckpt_machine.specs.Complete.{complete_replicas}
@@ -700,7 +700,7 @@ abbrev pub Allowed : Machine → Label → Type 0
 Allowed m (labels.Began call op end details) = IsAllowedBegin m call op end details
 Allowed m (labels.Stepped call op verb k r reply end details) = IsAllowedStep m call op (record { verb = verb; ckpt = k; node = r; reply = reply; end = end; details = details })
 Allowed m (labels.Word who word said) = IsAllowedWord m who word said
-Allowed m (labels.Nodes n) = (0 < n) × (n ≤ nodes_max) × ((r : ℕ) → is_up r m.cluster ≡ false)
+Allowed m (labels.Nodes n) = (0 < n) × (n ≤ nodes_max) × (m.cluster.last_incarnations ≡ no_nodes)
 Allowed m (labels.Moved t) = IsMomentFrom m.cluster.moment t
 Allowed m (labels.Shown k replicas) = replicas ≡ listing_at m k
 Allowed m (labels.Pulled k reply) = reply ≡ pull_answer m k

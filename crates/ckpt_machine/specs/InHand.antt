@@ -1,7 +1,7 @@
 -- Where a call in hand is: what is so of it, by what drives it.
 use Rattle.std.specs.List.{list_any}
 use Rattle.std.specs.Option.{option_map}
-use Rattle.std.specs.Prelude.{◌≡◌, ◌==◌, ℕ, ◌<◌, ◌≤◌, length, Option, Some, None, is_some, IsSome, IsSomeAnd, IfSome, true, false, ℤ, pos, ◌≤ℤ◌, slice_index, slice_get, Bool, List}
+use Rattle.std.specs.Prelude.{◌≡◌, ◌≢◌, ◌==◌, ℕ, ◌<◌, ◌≤◌, length, Option, Some, None, is_some, IsSome, IsSomeAnd, IfSome, true, false, ℤ, pos, ◌≤ℤ◌, slice_index, slice_get, Bool, List}
 use Rattle.ckpt_types.specs.declared.attributes.CreationAttributes.{CreationAttributes}
 use Rattle.ckpt_types.specs.declared.calls.CallbackSet.{CallbackSet}
 use Rattle.ckpt_types.specs.declared.calls.Version.{Version}
@@ -30,7 +30,7 @@ use Rattle.cluster_record.specs.RecordState.{entry_of, home_of, is_live_client, 
 use Rattle.ckpt_machine.specs.Driving.{deadline_from, kind_of_change}
 use Rattle.cluster_record.specs.DueOnce.{OneStep}
 use Rattle.cluster_record.specs.DueOnce as once
-use Rattle.ckpt_types.specs.Asks.{Ask, asked, IsBuilt}
+use Rattle.ckpt_types.specs.Asks.{Ask, asked, update_of, IsBuilt}
 use Rattle.ckpt_types.specs.Asks as asking
 use Rattle.ckpt_machine.specs.Beginning.{name_is_bad}
 use Rattle.ckpt_machine.specs.Guards.{AsksToOpen, deadline_of, serves}
@@ -41,7 +41,9 @@ use Rattle.ckpt_machine.specs.Steps.{driver_of, IsDriven, asked_handle}
 use Rattle.section_iter.specs.Room.{room_declared}
 use Rattle.cluster_record.specs.declared.calls.UpdatePhase.{UpdatePhase}
 use Rattle.cluster_record.specs.StepDone.{has, last_having}
-use Rattle.ckpt_machine.specs.Shape.{Shape, IsCompleteOn, is_owner}
+use Rattle.ckpt_machine.specs.Shape.{Shape, IsCompleteOn, is_owner, effects_by}
+pub use Rattle.ckpt_machine.specs.Dead.{enters, is_enter}
+use Rattle.ckpt_machine.specs.Owned.{HasUpdate}
 use Rattle.ckpt_machine.specs.Drivers as drivers
 use Rattle.cluster_record.specs.declared.calls.ActiveKind.TheVariants as kinds
 use Rattle.ckpt_machine.specs.Entries.{WasMade}
@@ -87,7 +89,7 @@ pub record IsMakingIn (m : Machine) (s : CallState) (making : Making) : Type 0 w
   pub reserved : (r : ℕ) → has (slice_index m.cluster.up r) (slice_index making.reserved r) ≡ true → m.reserved making.ckpt r ≡ Some (slice_index m.cluster.up r)
   -- no other node has, and each that has is one on which it is made
   pub only : (r : ℕ) → (slice_index making.reserved r == 0) ≡ true → m.reserved making.ckpt r ≡ None
-  pub within : (r : ℕ) → (slice_index making.reserved r == 0) ≡ false → (slice_index (targets_by (attributes_asked (asked s.op)) (home_of (client_of s.call) m.cluster) m.cluster.up) r == 0) ≡ false
+  pub within : (r : ℕ) → IsSome (m.reserved making.ckpt r) → (slice_index (targets_by (attributes_asked (asked s.op)) (home_of (client_of s.call) m.cluster) m.cluster.up) r == 0) ≡ false
 
 -- an open asks what its operation does, for its client, on a node that is up; and what it makes is there
 pub record IsOpenIn (m : Machine) (s : CallState) (o : OpenState) : Type 0 where
@@ -95,6 +97,7 @@ pub record IsOpenIn (m : Machine) (s : CallState) (o : OpenState) : Type 0 where
   pub client : o.ask.client ≡ client_of s.call
   pub within : o.ask.client < client_numbers
   pub node : is_up o.ask.node m.cluster ≡ true
+  pub home : o.ask.node ≡ s.kept.node
   pub asks : AsksToOpen s o.ask.name o.ask.attrs
   pub named : name_is_bad o.ask.name ≡ false
   pub declared : AreGoodAttributes o.ask.attrs
@@ -107,7 +110,17 @@ pub record IsOpenIn (m : Machine) (s : CallState) (o : OpenState) : Type 0 where
 abbrev pub OwnsIn : Shape → CallState → UpdateState → Entry → Type 0
 OwnsIn sh s u e = (r : ℕ) → IsCompleteOn e r → has (slice_index e.complete r) (slice_index u.owned r) ≡ is_owner s.call (sh.owners r)
 
--- one that commits has some
+-- the update has been done, where it is not staged: the replicas without a slot have it, and so do those with a slot of another call
+pub record IsDoneIn (sh : Shape) (s : CallState) : Type 0 where
+  pub free : HasUpdate s.call (update_of s.op) (effects_by sh None)
+  pub under : (r : ℕ) (call : CallId) → sh.owners r ≡ Some call → call ≢ s.call → HasUpdate s.call (update_of s.op) sh.effects
+
+-- one that commits has done so
+abbrev pub PhaseKeeps : Machine → Shape → CallState → UpdateState → UpdatePhase → Type 0
+PhaseKeeps m sh s u Staging = Unit {0}
+PhaseKeeps m sh s u Committing = IsDoneIn sh s
+
+-- while no node fails it has a slot still
 abbrev pub HasSome : UpdateState → Entry → UpdatePhase → Type 0
 HasSome u e Staging = Unit {0}
 HasSome u e Committing = IsSome (last_having 0 e.complete u.owned)
@@ -123,12 +136,18 @@ pub record IsUpdateIn (m : Machine) (shapes : ℕ → Shape) (s : CallState) (u 
   pub all : IfSome (entry_of u.ckpt m.cluster.entries) (λ e. is_all e.attributes ≡ true)
   pub nodes : length u.owned ≡ nodes_max
   pub owns : (e : Entry) → entry_of u.ckpt m.cluster.entries ≡ Some e → OwnsIn (shapes u.ckpt) s u e
+  pub keeps : (e : Entry) → entry_of u.ckpt m.cluster.entries ≡ Some e → PhaseKeeps m (shapes u.ckpt) s u u.phase
   pub some : (e : Entry) → entry_of u.ckpt m.cluster.entries ≡ Some e → HasSome u e u.phase
 
 -- the marks are of the call
 abbrev pub is_marked_by : CallId → Option Marked → Bool
 is_marked_by call None = false
 is_marked_by call (Some marks) = same_call marks.call call
+
+-- there are some of the present generation
+abbrev pub are_present : Entry → Option MarksMade → Bool
+are_present e None = false
+are_present e (Some marks) = marks.generation == e.generation
 
 -- a weak write alone makes marks; it has no more elements than a vector may, and no more of them left
 abbrev pub MarksFit : ActiveKind → Option MarksMade → Type 0
@@ -149,9 +168,11 @@ pub record IsActiveIn (m : Machine) (shapes : ℕ → Shape) (s : CallState) (a 
   pub all : IfSome (entry_of a.ckpt m.cluster.entries) (λ e. s.kept.all ≡ is_all e.attributes)
   pub weak : IfSome (entry_of a.ckpt m.cluster.entries) (λ e. s.kept.weak ≡ is_weak e.attributes)
   pub handle : IsSome (asked_handle m s.call.actor s.op)
-  -- and has its marks just where it has made some, which are of the present generation
-  pub marks : (e : Entry) → entry_of a.ckpt m.cluster.entries ≡ Some e → is_marked_by s.call (shapes a.ckpt).marks ≡ is_some a.marks
-  pub generation : (e : Entry) → entry_of a.ckpt m.cluster.entries ≡ Some e → IfSome a.marks (λ marks. marks.generation ≡ e.generation)
+  -- and has its marks just where it has made some in the present generation, and none of a later one
+  pub marks : (e : Entry) → entry_of a.ckpt m.cluster.entries ≡ Some e → is_marked_by s.call (shapes a.ckpt).marks ≡ are_present e a.marks
+  pub generation : (e : Entry) → entry_of a.ckpt m.cluster.entries ≡ Some e → IfSome a.marks (λ marks. marks.generation ≤ e.generation)
+  -- while no node fails they are of the present one
+  pub present : (e : Entry) → entry_of a.ckpt m.cluster.entries ≡ Some e → IfSome a.marks (λ marks. marks.generation ≡ e.generation)
 
 -- what a call keeps of a pull: the generation of what it has pulled, and the count of its updates
 abbrev pub pulled_as : Snapshot → PulledAt
@@ -239,22 +260,6 @@ IsInPlace m shapes s (drivers.Update u) = IsUpdateIn m shapes s u
 IsInPlace m shapes s (drivers.Active a) = IsActiveIn m shapes s a
 IsInPlace m shapes s (drivers.Sync u) = IsSyncBy m s u u.kind
 
--- an Initialize becomes live, and all other calls of one step are of a client that is
-abbrev pub enters : OneStep → Bool
-enters (once.Enter r) = true
-enters once.Leave = false
-enters (once.Close k) = false
-enters (once.Unlink name) = false
-enters (once.Retain k duration) = false
-
--- an Initialize
-abbrev pub is_enter : Driver → Bool
-is_enter (drivers.Once x) = enters x
-is_enter (drivers.Open o) = false
-is_enter (drivers.Update u) = false
-is_enter (drivers.Active a) = false
-is_enter (drivers.Sync u) = false
-
 -- a call in hand is so under its own name; it is a client's, its number was given, it is built, what it asks for drives it, each but an Initialize is live, and it is where its steps have led it
 pub record IsInHand (m : Machine) (shapes : ℕ → Shape) (w : Who) (s : CallState) : Type 0 where
   pub whose : who s ≡ w
@@ -263,4 +268,6 @@ pub record IsInHand (m : Machine) (shapes : ℕ → Shape) (w : Who) (s : CallSt
   pub built : IsBuilt s.op
   pub driven : IsDriven s
   pub live : is_enter (driver_of s) ≡ false → is_live m.cluster s.call ≡ true
+  -- on the node where it was when it began
+  pub home : is_enter (driver_of s) ≡ false → s.kept.node ≡ home_of (client_of s.call) m.cluster
   pub here : IsInPlace m shapes s (driver_of s)

@@ -1,9 +1,9 @@
 -- What holds in every state of a run, of any number of nodes up to eight and of calls in hand; from it follow the guards, and all that the code relies on.
-use Rattle.std.specs.Prelude.{◌≡◌, ℕ, ◌+◌, ◌<◌, ◌≤◌, [], ◌++◌, List, length, map, Option, Some, None, IsSome, IsSomeAnd, IfSome, Contains, true, false}
+use Rattle.std.specs.Prelude.{◌≡◌, ℕ, ◌+◌, ◌<◌, ◌≤◌, [], ◌++◌, List, length, map, Option, Some, None, IsSome, IsSomeAnd, IfSome, Contains, true}
 use Rattle.ckpt_types.specs.declared.identities.ActorName.{ActorName}
 use Rattle.ckpt_types.specs.declared.identities.CallId.{CallId}
 use Rattle.ckpt_types.specs.declared.identities.Who.{Who}
-use Rattle.ckpt_types.specs.Limits.{handles_max}
+use Rattle.ckpt_types.specs.Limits.{handles_max, nodes_max}
 use Rattle.call_dispatch.specs.PendingCalls.{PendingCalls, find_async}
 use Rattle.ckpt_types.specs.Asks.{invocation_of}
 use Rattle.ckpt_types.specs.OpWord.{is_async, word_of_op}
@@ -16,7 +16,7 @@ use Rattle.cluster_record.specs.declared.calls.Making.{Making}
 use Rattle.cluster_record.specs.DueOpen.{OpenState}
 use Rattle.cluster_record.specs.declared.clients.LiveClient.{LiveClient}
 use Rattle.cluster_record.specs.declared.entries.Entry.{Entry}
-use Rattle.cluster_record.specs.RecordState.{RecordState, entry_of, first_nodes, no_nodes, is_up, is_live_client, home_of, client_key}
+use Rattle.cluster_record.specs.RecordState.{RecordState, entry_of, no_nodes, is_up, is_live_client, home_of, client_key}
 use Rattle.ckpt_machine.specs.Machine.{Machine, ReplicaState, CallState, who}
 use Rattle.ckpt_machine.specs.Steps.{driver_of, kind_of}
 use Rattle.cluster_record.specs.Calls.{IsClient, number_of}
@@ -57,11 +57,10 @@ pub record IsGoodHandle (R : RecordState) (a : ActorName) (h : HandleView) : Typ
   pub placed : IfSome (entry_of h.id R.entries) (λ e. is_collocated e.attributes ≡ true → IsCompleteOn e (home_of (number_of a) R))
   pub flags : IfSome (entry_of h.id R.entries) (λ e. h.creation_flags ≡ e.attributes.creation_flags)
 
--- a replica on a node may have this generation: no higher one than its checkpoint, and the same on the active, as on all nodes where it is not collocated
+-- a replica on a node may have this generation: no higher one than its checkpoint, and the same on the active
 pub record IsOfGeneration (e : Entry) (r generation : ℕ) : Type 0 where
   pub within : generation ≤ e.generation
   pub led : e.active ≡ Some r → generation ≡ e.generation
-  pub placed : is_collocated e.attributes ≡ false → generation ≡ e.generation
 
 -- the checkpoint is there and complete on the node, where its replica may have this generation
 abbrev pub IsCompleteAt : RecordState → ℕ → ℕ → ℕ → Type 0
@@ -94,8 +93,9 @@ HasPlaces tables entries = (c : ℕ) → length (tables (Client c)).handles + ma
 
 -- what holds in every state of a run, where the checkpoints have these shapes
 pub record InvariantIn (shapes : ℕ → Shape) (m : Machine) : Type 0 where
-  -- the nodes that are up came up at once, with the first incarnation
-  pub up : (n : ℕ) × (m.cluster.up ≡ first_nodes n)
+  -- before the first nodes come up none is
+  pub up : length m.cluster.up ≡ nodes_max
+  pub first_up : m.cluster.last_incarnations ≡ no_nodes → m.cluster.up ≡ no_nodes
   pub none_live : m.cluster.up ≡ no_nodes → m.cluster.clients ≡ []
   pub rises : IdentitiesRise m.cluster.entries
   pub up_to : AllUpTo m.cluster.last_identity m.cluster.entries

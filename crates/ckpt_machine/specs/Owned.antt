@@ -1,6 +1,7 @@
 -- What a call has in the cluster: slots, marks, makings and holds, and effects.
 use Rattle.std.specs.Prelude.{◌≡◌, ◌≢◌, ◌⊎◌, ℕ, List, [], ◌∷◌, Some}
 use Rattle.ckpt_types.specs.declared.identities.CallId.{CallId}
+use Rattle.ckpt_types.specs.declared.update.Update.{Update}
 use Rattle.cluster_record.specs.declared.entries.Entry.{Entry}
 use Rattle.cluster_record.specs.RecordState.{entry_of}
 use Rattle.weak_marks.specs.Marks.{Marked}
@@ -31,3 +32,13 @@ HasNoEffect m call = (k r : ℕ) (x : ReplicaState) → m.replicas k r ≡ Some 
 pub record HasNothing (m : Machine) (call : CallId) : Type 0 where
   pub owns : OwnsNothing m call
   pub effects : HasNoEffect m call
+
+-- the effect is this very update, by this call
+abbrev pub IsUpdateBy : CallId → Update → Effect → Type 0
+IsUpdateBy call update (Applied origin applied moment) = (origin ≡ call) × (applied ≡ update)
+IsUpdateBy call update effect = ⊥
+
+-- one of the effects is
+abbrev pub HasUpdate : CallId → Update → List Effect → Type 0
+HasUpdate call update [] = ⊥
+HasUpdate call update (x ∷ xs) = IsUpdateBy call update x ⊎ HasUpdate call update xs

@@ -1,6 +1,6 @@
 -- What stands behind the replicas of a checkpoint: where its updates are on all of them, one equation for each node, with a witness.
 use Rattle.std.specs.Option.{option_map}
-use Rattle.std.specs.Prelude.{◌≡◌, ℕ, ◌+◌, ◌<◌, List, [], ◌∷◌, ◌++◌, length, Option, Some, None, is_some, IsSome, IsSomeAnd, IfSome, Ok, Bool, true, false, ◌==◌, if◌then◌else◌, ℤ, slice_index}
+use Rattle.std.specs.Prelude.{◌≡◌, ◌⊎◌, ℕ, ◌+◌, ◌<◌, List, [], ◌∷◌, ◌++◌, length, Option, Some, None, is_some, IsSome, IsSomeAnd, IfSome, Ok, Bool, true, false, ◌==◌, if◌then◌else◌, ℤ, slice_index}
 use Rattle.ckpt_types.specs.declared.identities.CallId.{CallId}
 use Rattle.ckpt_types.specs.declared.update.Update.{Update}
 use Rattle.ckpt_types.specs.Sections.{Section}
@@ -17,13 +17,14 @@ use Rattle.weak_marks.specs.Marks.{Marked, elements_in}
 use Rattle.cluster_record.specs.declared.calls.SyncKind.TheVariants.{ActiveSet}
 use Rattle.cluster_record.specs.DueSync.{SyncState}
 use Rattle.cluster_record.specs.Placement.{is_collocated}
-use Rattle.cluster_record.specs.RecordState.{first_complete}
+use Rattle.cluster_record.specs.RecordState.{first_complete, is_live}
 use Rattle.ckpt_machine.specs.Drivers as drivers
 use Rattle.ckpt_types.specs.Asks.{update_of}
 use Rattle.ckpt_machine.specs.Machine.{Machine, Effect, Applied, Staged, ReplicaState, CallState, who}
 use Rattle.ckpt_machine.specs.Options.{is_all}
 use Rattle.ckpt_machine.specs.Propagation.{on_node, copied}
 use Rattle.ckpt_machine.specs.Steps.{driver_of}
+use Rattle.ckpt_machine.specs.Dead.{IsDead}
 
 -- the slots by node, each with its owner; the update that is staged; the contents under it, and those after it, which the replicas without a slot have where it is done; and where updates go to the active alone, the marks that stand there
 pub record Shape : Type 0 where
@@ -85,7 +86,15 @@ is_owner call (Some owner) = same_call owner call
 abbrev pub IsCompleteOn : Entry → ℕ → Type 0
 IsCompleteOn e r = (slice_index e.complete r == 0) ≡ false
 
+-- the nodes on which it is complete are up, with the incarnations that they had then
+abbrev pub NodesAreUp : List ℕ → Entry → Type 0
+NodesAreUp up e = (r : ℕ) → IsCompleteOn e r → slice_index up r ≡ slice_index e.complete r
+
 -- ---- the call that owns a slot
+
+-- all slots are of this call
+abbrev pub AreOwn : Shape → CallId → Type 0
+AreOwn sh call = (r : ℕ) (owner : CallId) → sh.owners r ≡ Some owner → owner ≡ call
 
 -- it stages its own update, which no replica has
 pub record IsStaging (sh : Shape) (s : CallState) (u : UpdateState) : Type 0 where
@@ -93,17 +102,19 @@ pub record IsStaging (sh : Shape) (s : CallState) (u : UpdateState) : Type 0 whe
   pub update : sh.update ≡ update_of s.op
   pub moment : sh.moment ≡ u.moment
   pub undone : sh.done ≡ false
+  pub alone : AreOwn sh s.call
 
 -- it commits its own update, and the replicas without a slot have it
 pub record IsCommitting (sh : Shape) (s : CallState) : Type 0 where
   pub origin : sh.origin ≡ s.call
   pub update : sh.update ≡ update_of s.op
   pub is_done : sh.done ≡ true
+  pub alone : AreOwn sh s.call
 
 -- it does what its phase says
-abbrev pub PhaseFits : Shape → CallState → UpdateState → UpdatePhase → Type 0
-PhaseFits sh s u Staging = IsStaging sh s u
-PhaseFits sh s u Committing = IsCommitting sh s
+abbrev pub PhaseFits : Machine → Shape → CallState → UpdateState → UpdatePhase → Type 0
+PhaseFits m sh s u Staging = IsStaging sh s u
+PhaseFits m sh s u Committing = IsCommitting sh s
 
 -- the call is in hand, an update of this checkpoint
 pub record IsOwner (m : Machine) (k : ℕ) (sh : Shape) (call : CallId) : Type 0 where
@@ -113,7 +124,11 @@ pub record IsOwner (m : Machine) (k : ℕ) (sh : Shape) (call : CallId) : Type 0
   pub driver : UpdateState
   pub driver_is : driver_of state ≡ drivers.Update driver
   pub ckpt : driver.ckpt ≡ k
-  pub phase : PhaseFits sh state driver driver.phase
+  pub phase : PhaseFits m sh state driver driver.phase
+
+-- the call is dead, and so is the one whose update is staged
+abbrev pub IsLeft : Machine → Shape → CallId → Type 0
+IsLeft m sh call = IsDead m call × IsDead m sh.origin
 
 -- the call of these marks is in hand, a weak write of this checkpoint, which has made them, and has as many of its elements left
 pub record IsMarker (m : Machine) (k : ℕ) (marks : Marked) : Type 0 where
@@ -130,12 +145,13 @@ pub record IsMarker (m : Machine) (k : ℕ) (marks : Marked) : Type 0 where
 
 -- ---- the active, and a hold
 
--- the active of a checkpoint that is collocated or not, with these complete nodes: of one that is not the lowest of them; of a collocated one any of them, or none
-abbrev pub IsActiveBy : Bool → List ℕ → Option ℕ → Type 0
-IsActiveBy true complete active = IfSome active (λ r. (slice_index complete r == 0) ≡ false)
-IsActiveBy false complete active = active ≡ first_complete 0 complete
+-- the active of a checkpoint with these complete nodes: of a collocated one any of them, or none; where updates are on all replicas, the lowest; else any of them
+abbrev pub IsActiveBy : Bool → Bool → List ℕ → Option ℕ → Type 0
+IsActiveBy true all complete active = IfSome active (λ r. (slice_index complete r == 0) ≡ false)
+IsActiveBy false true complete active = active ≡ first_complete 0 complete
+IsActiveBy false false complete active = IsSomeAnd active (λ r. (slice_index complete r == 0) ≡ false)
 
--- the call is in hand, a setting of an active of this checkpoint, and has in its hand what the replica of this node has
+-- the call is in hand, a setting of an active of this checkpoint, and has in its hand what the replica of the active has, where there is one still
 pub record IsHolder (m : Machine) (k : ℕ) (active : Option ℕ) (call : CallId) : Type 0 where
   pub state : CallState
   pub in_hand : m.in_hand (who state) ≡ Some state
@@ -146,28 +162,35 @@ pub record IsHolder (m : Machine) (k : ℕ) (active : Option ℕ) (call : CallId
   pub kind : driver.kind ≡ ActiveSet local
   pub ckpt : driver.ckpt ≡ k
   pub some : is_some state.snapshot ≡ true
-  pub copies : state.snapshot ≡ option_map copied (on_node (m.replicas k) active)
+  pub copies : IsSome active → state.snapshot ≡ option_map copied (on_node (m.replicas k) active)
 
--- a checkpoint that a call holds is collocated and has an active, on which no marks stand, and of which the call has a copy in its hand
+-- a checkpoint that a call holds is collocated, no marks stand on its active, and the call has a copy of it in its hand
 pub record IsOnHold (m : Machine) (k : ℕ) (sh : Shape) (e : Entry) (call : CallId) : Type 0 where
   pub collocated : is_collocated e.attributes ≡ true
+  -- while no node fails it has an active
   pub led : IsSome e.active
   pub unmarked : sh.marks ≡ None
   pub holder : IsHolder m k e.active call
 
 -- ---- the whole
 
--- a checkpoint that is made has its replicas on its complete nodes, of which one is the active, or none of a collocated one; the slots are on the lowest of them, each of a call in hand, so are the marks on the active, and so is the hold on the checkpoint
+-- a checkpoint that is made has its replicas on its complete nodes, which are up, and of which one is the active, or none of a collocated one; the slots are on the lowest of them, first those of a call in hand, and then those of dead ones; the marks on the active are of a call in hand, and so is the hold on the checkpoint
 pub record IsSpread (m : Machine) (k : ℕ) (sh : Shape) (e : Entry) : Type 0 where
   pub nodes : length e.complete ≡ nodes_max
   pub some : IsSome (first_complete 0 e.complete)
-  pub active : IsActiveBy (is_collocated e.attributes) e.complete e.active
+  pub up : NodesAreUp m.cluster.up e
+  pub active : IsActiveBy (is_collocated e.attributes) (is_all e.attributes) e.complete e.active
   pub replicas : (r : ℕ) → IsCompleteOn e r → IsSomeAnd (m.replicas k r) (IsShapedBy (is_all e.attributes) sh e.active r)
   -- what is staged has this outcome
   pub fits : (r : ℕ) (call : CallId) → sh.owners r ≡ Some call → outcome e.attributes sh.update sh.moment sh.sections ≡ Ok sh.outcome
+  pub all : (r : ℕ) (call : CallId) → sh.owners r ≡ Some call → is_all e.attributes ≡ true
   pub complete : (r : ℕ) (call : CallId) → sh.owners r ≡ Some call → IsCompleteOn e r
   pub lowest : (q r : ℕ) (call : CallId) → q < r → IsCompleteOn e q → sh.owners r ≡ Some call → IsSome (sh.owners q)
-  pub owned : (r : ℕ) (call : CallId) → sh.owners r ≡ Some call → IsOwner m k sh call
+  -- below a slot of a call in hand all are its own
+  pub first : (q r : ℕ) (call : CallId) → q < r → IsCompleteOn e q → sh.owners r ≡ Some call → IsOwner m k sh call → sh.owners q ≡ Some call
+  pub owned : (r : ℕ) (call : CallId) → sh.owners r ≡ Some call → IsOwner m k sh call ⊎ IsLeft m sh call
+  -- while no node fails no owner is dead
+  pub live : (r : ℕ) (call : CallId) → sh.owners r ≡ Some call → is_live m.cluster call ≡ true
   pub led : (marks : Marked) → sh.marks ≡ Some marks → IsSome e.active
   pub marked : (marks : Marked) → sh.marks ≡ Some marks → IsMarker m k marks
   pub held : (call : CallId) → e.hold ≡ Some call → IsOnHold m k sh e call

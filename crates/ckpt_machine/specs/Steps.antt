@@ -317,7 +317,7 @@ abbrev pub IsDue : Machine → Label → Type 0
 IsDue m (labels.Began call op end details) = IsBegun m call op end details
 IsDue m (labels.Stepped call op verb k r reply end details) = IsDueStep m call op (record { verb = verb; ckpt = k; node = r; reply = reply; end = end; details = details })
 IsDue m (labels.Word who word said) = IsWord m who word said
-IsDue m (labels.Nodes n) = (0 < n) × (n ≤ nodes_max) × (m.cluster.up ≡ no_nodes)
+IsDue m (labels.Nodes n) = (0 < n) × (n ≤ nodes_max) × (m.cluster.last_incarnations ≡ no_nodes)
 IsDue m (labels.Moved t) = IsMomentFrom m.cluster.moment t
 IsDue m (labels.Shown k replicas) = replicas ≡ listing_at m k
 IsDue m (labels.Pulled k reply) = reply ≡ pull_answer m k
