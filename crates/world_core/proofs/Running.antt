@@ -158,7 +158,7 @@ lacking_having (n ∷ nodes) (o ∷ own) =
 
 -- there are eight nodes
 up_length : (shapes : ℕ → Shape) (m : Machine) → InvariantIn shapes m → length m.cluster.up ≡ 8
-up_length shapes m inv = ap length inv.up.1 ∙ refl
+up_length shapes m inv = inv.up
 
 complete_length : (m : Machine) (k : ℕ) (sh : Shape) (e : Entry) (making : Option CallId) → IsGoodIn m k sh e making → length e.complete ≡ 8
 complete_length m k sh e None good = good.nodes

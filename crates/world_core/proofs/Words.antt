@@ -52,7 +52,7 @@ none_under (Some e) r x y is = absurd (cc is)
 -- the first nodes come up in a cluster in which nothing has happened
 pub nodes_done : (w : World) (n : ℕ) (R : RecordState) → 0 < n → n ≤ nodes_max → w.cluster ≡ empty_record → R ≡ brought_up n w.cluster → Does w (record w { cluster = R }) (Nodes n)
 nodes_done w n R some few empty R_is = subst (λ (R : RecordState). Does w (record w { cluster = R }) (Nodes n)) (sym R_is) (record {
-  due_is = λ m s f. (some, few, ap (λ (m : Machine). m.cluster.up) s.same ∙ ap (λ (R : RecordState). R.up) empty);
+  due_is = λ m s f. (some, few, ap (λ (m : Machine). m.cluster.last_incarnations) s.same ∙ ap (λ (R : RecordState). R.last_incarnations) empty);
   shows = λ m s f. record {
     history = s.history;
     same = ap (λ m. after m (Nodes n)) s.same ∙ (λ i. record (machine_of (record w { cluster = brought_up n w.cluster }) s.history) { reserved = λ k r. same k r i });
