@@ -1,4 +1,5 @@
 pub mod Fitting
 pub mod Readers
+pub mod Shapes
 pub mod Spelling
 pub mod Table

@@ -209,6 +209,10 @@ said_by k ws = line_by (form k) ws
 abbrev pub value_made : {X : Type 0} → (cs : List Class) → (Values cs → X) → List (List ℕ) → Result X Reason
 value_made cs f ws = fields cs ws >>= λ v. Ok (f v.0)
 
+-- the words of these classes made into a value, where there are any
+abbrev pub more_made : {X : Type 0} → (ds : List Class) → (Values ds → X) → List (List ℕ) → Result (Option X) Reason
+more_made ds f ws = rest_of ds ws >>= λ v. Ok (option_map f v)
+
 -- one group made into a value, and the words behind it
 abbrev pub one_made : {X : Type 0} → (ds : List Class) → (Values ds → X) → List (List ℕ) → Result (X × List (List ℕ)) Reason
 one_made ds f ws = fields ds ws >>= λ v. Ok (f v.0, v.1)

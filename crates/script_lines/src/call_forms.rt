@@ -1,17 +1,19 @@
 //! The form of each call line: what its words say.
-ghost use Rattle.std.specs.Prelude.{◌≡◌, ◌<◌, ◌≤◌, ◌*◌, ◌/◌, ◌%◌, ◌^◌, length, drop};
+ghost use Rattle.std.specs.Prelude.{◌≡◌, ◌<◌, ◌≤◌, ◌*◌, ◌/◌, ◌%◌, ◌^◌, ◌⊎◌, length, drop, ◌∷◌, [], true};
 ghost use Rattle.ckpt_types.specs.Limits.{line_elements_max};
 ghost use Rattle.script_words.specs.Reasons.{Reads};
 ghost use Rattle.script_words.specs.Words.{read_word, some_bytes};
 ghost use Rattle.ckpt_types.specs.declared.words.FirstWord.TheVariants as first;
 ghost use Rattle.ckpt_types.specs.declared.words.OpWord.TheVariants as calls;
 ghost use Rattle.script_lines.specs.Readers.{Gives};
-ghost use Rattle.script_lines.specs.Table.{texts, said_by, value_made, one_made, gather, attributes, attributes_of, io_group, io_element, read_group, read_element};
+ghost use Rattle.script_lines.specs.Table.{texts, said_by, line_by, value_made, more_made, one_made, gather, attributes, attributes_of, io_group, io_element, read_group, read_element};
+ghost use Rattle.script_lines.specs.Shapes.{counts_groups, handle_form, timed_form, iteration_form};
 
+use crate::call_shapes::{HandleCall, IterationCall, TimedCall};
 use crate::lines::Line;
 use ckpt_types::{
     CreationAttributes, IoElement, IoVector, LINE_ELEMENTS_MAX, Op, ReadElement, ReadVector,
-    Shared, SharedName, Update,
+    Shared, SharedAttributes, SharedName, Update,
 };
 use script_words::{LineError, Reason};
 use std::alloc::Global;
@@ -27,6 +29,19 @@ pub fn client_line(words: &[&[u8]]) -> Result<Line, LineError>
     let [client, node, version, callbacks] = words else {
         return Err(LineError::Fault(Reason::Count));
     };
+    client_words(client, node, version, callbacks)
+}
+
+// The same of its words.
+#[tactic(auto, unfolding(crate::specs::Table::said_by))]
+fn client_words(
+    client: &[u8],
+    node: &[u8],
+    version: &[u8],
+    callbacks: &[u8],
+) -> Result<Line, LineError>
+    ensures { Reads result (said_by (first.Op calls.Client) (client.now ∷ node.now ∷ version.now ∷ callbacks.now ∷ [])) }
+{
     let client = script_words::client(client)?;
     let node = script_words::node(node)?;
     let version = script_words::version(version)?;
@@ -46,17 +61,44 @@ pub fn finalize_line(words: &[&[u8]]) -> Result<Line, LineError>
     Ok(Line::Call(client, Op::Finalize))
 }
 
-/// The line that the words behind `close` say.
-#[tactic(auto, unfolding(crate::specs::Table::said_by))]
-pub fn close_line(words: &[&[u8]]) -> Result<Line, LineError>
-    ensures { Reads result (said_by (first.Op calls.Close) (texts words.now)) }
+/// The line that the words behind the first of a call that says a handle alone say.
+#[inline(always)]
+pub fn handle_line(call: HandleCall, words: &[&[u8]]) -> Result<Line, LineError>
+    ensures { Reads result (line_by (handle_form call) (texts words.now)) }
 {
     let [client, place] = words else {
         return Err(LineError::Fault(Reason::Count));
     };
     let client = script_words::client(client)?;
     let place = script_words::place(place)?;
-    Ok(Line::Call(client, Op::Close(place)))
+    Ok(Line::Call(client, call.of(place)))
+}
+
+/// The line that the words behind the first of a call that says a handle and a time say.
+#[inline(always)]
+pub fn timed_line(call: TimedCall, words: &[&[u8]]) -> Result<Line, LineError>
+    ensures { Reads result (line_by (timed_form call) (texts words.now)) }
+{
+    let [client, place, time] = words else {
+        return Err(LineError::Fault(Reason::Count));
+    };
+    let client = script_words::client(client)?;
+    let place = script_words::place(place)?;
+    let time = script_words::time(time)?;
+    Ok(Line::Call(client, call.of(place, time)))
+}
+
+/// The line that the words behind the first of a call that says an iteration alone say.
+#[inline(always)]
+pub fn iteration_line(call: IterationCall, words: &[&[u8]]) -> Result<Line, LineError>
+    ensures { Reads result (line_by (iteration_form call) (texts words.now)) }
+{
+    let [client, iteration] = words else {
+        return Err(LineError::Fault(Reason::Count));
+    };
+    let client = script_words::client(client)?;
+    let iteration = script_words::iteration(iteration)?;
+    Ok(Line::Call(client, call.of(iteration)))
 }
 
 /// The line that the words behind `unlink` say.
@@ -72,46 +114,6 @@ pub fn unlink_line(alloc: Global, words: &[&[u8]]) -> Result<Line, LineError>
     Ok(Line::Call(client, Op::Unlink(name)))
 }
 
-/// The line that the words behind `retain` say.
-#[tactic(auto, unfolding(crate::specs::Table::said_by))]
-pub fn retain_line(words: &[&[u8]]) -> Result<Line, LineError>
-    ensures { Reads result (said_by (first.Op calls.Retain) (texts words.now)) }
-{
-    let [client, place, duration] = words else {
-        return Err(LineError::Fault(Reason::Count));
-    };
-    let client = script_words::client(client)?;
-    let place = script_words::place(place)?;
-    let duration = script_words::time(duration)?;
-    Ok(Line::Call(client, Op::Retain(place, duration)))
-}
-
-/// The line that the words behind `active` say.
-#[tactic(auto, unfolding(crate::specs::Table::said_by))]
-pub fn active_line(words: &[&[u8]]) -> Result<Line, LineError>
-    ensures { Reads result (said_by (first.Op calls.Active) (texts words.now)) }
-{
-    let [client, place] = words else {
-        return Err(LineError::Fault(Reason::Count));
-    };
-    let client = script_words::client(client)?;
-    let place = script_words::place(place)?;
-    Ok(Line::Call(client, Op::Active(place)))
-}
-
-/// The line that the words behind `status` say.
-#[tactic(auto, unfolding(crate::specs::Table::said_by))]
-pub fn status_line(words: &[&[u8]]) -> Result<Line, LineError>
-    ensures { Reads result (said_by (first.Op calls.Status) (texts words.now)) }
-{
-    let [client, place] = words else {
-        return Err(LineError::Fault(Reason::Count));
-    };
-    let client = script_words::client(client)?;
-    let place = script_words::place(place)?;
-    Ok(Line::Call(client, Op::Status(place)))
-}
-
 /// The line that the words behind `create` say.
 #[tactic(auto, unfolding(crate::specs::Table::said_by))]
 pub fn create_line(alloc: Global, words: &[&[u8]]) -> Result<Line, LineError>
@@ -120,11 +122,26 @@ pub fn create_line(alloc: Global, words: &[&[u8]]) -> Result<Line, LineError>
     let [client, place, id, expiration, data] = words else {
         return Err(LineError::Fault(Reason::Count));
     };
+    create_words(alloc, client, place, id, expiration, data)
+}
+
+// The same of its words.
+#[tactic(auto, unfolding(crate::specs::Table::said_by))]
+fn create_words(
+    alloc: Global,
+    client: &[u8],
+    place: &[u8],
+    id: &[u8],
+    expiration: &[u8],
+    bytes: &[u8],
+) -> Result<Line, LineError>
+    ensures { Reads result (said_by (first.Op calls.Create) (client.now ∷ place.now ∷ id.now ∷ expiration.now ∷ bytes.now ∷ [])) }
+{
     let client = script_words::client(client)?;
     let place = script_words::place(place)?;
     let id = script_words::new_id(alloc, id)?;
     let expiration = script_words::time(expiration)?;
-    let data = script_words::bytes(alloc, data)?;
+    let data = script_words::bytes(alloc, bytes)?;
     let update = Shared::new(alloc, Update::Create(id, expiration, data))?;
     Ok(Line::Call(client, Op::Create(place, update)))
 }
@@ -152,6 +169,20 @@ pub fn expire_line(alloc: Global, words: &[&[u8]]) -> Result<Line, LineError>
     let [client, place, id, expiration] = words else {
         return Err(LineError::Fault(Reason::Count));
     };
+    expire_words(alloc, client, place, id, expiration)
+}
+
+// The same of its words.
+#[tactic(auto, unfolding(crate::specs::Table::said_by))]
+fn expire_words(
+    alloc: Global,
+    client: &[u8],
+    place: &[u8],
+    id: &[u8],
+    expiration: &[u8],
+) -> Result<Line, LineError>
+    ensures { Reads result (said_by (first.Op calls.Expire) (client.now ∷ place.now ∷ id.now ∷ expiration.now ∷ [])) }
+{
     let client = script_words::client(client)?;
     let place = script_words::place(place)?;
     let id = script_words::id(alloc, id)?;
@@ -168,38 +199,26 @@ pub fn iter_line(words: &[&[u8]]) -> Result<Line, LineError>
     let [client, iteration, place, choice, time] = words else {
         return Err(LineError::Fault(Reason::Count));
     };
+    iter_words(client, iteration, place, choice, time)
+}
+
+// The same of its words.
+#[tactic(auto, unfolding(crate::specs::Table::said_by))]
+fn iter_words(
+    client: &[u8],
+    iteration: &[u8],
+    place: &[u8],
+    choice: &[u8],
+    time: &[u8],
+) -> Result<Line, LineError>
+    ensures { Reads result (said_by (first.Op calls.Iter) (client.now ∷ iteration.now ∷ place.now ∷ choice.now ∷ time.now ∷ [])) }
+{
     let client = script_words::client(client)?;
     let iteration = script_words::iteration(iteration)?;
     let place = script_words::place(place)?;
     let choice = script_words::number(0, u64::MAX, choice)?;
     let time = script_words::time(time)?;
     Ok(Line::Call(client, Op::Iter(iteration, place, choice, time)))
-}
-
-/// The line that the words behind `next` say.
-#[tactic(auto, unfolding(crate::specs::Table::said_by))]
-pub fn next_line(words: &[&[u8]]) -> Result<Line, LineError>
-    ensures { Reads result (said_by (first.Op calls.Next) (texts words.now)) }
-{
-    let [client, iteration] = words else {
-        return Err(LineError::Fault(Reason::Count));
-    };
-    let client = script_words::client(client)?;
-    let iteration = script_words::iteration(iteration)?;
-    Ok(Line::Call(client, Op::Next(iteration)))
-}
-
-/// The line that the words behind `enditer` say.
-#[tactic(auto, unfolding(crate::specs::Table::said_by))]
-pub fn end_iter_line(words: &[&[u8]]) -> Result<Line, LineError>
-    ensures { Reads result (said_by (first.Op calls.EndIter) (texts words.now)) }
-{
-    let [client, iteration] = words else {
-        return Err(LineError::Fault(Reason::Count));
-    };
-    let client = script_words::client(client)?;
-    let iteration = script_words::iteration(iteration)?;
-    Ok(Line::Call(client, Op::EndIter(iteration)))
 }
 
 /// The line that the words behind `over` say.
@@ -210,26 +229,26 @@ pub fn over_line(alloc: Global, words: &[&[u8]]) -> Result<Line, LineError>
     let [client, place, id, data] = words else {
         return Err(LineError::Fault(Reason::Count));
     };
+    over_words(alloc, client, place, id, data)
+}
+
+// The same of its words.
+#[tactic(auto, unfolding(crate::specs::Table::said_by))]
+fn over_words(
+    alloc: Global,
+    client: &[u8],
+    place: &[u8],
+    id: &[u8],
+    bytes: &[u8],
+) -> Result<Line, LineError>
+    ensures { Reads result (said_by (first.Op calls.Over) (client.now ∷ place.now ∷ id.now ∷ bytes.now ∷ [])) }
+{
     let client = script_words::client(client)?;
     let place = script_words::place(place)?;
     let id = script_words::id(alloc, id)?;
-    let data = script_words::bytes(alloc, data)?;
+    let data = script_words::bytes(alloc, bytes)?;
     let update = Shared::new(alloc, Update::Overwrite(id, data))?;
     Ok(Line::Call(client, Op::Over(place, update)))
-}
-
-/// The line that the words behind `sync` say.
-#[tactic(auto, unfolding(crate::specs::Table::said_by))]
-pub fn sync_line(words: &[&[u8]]) -> Result<Line, LineError>
-    ensures { Reads result (said_by (first.Op calls.Sync) (texts words.now)) }
-{
-    let [client, place, timeout] = words else {
-        return Err(LineError::Fault(Reason::Count));
-    };
-    let client = script_words::client(client)?;
-    let place = script_words::place(place)?;
-    let timeout = script_words::time(timeout)?;
-    Ok(Line::Call(client, Op::Sync(place, timeout)))
 }
 
 /// The line that the words behind `syncasync` say.
@@ -270,17 +289,29 @@ pub fn open_line(alloc: Global, words: &[&[u8]]) -> Result<Line, LineError>
     if rest.len() != 0 && rest.len() != 6 {
         return Err(LineError::Fault(Reason::Count));
     }
+    open_words(alloc, client, place, name, flags, timeout, rest)
+}
+
+// The same of its words, and of those of creation attributes, where there are any.
+#[tactic(auto, unfolding(crate::specs::Table::said_by))]
+fn open_words(
+    alloc: Global,
+    client: &[u8],
+    place: &[u8],
+    name: &[u8],
+    flags: &[u8],
+    timeout: &[u8],
+    rest: &[&[u8]],
+) -> Result<Line, LineError>
+    requires { (length rest.now ≡ 0) ⊎ (length rest.now ≡ 6) }
+    ensures { Reads result (said_by (first.Op calls.Open) (client.now ∷ place.now ∷ name.now ∷ flags.now ∷ timeout.now ∷ texts rest.now)) }
+{
     let client = script_words::client(client)?;
     let place = script_words::place(place)?;
     let name = shared_name(alloc, name)?;
     let flags = script_words::number(0, FLAGS_MAX, flags)?;
     let timeout = script_words::time(timeout)?;
-    if rest.is_empty() {
-        let attributes = Shared::new(alloc, None)?;
-        let op = Op::Open(place, name, flags as u32, timeout, attributes);
-        return Ok(Line::Call(client, op));
-    }
-    let attributes = Shared::new(alloc, Some(attributes_in(rest)?))?;
+    let attributes = shared_attributes(alloc, rest)?;
     let op = Op::Open(place, name, flags as u32, timeout, attributes);
     Ok(Line::Call(client, op))
 }
@@ -296,17 +327,29 @@ pub fn open_async_line(alloc: Global, words: &[&[u8]]) -> Result<Line, LineError
     if rest.len() != 0 && rest.len() != 6 {
         return Err(LineError::Fault(Reason::Count));
     }
+    open_async_words(alloc, client, place, invocation, name, flags, rest)
+}
+
+// The same of its words, and of those of creation attributes, where there are any.
+#[tactic(auto, unfolding(crate::specs::Table::said_by))]
+fn open_async_words(
+    alloc: Global,
+    client: &[u8],
+    place: &[u8],
+    invocation: &[u8],
+    name: &[u8],
+    flags: &[u8],
+    rest: &[&[u8]],
+) -> Result<Line, LineError>
+    requires { (length rest.now ≡ 0) ⊎ (length rest.now ≡ 6) }
+    ensures { Reads result (said_by (first.Op calls.OpenAsync) (client.now ∷ place.now ∷ invocation.now ∷ name.now ∷ flags.now ∷ texts rest.now)) }
+{
     let client = script_words::client(client)?;
     let place = script_words::place(place)?;
     let invocation = script_words::number(0, u64::MAX, invocation)?;
     let name = shared_name(alloc, name)?;
     let flags = script_words::number(0, FLAGS_MAX, flags)?;
-    if rest.is_empty() {
-        let attributes = Shared::new(alloc, None)?;
-        let op = Op::OpenAsync(place, invocation, name, flags as u32, attributes);
-        return Ok(Line::Call(client, op));
-    }
-    let attributes = Shared::new(alloc, Some(attributes_in(rest)?))?;
+    let attributes = shared_attributes(alloc, rest)?;
     let op = Op::OpenAsync(place, invocation, name, flags as u32, attributes);
     Ok(Line::Call(client, op))
 }
@@ -319,28 +362,63 @@ fn shared_name(alloc: Global, word: &[u8]) -> Result<SharedName, LineError>
     Ok(Shared::new(alloc, name)?)
 }
 
-// The creation attributes that six words say.
-fn attributes_in(words: &[&[u8]]) -> Result<CreationAttributes, LineError>
+// The creation attributes that these words say, where there are any.
+fn shared_attributes(alloc: Global, words: &[&[u8]]) -> Result<SharedAttributes, LineError>
+    requires { (length words.now ≡ 0) ⊎ (length words.now ≡ 6) }
+    ensures { Reads result (more_made attributes attributes_of (texts words.now)) }
+{
+    if words.is_empty() {
+        return Ok(Shared::new(alloc, None)?);
+    }
+    six_attributes(alloc, words)
+}
+
+// The same of six words.
+fn six_attributes(alloc: Global, words: &[&[u8]]) -> Result<SharedAttributes, LineError>
     requires { length words.now ≡ 6 }
-    ensures { Reads result (value_made attributes attributes_of (texts words.now)) }
+    ensures { Reads result (more_made attributes attributes_of (texts words.now)) }
 {
     let [flags, size, retention, sections, section_size, id_size] = words else {
         unreachable!()
     };
+    attributes_in(
+        alloc,
+        flags,
+        size,
+        retention,
+        sections,
+        section_size,
+        id_size,
+    )
+}
+
+// The creation attributes that six words say.
+fn attributes_in(
+    alloc: Global,
+    flags: &[u8],
+    size: &[u8],
+    retention: &[u8],
+    sections: &[u8],
+    section_size: &[u8],
+    id_size: &[u8],
+) -> Result<SharedAttributes, LineError>
+    ensures { Reads result (more_made attributes attributes_of (flags.now ∷ size.now ∷ retention.now ∷ sections.now ∷ section_size.now ∷ id_size.now ∷ [])) }
+{
     let creation_flags = script_words::number(0, FLAGS_MAX, flags)?;
     let checkpoint_size = script_words::number(0, u64::MAX, size)?;
     let retention_duration = script_words::time(retention)?;
     let max_sections = script_words::number(0, FLAGS_MAX, sections)?;
     let max_section_size = script_words::number(0, u64::MAX, section_size)?;
     let max_section_id_size = script_words::number(0, u64::MAX, id_size)?;
-    Ok(CreationAttributes {
+    let declared = CreationAttributes {
         creation_flags: creation_flags as u32,
         checkpoint_size,
         retention_duration,
         max_sections: max_sections as u32,
         max_section_size,
         max_section_id_size,
-    })
+    };
+    Ok(Shared::new(alloc, Some(declared))?)
 }
 
 /// The line that the words behind `write` say.
@@ -351,14 +429,40 @@ pub fn write_line(alloc: Global, words: &[&[u8]]) -> Result<Line, LineError>
     let [client, place, rest @ ..] = words else {
         return Err(LineError::Fault(Reason::Count));
     };
-    if rest.is_empty() || rest.len() % 3 != 0 || 3 * LINE_ELEMENTS_MAX < rest.len() {
+    if !are_groups(rest) {
         return Err(LineError::Fault(Reason::Count));
     }
+    write_words(alloc, client, place, rest)
+}
+
+// The same of its words, in groups of three.
+#[inline(always)]
+#[tactic(auto, unfolding(crate::specs::Table::said_by))]
+fn write_words(
+    alloc: Global,
+    client: &[u8],
+    place: &[u8],
+    rest: &[&[u8]],
+) -> Result<Line, LineError>
+    requires { counts_groups (length rest.now) ≡ true }
+    ensures { Reads result (said_by (first.Op calls.Write) (client.now ∷ place.now ∷ texts rest.now)) }
+{
     let client = script_words::client(client)?;
     let place = script_words::place(place)?;
     let elements = io_elements(alloc, rest)?;
     let update = Shared::new(alloc, Update::Write(elements))?;
     Ok(Line::Call(client, Op::Write(place, update)))
+}
+
+// Whether there are words for one element or more, three for each, and not too many.
+#[inline(always)]
+fn are_groups(words: &[&[u8]]) -> bool
+    ensures { result ≡ counts_groups (length words.now) }
+{
+    if words.is_empty() || words.len() % 3 != 0 {
+        return false;
+    }
+    words.len() <= 3 * LINE_ELEMENTS_MAX
 }
 
 // The elements that the words say, three words each. One alone lies in place.
@@ -411,9 +515,19 @@ pub fn read_line(alloc: Global, words: &[&[u8]]) -> Result<Line, LineError>
     let [client, place, rest @ ..] = words else {
         return Err(LineError::Fault(Reason::Count));
     };
-    if rest.is_empty() || rest.len() % 3 != 0 || 3 * LINE_ELEMENTS_MAX < rest.len() {
+    if !are_groups(rest) {
         return Err(LineError::Fault(Reason::Count));
     }
+    read_words(alloc, client, place, rest)
+}
+
+// The same of its words, in groups of three.
+#[inline(always)]
+#[tactic(auto, unfolding(crate::specs::Table::said_by))]
+fn read_words(alloc: Global, client: &[u8], place: &[u8], rest: &[&[u8]]) -> Result<Line, LineError>
+    requires { counts_groups (length rest.now) ≡ true }
+    ensures { Reads result (said_by (first.Op calls.Read) (client.now ∷ place.now ∷ texts rest.now)) }
+{
     let client = script_words::client(client)?;
     let place = script_words::place(place)?;
     let elements = read_elements(alloc, rest)?;

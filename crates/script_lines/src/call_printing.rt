@@ -1,11 +1,11 @@
 //! How each call line is spelled.
 ghost use Rattle.std.specs.Prelude.{◌≡◌, ◌++◌, ◌∷◌, [], OnOk, codes, decimal, map, option_map, flat_map};
-ghost use Rattle.script_lines.specs.Spelling.{spell_all, spell_more, tail_text, written_update, written_call, attributes_values, io_values, read_values};
+ghost use Rattle.script_lines.specs.Spelling.{spell_all, spell_more, tail_text, with_spaces, written_update, written_call, attributes_values, io_values, read_values};
 ghost use Rattle.ckpt_types.specs.declared.words.OpWord.TheVariants as calls;
 ghost use Rattle.ckpt_types.specs.OpWord.{op_text};
 ghost use Rattle.ckpt_types.specs.Spelling.{bytes_text};
 ghost use Rattle.script_words.specs.Spelling.{spell};
-ghost use Rattle.script_words.specs.Words.{a_client, a_place};
+ghost use Rattle.script_words.specs.Words.{a_client, a_place, a_time, an_iteration};
 ghost use Rattle.script_lines.specs.Table.{attributes, io_group, read_group};
 ghost use Rattle.ckpt_types.specs.declared.operation.Op.TheVariants as ops;
 ghost use Rattle.ckpt_types.specs.declared.update.Update.TheVariants as updates;
@@ -51,25 +51,25 @@ pub fn write_call(alloc: Global, out: &mut Vec<u8>, client: u8, op: &Op) -> Resu
             *flags,
             *attributes.value(),
         ),
-        Op::Close(place) => close_call(out, client, *place),
+        Op::Close(place) => handle_call(out, b"close", client, *place),
         Op::Unlink(name) => unlink_call(alloc, out, client, name.value()),
-        Op::Retain(place, duration) => retain_call(out, client, *place, *duration),
-        Op::Active(place) => active_call(out, client, *place),
-        Op::Status(place) => status_call(out, client, *place),
-        Op::Create(place, update) => create_call(alloc, out, client, *place, update.value()),
-        Op::Delete(place, update) => delete_call(alloc, out, client, *place, update.value()),
-        Op::Expire(place, update) => expire_call(alloc, out, client, *place, update.value()),
+        Op::Retain(place, duration) => timed_call(out, b"retain", client, *place, *duration),
+        Op::Active(place) => handle_call(out, b"active", client, *place),
+        Op::Status(place) => handle_call(out, b"status", client, *place),
+        Op::Create(place, update) => write_update(alloc, out, client, *place, update.value()),
+        Op::Delete(place, update) => write_update(alloc, out, client, *place, update.value()),
+        Op::Expire(place, update) => write_update(alloc, out, client, *place, update.value()),
         Op::Iter(iteration, place, choice, time) => {
             iter_call(out, client, *iteration, *place, *choice, *time)
         }
-        Op::Next(iteration) => next_call(out, client, *iteration),
-        Op::EndIter(iteration) => end_iter_call(out, client, *iteration),
-        Op::Write(place, update) => write_update_call(alloc, out, client, *place, update.value()),
-        Op::Over(place, update) => over_call(alloc, out, client, *place, update.value()),
+        Op::Next(iteration) => iteration_call(out, b"next", client, *iteration),
+        Op::EndIter(iteration) => iteration_call(out, b"enditer", client, *iteration),
+        Op::Write(place, update) => write_update(alloc, out, client, *place, update.value()),
+        Op::Over(place, update) => write_update(alloc, out, client, *place, update.value()),
         Op::Read(place, elements) => {
             read_call(alloc, out, client, *place, elements.value().as_slice())
         }
-        Op::Sync(place, timeout) => sync_call(out, client, *place, *timeout),
+        Op::Sync(place, timeout) => timed_call(out, b"sync", client, *place, *timeout),
         Op::SyncAsync(place, invocation) => sync_async_call(out, client, *place, *invocation),
         Op::Dispatch(flags) => dispatch_call(out, client, *flags),
         Op::Copy => copy_call(out, client),
@@ -114,9 +114,7 @@ fn open_call(
 ) -> Result<(), AllocError>
     ensures { OnOk result (out.new.items ≡ out.old.items ++ written_call client (ops.Open place name.now flags timeout attributes)) }
 {
-    out.extend_from_slice(b"open")?;
-    write_client(out, client)?;
-    write_place(out, place)?;
+    handle_call(out, b"open", client, place)?;
     write_name_and_flags(alloc, out, name, flags)?;
     write_time(out, timeout)?;
     write_more(out, attributes)
@@ -148,9 +146,7 @@ fn write_async_front(
 ) -> Result<(), AllocError>
     ensures { OnOk result (out.new.items ≡ out.old.items ++ op_text calls.OpenAsync ++ tail_text (spell a_client client ∷ spell a_place place ∷ decimal invocation ∷ [])) }
 {
-    out.extend_from_slice(b"openasync")?;
-    write_client(out, client)?;
-    write_place(out, place)?;
+    handle_call(out, b"openasync", client, place)?;
     write_number(out, invocation)
 }
 
@@ -203,13 +199,41 @@ fn write_attributes(out: &mut Vec<u8>, declared: CreationAttributes) -> Result<(
     write_number(out, declared.max_section_id_size)
 }
 
-#[tactic(auto, unfolding(crate::specs::Spelling::written_call))]
-fn close_call(out: &mut Vec<u8>, client: u8, place: u8) -> Result<(), AllocError>
-    ensures { OnOk result (out.new.items ≡ out.old.items ++ written_call client (ops.Close place)) }
+// The first word, the client, and the place of a handle, with which most calls begin.
+fn handle_call(out: &mut Vec<u8>, word: &[u8], client: u8, place: u8) -> Result<(), AllocError>
+    ensures { OnOk result (out.new.items ≡ out.old.items ++ with_spaces (word.now ∷ spell a_client client ∷ spell a_place place ∷ [])) }
 {
-    out.extend_from_slice(b"close")?;
+    out.extend_from_slice(word)?;
     write_client(out, client)?;
     write_place(out, place)
+}
+
+// The same, and a time.
+fn timed_call(
+    out: &mut Vec<u8>,
+    word: &[u8],
+    client: u8,
+    place: u8,
+    time: Moment,
+) -> Result<(), AllocError>
+    ensures { OnOk result (out.new.items ≡ out.old.items ++ with_spaces (word.now ∷ spell a_client client ∷ spell a_place place ∷ spell a_time time ∷ [])) }
+{
+    handle_call(out, word, client, place)?;
+    write_time(out, time)
+}
+
+// The first word, the client, and the place of an iteration.
+fn iteration_call(
+    out: &mut Vec<u8>,
+    word: &[u8],
+    client: u8,
+    iteration: u8,
+) -> Result<(), AllocError>
+    ensures { OnOk result (out.new.items ≡ out.old.items ++ with_spaces (word.now ∷ spell a_client client ∷ spell an_iteration iteration ∷ [])) }
+{
+    out.extend_from_slice(word)?;
+    write_client(out, client)?;
+    write_iteration(out, iteration)
 }
 
 #[tactic(auto, unfolding(crate::specs::Spelling::written_call))]
@@ -219,34 +243,6 @@ fn unlink_call(alloc: Global, out: &mut Vec<u8>, client: u8, name: &Bytes) -> Re
     out.extend_from_slice(b"unlink")?;
     write_client(out, client)?;
     write_bytes(alloc, out, name.as_slice())
-}
-
-#[tactic(auto, unfolding(crate::specs::Spelling::written_call))]
-fn retain_call(out: &mut Vec<u8>, client: u8, place: u8, duration: Moment) -> Result<(), AllocError>
-    ensures { OnOk result (out.new.items ≡ out.old.items ++ written_call client (ops.Retain place duration)) }
-{
-    out.extend_from_slice(b"retain")?;
-    write_client(out, client)?;
-    write_place(out, place)?;
-    write_time(out, duration)
-}
-
-#[tactic(auto, unfolding(crate::specs::Spelling::written_call))]
-fn active_call(out: &mut Vec<u8>, client: u8, place: u8) -> Result<(), AllocError>
-    ensures { OnOk result (out.new.items ≡ out.old.items ++ written_call client (ops.Active place)) }
-{
-    out.extend_from_slice(b"active")?;
-    write_client(out, client)?;
-    write_place(out, place)
-}
-
-#[tactic(auto, unfolding(crate::specs::Spelling::written_call))]
-fn status_call(out: &mut Vec<u8>, client: u8, place: u8) -> Result<(), AllocError>
-    ensures { OnOk result (out.new.items ≡ out.old.items ++ written_call client (ops.Status place)) }
-{
-    out.extend_from_slice(b"status")?;
-    write_client(out, client)?;
-    write_place(out, place)
 }
 
 #[tactic(auto, unfolding(crate::specs::Spelling::written_call))]
@@ -269,34 +265,6 @@ fn iter_call(
 }
 
 #[tactic(auto, unfolding(crate::specs::Spelling::written_call))]
-fn next_call(out: &mut Vec<u8>, client: u8, iteration: u8) -> Result<(), AllocError>
-    ensures { OnOk result (out.new.items ≡ out.old.items ++ written_call client (ops.Next iteration)) }
-{
-    out.extend_from_slice(b"next")?;
-    write_client(out, client)?;
-    write_iteration(out, iteration)
-}
-
-#[tactic(auto, unfolding(crate::specs::Spelling::written_call))]
-fn end_iter_call(out: &mut Vec<u8>, client: u8, iteration: u8) -> Result<(), AllocError>
-    ensures { OnOk result (out.new.items ≡ out.old.items ++ written_call client (ops.EndIter iteration)) }
-{
-    out.extend_from_slice(b"enditer")?;
-    write_client(out, client)?;
-    write_iteration(out, iteration)
-}
-
-#[tactic(auto, unfolding(crate::specs::Spelling::written_call))]
-fn sync_call(out: &mut Vec<u8>, client: u8, place: u8, timeout: Moment) -> Result<(), AllocError>
-    ensures { OnOk result (out.new.items ≡ out.old.items ++ written_call client (ops.Sync place timeout)) }
-{
-    out.extend_from_slice(b"sync")?;
-    write_client(out, client)?;
-    write_place(out, place)?;
-    write_time(out, timeout)
-}
-
-#[tactic(auto, unfolding(crate::specs::Spelling::written_call))]
 fn sync_async_call(
     out: &mut Vec<u8>,
     client: u8,
@@ -305,9 +273,7 @@ fn sync_async_call(
 ) -> Result<(), AllocError>
     ensures { OnOk result (out.new.items ≡ out.old.items ++ written_call client (ops.SyncAsync place invocation)) }
 {
-    out.extend_from_slice(b"syncasync")?;
-    write_client(out, client)?;
-    write_place(out, place)?;
+    handle_call(out, b"syncasync", client, place)?;
     write_number(out, invocation)
 }
 
@@ -338,75 +304,8 @@ fn read_call(
 ) -> Result<(), AllocError>
     ensures { OnOk result (out.new.items ≡ out.old.items ++ written_call client (ops.Read place elements.now)) }
 {
-    out.extend_from_slice(b"read")?;
-    write_client(out, client)?;
-    write_place(out, place)?;
+    handle_call(out, b"read", client, place)?;
     read_elements(alloc, out, elements)
-}
-
-#[tactic(auto, unfolding(crate::specs::Spelling::written_call, crate::specs::Spelling::written_update))]
-fn create_call(
-    alloc: Global,
-    out: &mut Vec<u8>,
-    client: u8,
-    place: u8,
-    update: &Update,
-) -> Result<(), AllocError>
-    ensures { OnOk result (out.new.items ≡ out.old.items ++ written_call client (ops.Create place update.now)) }
-{
-    write_update(alloc, out, client, place, update)
-}
-
-#[tactic(auto, unfolding(crate::specs::Spelling::written_call, crate::specs::Spelling::written_update))]
-fn delete_call(
-    alloc: Global,
-    out: &mut Vec<u8>,
-    client: u8,
-    place: u8,
-    update: &Update,
-) -> Result<(), AllocError>
-    ensures { OnOk result (out.new.items ≡ out.old.items ++ written_call client (ops.Delete place update.now)) }
-{
-    write_update(alloc, out, client, place, update)
-}
-
-#[tactic(auto, unfolding(crate::specs::Spelling::written_call, crate::specs::Spelling::written_update))]
-fn expire_call(
-    alloc: Global,
-    out: &mut Vec<u8>,
-    client: u8,
-    place: u8,
-    update: &Update,
-) -> Result<(), AllocError>
-    ensures { OnOk result (out.new.items ≡ out.old.items ++ written_call client (ops.Expire place update.now)) }
-{
-    write_update(alloc, out, client, place, update)
-}
-
-#[tactic(auto, unfolding(crate::specs::Spelling::written_call, crate::specs::Spelling::written_update))]
-fn write_update_call(
-    alloc: Global,
-    out: &mut Vec<u8>,
-    client: u8,
-    place: u8,
-    update: &Update,
-) -> Result<(), AllocError>
-    ensures { OnOk result (out.new.items ≡ out.old.items ++ written_call client (ops.Write place update.now)) }
-{
-    write_update(alloc, out, client, place, update)
-}
-
-#[tactic(auto, unfolding(crate::specs::Spelling::written_call, crate::specs::Spelling::written_update))]
-fn over_call(
-    alloc: Global,
-    out: &mut Vec<u8>,
-    client: u8,
-    place: u8,
-    update: &Update,
-) -> Result<(), AllocError>
-    ensures { OnOk result (out.new.items ≡ out.old.items ++ written_call client (ops.Over place update.now)) }
-{
-    write_update(alloc, out, client, place, update)
 }
 
 // The words of an update: what it is tells the first.
@@ -443,9 +342,7 @@ fn elements_update(
 ) -> Result<(), AllocError>
     ensures { OnOk result (out.new.items ≡ out.old.items ++ written_update client place (updates.Write elements.now)) }
 {
-    out.extend_from_slice(b"write")?;
-    write_client(out, client)?;
-    write_place(out, place)?;
+    handle_call(out, b"write", client, place)?;
     io_elements(alloc, out, elements)
 }
 
@@ -460,9 +357,7 @@ fn overwrite_update(
 ) -> Result<(), AllocError>
     ensures { OnOk result (out.new.items ≡ out.old.items ++ written_update client place (updates.Overwrite id.now text.now)) }
 {
-    out.extend_from_slice(b"over")?;
-    write_client(out, client)?;
-    write_place(out, place)?;
+    handle_call(out, b"over", client, place)?;
     write_id(alloc, out, id)?;
     write_bytes(alloc, out, text.as_slice())
 }
@@ -479,9 +374,7 @@ fn create_update(
 ) -> Result<(), AllocError>
     ensures { OnOk result (out.new.items ≡ out.old.items ++ written_update client place (updates.Create id.now expiration text.now)) }
 {
-    out.extend_from_slice(b"create")?;
-    write_client(out, client)?;
-    write_place(out, place)?;
+    handle_call(out, b"create", client, place)?;
     write_new_id(alloc, out, id)?;
     write_time(out, expiration)?;
     write_bytes(alloc, out, text.as_slice())
@@ -497,9 +390,7 @@ fn delete_update(
 ) -> Result<(), AllocError>
     ensures { OnOk result (out.new.items ≡ out.old.items ++ written_update client place (updates.Delete id.now)) }
 {
-    out.extend_from_slice(b"delete")?;
-    write_client(out, client)?;
-    write_place(out, place)?;
+    handle_call(out, b"delete", client, place)?;
     write_id(alloc, out, id)
 }
 
@@ -514,9 +405,7 @@ fn expiration_update(
 ) -> Result<(), AllocError>
     ensures { OnOk result (out.new.items ≡ out.old.items ++ written_update client place (updates.SetExpiration id.now expiration)) }
 {
-    out.extend_from_slice(b"expire")?;
-    write_client(out, client)?;
-    write_place(out, place)?;
+    handle_call(out, b"expire", client, place)?;
     write_id(alloc, out, id)?;
     write_time(out, expiration)
 }
@@ -525,9 +414,7 @@ fn expiration_update(
 fn nothing_update(out: &mut Vec<u8>, client: u8, place: u8) -> Result<(), AllocError>
     ensures { OnOk result (out.new.items ≡ out.old.items ++ written_update client place (updates.Nothing)) }
 {
-    out.extend_from_slice(b"write")?;
-    write_client(out, client)?;
-    write_place(out, place)
+    handle_call(out, b"write", client, place)
 }
 
 fn io_elements(alloc: Global, out: &mut Vec<u8>, elements: &[IoElement]) -> Result<(), AllocError>

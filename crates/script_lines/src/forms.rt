@@ -4,6 +4,7 @@ ghost use Rattle.ckpt_types.specs.declared.words.FirstWord.TheVariants as first;
 ghost use Rattle.script_words.specs.Reasons.{Reads};
 ghost use Rattle.script_lines.specs.Table.{texts, first_word_of, word_of_first, word_of_second, word_of_third, is_later as spec_is_later, may_begin as spec_may_begin, only_begun as spec_begun, said_by, plain_by, begun_by, begin};
 
+use crate::call_shapes::{HandleCall, IterationCall, TimedCall};
 use crate::lines::Line;
 use crate::{call_forms, line_forms};
 use ckpt_types::{ActorName, FirstWord, Op, OpWord};
@@ -95,21 +96,21 @@ fn call_named(alloc: Global, call: OpWord, words: &[&[u8]]) -> Result<Line, Line
         OpWord::Finalize => call_forms::finalize_line(words),
         OpWord::Open => call_forms::open_line(alloc, words),
         OpWord::OpenAsync => call_forms::open_async_line(alloc, words),
-        OpWord::Close => call_forms::close_line(words),
+        OpWord::Close => call_forms::handle_line(HandleCall::Close, words),
         OpWord::Unlink => call_forms::unlink_line(alloc, words),
-        OpWord::Retain => call_forms::retain_line(words),
-        OpWord::Active => call_forms::active_line(words),
-        OpWord::Status => call_forms::status_line(words),
+        OpWord::Retain => call_forms::timed_line(TimedCall::Retain, words),
+        OpWord::Active => call_forms::handle_line(HandleCall::Active, words),
+        OpWord::Status => call_forms::handle_line(HandleCall::Status, words),
         OpWord::Create => call_forms::create_line(alloc, words),
         OpWord::Delete => call_forms::delete_line(alloc, words),
         OpWord::Expire => call_forms::expire_line(alloc, words),
         OpWord::Iter => call_forms::iter_line(words),
-        OpWord::Next => call_forms::next_line(words),
-        OpWord::EndIter => call_forms::end_iter_line(words),
+        OpWord::Next => call_forms::iteration_line(IterationCall::Next, words),
+        OpWord::EndIter => call_forms::iteration_line(IterationCall::EndIter, words),
         OpWord::Write => call_forms::write_line(alloc, words),
         OpWord::Over => call_forms::over_line(alloc, words),
         OpWord::Read => call_forms::read_line(alloc, words),
-        OpWord::Sync => call_forms::sync_line(words),
+        OpWord::Sync => call_forms::timed_line(TimedCall::Sync, words),
         OpWord::SyncAsync => call_forms::sync_async_line(words),
         OpWord::Dispatch => call_forms::dispatch_line(words),
         OpWord::Copy => line_forms::copy_line(words),

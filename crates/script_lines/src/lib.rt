@@ -3,6 +3,7 @@
 
 mod call_forms;
 mod call_printing;
+mod call_shapes;
 mod forms;
 mod line_forms;
 mod lines;
