@@ -1,0 +1,9 @@
+use Rattle.std.proofs.Common.{◌∙◌}
+use Rattle.run_labels.specs.Callbacks.{callback_line}
+use Rattle.run_labels.proofs.EachText.{append-flat_map-next}
+use Rattle.run_labels.proofs.callbacks.append_each_callback.Goals as goal
+
+pub loop-callback-preserved : goal.loop-callback-preserved
+loop-callback-preserved c =
+    rw c.loop-callback.invariant at c.in_ok-append_callback.ensures
+    ∙ append-flat_map-next (callback_line c.args.client) c.args.out.now.items c.args.callbacks.now c.loop-callback.callback-index _ c.loop-callback-test.true
