@@ -4,7 +4,8 @@ ghost use Rattle.run_labels.specs.Events.{failed_text, fail_line, joined_text, j
 
 use crate::labels::{PullReply, PutReply};
 use crate::texts::{
-    append_call, append_ckpt, append_node, append_number, append_spaced, append_text, append_who,
+    append_ckpt, append_counted, append_node, append_of_call, append_spaced, append_text,
+    append_who,
 };
 use crate::words::{LineWord, Said};
 use ckpt_types::{CkptId, Incarnation, NodeId, Who};
@@ -49,10 +50,7 @@ fn append_joined(out: &mut Vec<u8>, incarnation: Option<Incarnation>) -> Result<
 {
     match incarnation {
         None => append_text(out, "LIVE"),
-        Some(incarnation) => {
-            append_text(out, "OK ")?;
-            append_number(out, u64::from(incarnation))
-        }
+        Some(incarnation) => append_counted(out, "OK ", u64::from(incarnation)),
     }
 }
 
@@ -76,14 +74,8 @@ fn append_pulled(out: &mut Vec<u8>, reply: PullReply) -> Result<(), AllocError>
     ensures { OnOk result (out.new.items ≡ out.old.items ++ pulled_text reply) }
 {
     match reply {
-        PullReply::Ok(count) => {
-            append_text(out, "OK ")?;
-            append_number(out, count)
-        }
-        PullReply::Held(call) => {
-            append_text(out, "HELD ")?;
-            append_call(out, call)
-        }
+        PullReply::Ok(count) => append_counted(out, "OK ", count),
+        PullReply::Held(call) => append_of_call(out, "HELD ", call),
         PullReply::Nothing => append_text(out, "NONE"),
     }
 }
@@ -111,19 +103,14 @@ fn append_put_reply(out: &mut Vec<u8>, reply: PutReply) -> Result<(), AllocError
     ensures { OnOk result (out.new.items ≡ out.old.items ++ put_text reply) }
 {
     match reply {
-        PutReply::Ok(count) => {
-            append_text(out, "OK ")?;
-            append_number(out, count)
-        }
+        PutReply::Ok(count) => append_counted(out, "OK ", count),
         PutReply::Nothing => append_text(out, "NONE"),
         PutReply::Stale(generation, present) => {
-            append_text(out, "STALE ")?;
-            append_number(out, generation)?;
+            append_counted(out, "STALE ", generation)?;
             append_spaced(out, present)
         }
         PutReply::Old(generation, count) => {
-            append_text(out, "OLD ")?;
-            append_number(out, generation)?;
+            append_counted(out, "OLD ", generation)?;
             append_spaced(out, count)
         }
     }

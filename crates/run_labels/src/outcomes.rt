@@ -9,8 +9,8 @@ use crate::fronts::{
     FRONT_ROOM, LONG_NUMBER, push_call, push_ok, push_read, push_word, push_write,
 };
 use crate::texts::{
-    append_call, append_ckpt, append_line_end, append_number, append_spaced, append_spaced_bytes,
-    append_spaced_state, append_spaced_time, append_text,
+    append_call, append_ckpt, append_line_end, append_number, append_of_call, append_spaced,
+    append_spaced_bytes, append_spaced_state, append_spaced_time, append_text,
 };
 use ckpt_types::{
     AisError, Answer, CallId, Cause, CheckpointDescriptor, CreationAttributes, MAJOR_MAX,
@@ -327,10 +327,7 @@ fn append_cause(out: &mut Vec<u8>, cause: Cause) -> Result<(), AllocError>
     match cause {
         Cause::Plain => Ok(()),
         Cause::Index(index) => append_spaced(out, u64::from(index)),
-        Cause::Holder(call) => {
-            append_text(out, " ")?;
-            append_call(out, call)
-        }
+        Cause::Holder(call) => append_of_call(out, " ", call),
         Cause::Generations(known, present) => {
             append_spaced(out, known)?;
             append_spaced(out, present)

@@ -5,7 +5,7 @@ ghost use Rattle.run_labels.specs.Shows.{slot_text, star_text, shown_section_tex
 
 use crate::shown::{ShownReplica, ShownReplicas, ShownSection, ShownSlot};
 use crate::texts::{
-    append_call, append_ckpt, append_node, append_number, append_spaced, append_spaced_bytes,
+    append_ckpt, append_counted, append_node, append_of_call, append_spaced, append_spaced_bytes,
     append_spaced_state, append_spaced_time, append_text,
 };
 use ckpt_types::{CkptId, NodeId};
@@ -73,10 +73,8 @@ fn append_front(
 fn append_counts(out: &mut Vec<u8>, generation: u64, count: u64) -> Result<(), AllocError>
     ensures { OnOk result (out.new.items ≡ out.old.items ++ replica_counts generation count) }
 {
-    append_text(out, " g")?;
-    append_number(out, generation)?;
-    append_text(out, " u")?;
-    append_number(out, count)
+    append_counted(out, " g", generation)?;
+    append_counted(out, " u", count)
 }
 
 /// The star of the active.
@@ -96,14 +94,8 @@ fn append_slot(out: &mut Vec<u8>, slot: &ShownSlot) -> Result<(), AllocError>
 {
     match slot {
         ShownSlot::Free => append_text(out, " free"),
-        ShownSlot::Held(call) => {
-            append_text(out, " held ")?;
-            append_call(out, *call)
-        }
-        ShownSlot::Mark(call) => {
-            append_text(out, " mark ")?;
-            append_call(out, *call)
-        }
+        ShownSlot::Held(call) => append_of_call(out, " held ", *call),
+        ShownSlot::Mark(call) => append_of_call(out, " mark ", *call),
     }
 }
 

@@ -3,7 +3,7 @@ ghost use Rattle.std.specs.Prelude.{◌≡◌, ◌++◌, OnOk};
 ghost use Rattle.run_labels.specs.Steps.{reply_text, step_ckpt_text, step_node_text, step_place_text, step_front, step_line, begin_line, moment_line};
 
 use crate::texts::{
-    append_call, append_ckpt, append_node, append_number, append_text, append_time,
+    append_call, append_ckpt, append_counted, append_node, append_of_call, append_text, append_time,
 };
 use crate::words::verb_word;
 use ckpt_types::{CallId, CkptId, Moment, NodeId, OpWord};
@@ -106,14 +106,8 @@ fn append_reply(out: &mut Vec<u8>, reply: StepReply) -> Result<(), AllocError>
     match reply {
         StepReply::Ok => append_text(out, "ok"),
         StepReply::Done => append_text(out, "done"),
-        StepReply::Held(call) => {
-            append_text(out, "held ")?;
-            append_call(out, call)
-        }
-        StepReply::Free(count) => {
-            append_text(out, "free ")?;
-            append_number(out, count)
-        }
+        StepReply::Held(call) => append_of_call(out, "held ", call),
+        StepReply::Free(count) => append_counted(out, "free ", count),
         StepReply::Refused => append_text(out, "refused"),
         StepReply::Older => append_text(out, "older"),
         StepReply::Memory => append_text(out, "memory"),

@@ -62,6 +62,22 @@ fn append_long(out: &mut Vec<u8>, number: u64) -> Result<(), AllocError>
     append_text(out, Buffer::new().format(number))
 }
 
+/// Adds a text and a number.
+pub(crate) fn append_counted(out: &mut Vec<u8>, text: &str, number: u64) -> Result<(), AllocError>
+    ensures { OnOk result (out.new.items ≡ out.old.items ++ (text.now ++ decimal number)) }
+{
+    append_text(out, text)?;
+    append_number(out, number)
+}
+
+/// Adds a text and a call.
+pub(crate) fn append_of_call(out: &mut Vec<u8>, text: &str, call: CallId) -> Result<(), AllocError>
+    ensures { OnOk result (out.new.items ≡ out.old.items ++ (text.now ++ call_text call)) }
+{
+    append_text(out, text)?;
+    append_call(out, call)
+}
+
 /// Adds a space and a number.
 pub(crate) fn append_spaced(out: &mut Vec<u8>, number: u64) -> Result<(), AllocError>
     ensures { OnOk result (out.new.items ≡ out.old.items ++ (codes " " ++ decimal number)) }
