@@ -63,6 +63,7 @@ fn append_long(out: &mut Vec<u8>, number: u64) -> Result<(), AllocError>
 }
 
 /// Adds a text and a number.
+#[inline(always)]
 pub(crate) fn append_counted(out: &mut Vec<u8>, text: &str, number: u64) -> Result<(), AllocError>
     ensures { OnOk result (out.new.items ≡ out.old.items ++ (text.now ++ decimal number)) }
 {
@@ -71,6 +72,7 @@ pub(crate) fn append_counted(out: &mut Vec<u8>, text: &str, number: u64) -> Resu
 }
 
 /// Adds a text and a call.
+#[inline(always)]
 pub(crate) fn append_of_call(out: &mut Vec<u8>, text: &str, call: CallId) -> Result<(), AllocError>
     ensures { OnOk result (out.new.items ≡ out.old.items ++ (text.now ++ call_text call)) }
 {
