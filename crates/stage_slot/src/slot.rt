@@ -1,8 +1,9 @@
 //! A slot: empty, or with one staged update and the call that owns it.
-ghost use Rattle.std.specs.Prelude.{◌≡◌, None, MatchOption, Some};
+ghost use Rattle.std.specs.Prelude.{◌≡◌, IfOk, None, MatchOption, Some};
 ghost use Rattle.stage_slot.specs.Slots.{owner_of, IsOwnedBy, IsStage, IsClaim};
 
 use ckpt_types::{CallId, Held, Moment, SharedUpdate};
+use std::alloc::{AllocError, Global};
 use std::marker::Model;
 
 /// An update that is staged.
@@ -26,6 +27,20 @@ impl Model for Staged {
     ghost use Rattle.stage_slot.specs.SlotView.{staged_shown};
 
     ghost view = { staged_shown };
+}
+
+impl Staged {
+    // An equal one, with a share of the update.
+    fn copy(&self) -> Result<Staged, AllocError>
+        ensures { IfOk result (λ copy. copy ≡ self.now) }
+    {
+        Ok(Staged {
+            owner: self.owner,
+            update: self.update.share()?,
+            moment: self.moment,
+            count: self.count,
+        })
+    }
 }
 
 /// What a claim finds.
@@ -134,5 +149,18 @@ impl Slot {
         };
         prove!(staged.owner == by);
         self.staged = None;
+    }
+
+    /// An equal slot, with a share of the update. It takes no memory, and fails only where the shares can't be counted.
+    pub fn copy(&self, _alloc: Global) -> Result<Slot, AllocError>
+        ensures { IfOk result (λ copy. copy ≡ self.now) }
+    {
+        match &self.staged {
+            None => Ok(Slot::empty()),
+            Some(staged) => {
+                let copy = staged.copy()?;
+                Ok(Slot { staged: Some(copy) })
+            }
+        }
     }
 }
