@@ -1,8 +1,9 @@
 //! Marks: none, or those of the one weak write that is under way.
-ghost use Rattle.std.specs.Prelude.{◌≡◌, ◌-◌, ◌<◌, ◌^◌, true, None, Some, MatchOption, length, slice_get};
+ghost use Rattle.std.specs.Prelude.{◌≡◌, ◌-◌, ◌<◌, ◌^◌, true, None, Some, IfOk, MatchOption, length, slice_get};
 ghost use Rattle.weak_marks.specs.Marks.{call_of, elements_in, is_left, is_left_of, next_place, with_next_done, IsBegin, IsMarkedBy};
 
 use ckpt_types::{CallId, Held, IoElement, Moment, SharedUpdate, Update};
+use std::alloc::{AllocError, Global};
 use std::marker::Model;
 
 /// A weak write that is under way.
@@ -52,6 +53,19 @@ impl Marked {
         ensures room { result ≡ true → self.now.done < 2 ^ 32 - 1 }
     {
         (self.done as usize) < self.elements().len()
+    }
+
+    // An equal one, with a share of the write.
+    fn copy(&self) -> Result<Marked, AllocError>
+        ensures { IfOk result (λ copy. copy ≡ self.now) }
+    {
+        Ok(Marked {
+            call: self.call,
+            update: self.update.share()?,
+            moment: self.moment,
+            done: self.done,
+            generation: self.generation,
+        })
     }
 }
 
@@ -161,6 +175,19 @@ impl Marks {
         };
         prove!(marked.call == by);
         self.marked = None;
+    }
+
+    /// Equal marks, with a share of the write. It takes no memory, and fails only where the shares can't be counted.
+    pub fn copy(&self, _alloc: Global) -> Result<Marks, AllocError>
+        ensures { IfOk result (λ copy. copy ≡ self.now) }
+    {
+        match &self.marked {
+            None => Ok(Marks::empty()),
+            Some(marked) => {
+                let copy = marked.copy()?;
+                Ok(Marks { marked: Some(copy) })
+            }
+        }
     }
 }
 
