@@ -63,7 +63,7 @@ impl Model for Replica {
 
 impl Replica {
     /// A replica with the sections that a checkpoint with these attributes has when it is opened, made at this
-    /// moment. All storage for what they declare is taken here: no later call takes memory.
+    /// moment. All storage for what they declare is taken here: no later call but `copy` takes memory.
     pub fn reserve(
         alloc: Global,
         ckpt: CkptId,
@@ -80,6 +80,20 @@ impl Replica {
             generation: 1,
             slot: Slot::empty(),
             marks: Marks::empty(),
+        })
+    }
+
+    /// An equal replica, with storage of its own, and shares of what is staged and of the weak write.
+    pub fn copy(&self, alloc: Global) -> Result<Replica, AllocError>
+        ensures { IfOk result (λ copy. copy ≡ self.now) }
+    {
+        Ok(Replica {
+            ckpt: self.ckpt,
+            store: self.store.copy(alloc)?,
+            count: self.count,
+            generation: self.generation,
+            slot: self.slot.copy(alloc)?,
+            marks: self.marks.copy(alloc)?,
         })
     }
 
