@@ -1,5 +1,5 @@
 //! The driver of the calls to the active replica alone.
-ghost use Rattle.std.specs.Prelude.{◌≡◌, ℕ, Some};
+ghost use Rattle.std.specs.Prelude.{◌≡◌, ℕ, IfOk, Some};
 ghost use Rattle.node_msgs.specs.Requests.{ckpt_of};
 ghost use Rattle.node_msgs.specs.Steps.{verb_of};
 ghost use Rattle.cluster_record.specs.DueActive.{active_begun, on_active, active_next, active_request, starts_iteration, is_update, unless_on_hold, unless_changed, weak_request, elements_of_kind, element_taken, active_taken};
@@ -9,6 +9,7 @@ ghost use Rattle.cluster_record.specs.StepDone.{done_of, generation_in};
 use ckpt_types::{AisError, CallId, Cause, CkptId, ITERATIONS_MAX, NodeId, Outcome};
 use cluster_record::{ActiveKind, MarksMade, Record};
 use node_msgs::{Next, Request, StepReply};
+use std::alloc::{AllocError, Global};
 use std::marker::Model;
 
 /// The driver of a call that goes to the active replica alone.
@@ -42,6 +43,18 @@ impl ActiveCall {
             kind,
             marks: None,
         }
+    }
+
+    /// An equal call. It takes no memory.
+    pub fn copy(&self, _alloc: Global) -> Result<ActiveCall, AllocError>
+        ensures { IfOk result (λ copy. copy ≡ self.now) }
+    {
+        Ok(ActiveCall {
+            call: self.call,
+            ckpt: self.ckpt,
+            kind: self.kind,
+            marks: self.marks,
+        })
     }
 
     /// What it does next; `room` tells whether its client has a free place for an iteration.

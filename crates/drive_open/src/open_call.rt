@@ -14,7 +14,7 @@ use ckpt_types::{
 };
 use cluster_record::{Entry, Making, OpenAnswer, Record, accepts, first_lacking, in_time};
 use node_msgs::{Next, RecordStep, Request, StepReply};
-use std::alloc::AllocError;
+use std::alloc::{AllocError, Global};
 use std::marker::Model;
 
 /// What an open asks of the record, whose name and attributes its operation and the log share.
@@ -66,6 +66,18 @@ impl SharedAsk {
             node: self.node,
         })
     }
+
+    // An equal one, with shares of the name and the attributes.
+    fn copy(&self) -> Result<SharedAsk, AllocError>
+        ensures { IfOk result (λ copy. copy ≡ self.now) }
+    {
+        Ok(SharedAsk {
+            name: self.name.share()?,
+            attributes: self.attributes.share()?,
+            client: self.client,
+            node: self.node,
+        })
+    }
 }
 
 /// The driver of an open.
@@ -100,6 +112,19 @@ impl OpenCall {
             deadline,
             making: None,
         }
+    }
+
+    /// An equal call, with shares of the name and the attributes. It takes no memory, and fails only where the shares
+    /// can't be counted.
+    pub fn copy(&self, _alloc: Global) -> Result<OpenCall, AllocError>
+        ensures { IfOk result (λ copy. copy ≡ self.now) }
+    {
+        Ok(OpenCall {
+            call: self.call,
+            ask: self.ask.copy()?,
+            deadline: self.deadline,
+            making: self.making,
+        })
     }
 
     /// What it asks of the record.

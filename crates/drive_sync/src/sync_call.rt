@@ -1,5 +1,5 @@
 //! The driver of Synchronize, and of ActiveReplicaSet.
-ghost use Rattle.std.specs.Prelude.{◌≡◌, ◌<◌, IfSome, Some};
+ghost use Rattle.std.specs.Prelude.{◌≡◌, ◌<◌, IfOk, IfSome, Some};
 ghost use Rattle.ckpt_types.specs.declared.ais_error.AisError.TheVariants.{NotExist};
 ghost use Rattle.ckpt_types.specs.declared.answers.Cause.TheVariants.{Plain};
 ghost use Rattle.ckpt_types.specs.declared.answers.Outcome.TheVariants.{Refused};
@@ -16,6 +16,7 @@ use ckpt_types::{
 };
 use cluster_record::{Entry, PulledAt, Record, SyncKind, in_time};
 use node_msgs::{Next, RecordStep, Request, StepReply};
+use std::alloc::{AllocError, Global};
 use std::marker::Model;
 
 /// The driver of a call that brings what the active has to other replicas.
@@ -52,6 +53,19 @@ impl SyncCall {
             pulled: None,
             served: [false; NODES_MAX],
         }
+    }
+
+    /// An equal call. It takes no memory.
+    pub fn copy(&self, _alloc: Global) -> Result<SyncCall, AllocError>
+        ensures { IfOk result (λ copy. copy ≡ self.now) }
+    {
+        Ok(SyncCall {
+            call: self.call,
+            ckpt: self.ckpt,
+            kind: self.kind,
+            pulled: self.pulled,
+            served: self.served,
+        })
     }
 
     /// The checkpoint that it is about.

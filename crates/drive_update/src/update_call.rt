@@ -1,5 +1,5 @@
 //! The driver of an update on all replicas.
-ghost use Rattle.std.specs.Prelude.{◌≡◌, ◌<◌, Some, is_some, slice_set, slice_index};
+ghost use Rattle.std.specs.Prelude.{◌≡◌, ◌<◌, IfOk, Some, is_some, slice_set, slice_index};
 ghost use Rattle.ckpt_types.specs.Limits.{nodes_max};
 ghost use Rattle.node_msgs.specs.declared.steps.StepReply.TheVariants as words;
 ghost use Rattle.node_msgs.specs.declared.steps.Verb.TheVariants as verbs;
@@ -14,6 +14,7 @@ ghost use Rattle.drive_update.specs.UpdateStates.{IsOfUpdate};
 use ckpt_types::{AisError, Answer, CallId, Cause, CkptId, Moment, NODES_MAX, NodeId, Outcome};
 use cluster_record::{Record, UpdatePhase, first_lacking, has_any, last_having};
 use node_msgs::{Next, Request};
+use std::alloc::{AllocError, Global};
 use std::marker::Model;
 
 /// The driver of an update on a checkpoint whose replicas all have it before it is answered.
@@ -55,6 +56,20 @@ impl UpdateCall {
             moment: 0,
             phase: UpdatePhase::Staging,
         }
+    }
+
+    /// An equal call. It takes no memory.
+    pub fn copy(&self, _alloc: Global) -> Result<UpdateCall, AllocError>
+        ensures { IfOk result (λ copy. copy ≡ self.now) }
+    {
+        Ok(UpdateCall {
+            call: self.call,
+            ckpt: self.ckpt,
+            owned: self.owned,
+            top: self.top,
+            moment: self.moment,
+            phase: self.phase,
+        })
     }
 
     /// What it does next.
