@@ -48,6 +48,7 @@ pub mod SnapshotPlaces
 pub mod SnapshotRooms
 pub mod Stepping
 pub mod TableFields
+pub mod TablePlaces
 pub mod Taken
 pub mod TakenRoom
 pub mod Told

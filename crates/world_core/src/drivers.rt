@@ -46,7 +46,7 @@ use std::alloc::AllocError;
 use std::marker::Model;
 
 /// What drives a call that is in hand.
-#[derive(Debug, Drop)]
+#[derive(Drop)]
 pub struct Driver {
     /// By the kind of its operation.
     pub kind: DriverKind,
@@ -63,7 +63,7 @@ impl Model for Driver {
 }
 
 /// What drives the calls of each kind of operation.
-#[derive(Debug, Drop)]
+#[derive(Drop)]
 pub enum DriverKind {
     /// A call of one step of the record.
     Once(OneStep),

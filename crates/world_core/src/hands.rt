@@ -358,8 +358,16 @@ pub fn let_go(slot: &mut Option<InHand>, end: &Option<Outcome>)
     ensures { slot.new ≡ option_and_then (left end.now) slot.old }
 {
     if end.is_some() {
-        *slot = None;
+        clear(slot);
     }
+}
+
+/// The call of a place is in hand no more. What it owns is given back here, and its callers know nothing of that.
+#[inline(always)]
+pub fn clear(slot: &mut Option<InHand>)
+    ensures { slot.new ≡ None }
+{
+    *slot = None;
 }
 
 fn new_places(alloc: Global) -> Result<Vec<Option<InHand>>, AllocError>

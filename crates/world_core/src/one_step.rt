@@ -13,7 +13,7 @@ use cluster_record::{Entry, Record};
 use node_msgs::{Next, RecordStep};
 
 /// What a call of one step does.
-#[derive(Debug, Drop)]
+#[derive(Drop)]
 pub enum OneStep {
     /// A client becomes live on the node.
     Enter(NodeId),

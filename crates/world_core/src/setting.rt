@@ -10,6 +10,7 @@ ghost use Rattle.world_core.specs.Leading.{copy_held, nodes_led, CanLead, HasFre
 ghost use Rattle.world_core.specs.Nodes.{replica_in};
 ghost use Rattle.world_core.specs.Shows.{HasNumbersLeft, IsShown};
 
+use crate::hands::clear;
 use crate::messages::stepped;
 use crate::nodes::Nodes;
 use crate::world::World;
@@ -37,7 +38,7 @@ impl World {
         let ckpt = hand.synchronized();
         match hand.copy(&self.nodes, r, ckpt) {
             Err(held) => {
-                *slot = None;
+                clear(slot);
                 let reply = StepReply::Held(held.by);
                 let end = Some(Outcome::Refused(AisError::TryAgain, Cause::Holder(held.by)));
                 self.end_alone(who, &end);
@@ -78,7 +79,7 @@ impl World {
         let op = hand.word();
         let ckpt = hand.synchronized();
         let held = copy_held(&self.cluster, ckpt, hand.lend_snapshot());
-        *slot = None;
+        clear(slot);
         self.cluster.set_active(ckpt, r);
         self.cluster.sweep();
         self.free_gone();

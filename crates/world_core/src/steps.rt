@@ -29,7 +29,7 @@ ghost use Rattle.ckpt_types.specs.Limits.{client_numbers, nodes_max};
 use crate::applying::apply;
 use crate::details::told_details;
 use crate::drivers::{DriverKind, event_ckpt, event_end, event_node, event_refusal};
-use crate::hands::{Hands, client_by, hand_over, let_go};
+use crate::hands::{Hands, clear, client_by, hand_over, let_go};
 use crate::iterating::{keep_iteration, lend_iteration};
 use crate::lending::lent_by;
 use crate::messages::{look_word, served, stepped};
@@ -264,7 +264,7 @@ impl World {
         let op = hand.word();
         let ckpt = event_ckpt(&self.cluster, &hand.driver, &step);
         let node = event_node(&hand.driver, &step);
-        *slot = None;
+        clear(slot);
         let end = Some(end);
         self.end_alone(who, &end);
         log.push(stepped(call, op, step.verb(), ckpt, node, reply, end));
@@ -300,7 +300,7 @@ impl World {
             step,
         );
         if applied.is_err() {
-            *slot = None;
+            clear(slot);
             let end = Some(Outcome::NoMemory);
             self.end_alone(who, &end);
             log.push(stepped(call, op, verb, ckpt, node, StepReply::Memory, end));
@@ -335,7 +335,7 @@ impl World {
         let c = client_by(who);
         let closed = self.tables.handle_closed(c, &hand.op);
         settle_look(&mut self.tables, c, &hand.op, &end);
-        *slot = None;
+        clear(slot);
         self.let_go_with_look(c, &end, closed);
         self.unmake(making);
         let end = Some(end);

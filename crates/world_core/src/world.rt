@@ -17,7 +17,7 @@ use run_labels::RunLog;
 use std::alloc::{AllocError, Global};
 
 /// What may happen to the cluster.
-#[derive(Debug, Drop)]
+#[derive(Drop)]
 pub enum Event {
     /// The first nodes come up, so many.
     Nodes(u8),

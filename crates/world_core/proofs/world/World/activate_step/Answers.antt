@@ -1,11 +1,14 @@
 use Rattle.std.proofs.Common.{◌≡◌, Some, sym, ap, subst, ◌∙◌}
+use Rattle.std.specs.Prelude.{Option}
 use Rattle.node_msgs.specs.declared.next.Next.TheVariants.{Event}
 use Rattle.node_msgs.specs.declared.next.RecordStep.TheVariants.{Activate}
 use Rattle.run_labels.specs.declared.labels.Label.{Label}
 use Rattle.cluster_record.specs.RecordState.{entry_of, swept}
+use Rattle.world_core.specs.declared.hands.InHand.{InHand}
+use Rattle.world_core.specs.Freeing.{freed_world}
 use Rattle.world_core.specs.Happenings.{IsStep}
 use Rattle.world_core.specs.Leading.{copy_held}
-use Rattle.world_core.specs.HandsState.{hand_at}
+use Rattle.world_core.specs.HandsState.{hand_at, set_at}
 use Rattle.world_core.proofs.LeadSteps.{activates_one, lead_can, lead_node, lead_step}
 use Rattle.world_core.proofs.Held.{next_for}
 use Rattle.world_core.proofs.world.World.activate_step.Goals as goal
@@ -30,7 +33,7 @@ lead-requires-clause-can c =
     let hand = c.in-Some.hand in
     let held : hand_at w.hands c.args.who ≡ Some hand = c.at-slot.ensures.value ∙ c.in-Some.is in
     lead_can w c.args.who c.args.r hand held (next_for w c.args.who (Event (Activate c.args.r)) hand held c.requires.next) c.synchronized-ckpt.result c.synchronized-ckpt.ensures c.requires.shown c.free_gone.ensures.eight c.free_gone.new.self c.sweep.new.self c.copy_held-held.result
-    (c.sweep.ensures ∙ ap swept c.set_active.ensures) (c.copy_held-held.ensures ∙ ap (copy_held (entry_of c.synchronized-ckpt.result w.cluster.entries)) c.lend_snapshot.ensures.lent) c.free_gone.ensures.new
+    (c.sweep.ensures ∙ ap swept c.set_active.ensures) (c.copy_held-held.ensures ∙ ap (copy_held (entry_of c.synchronized-ckpt.result w.cluster.entries)) c.lend_snapshot.ensures.lent) (c.free_gone.ensures.new ∙ ap (λ (place : Option InHand). freed_world (record w { cluster = c.sweep.new.self; hands = set_at w.hands c.args.who place })) c.clear.ensures)
 
 pub returns : goal.returns
 returns c =
@@ -42,6 +45,6 @@ returns c =
       labels = c.push.ensures.labels;
       is = subst (λ (label : Label). IsStep c.args.who w c.end_alone.new.self label) (sym c.stepped.ensures)
           (lead_step w c.args.who c.args.r hand held (next_for w c.args.who (Event (Activate c.args.r)) hand held c.requires.next) c.synchronized-ckpt.result c.synchronized-ckpt.ensures c.requires.shown c.free_gone.ensures.eight c.free_gone.new.self c.sweep.new.self c.copy_held-held.result
-          (c.sweep.ensures ∙ ap swept c.set_active.ensures) (c.copy_held-held.ensures ∙ ap (copy_held (entry_of c.synchronized-ckpt.result w.cluster.entries)) c.lend_snapshot.ensures.lent) c.free_gone.ensures.new
+          (c.sweep.ensures ∙ ap swept c.set_active.ensures) (c.copy_held-held.ensures ∙ ap (copy_held (entry_of c.synchronized-ckpt.result w.cluster.entries)) c.lend_snapshot.ensures.lent) (c.free_gone.ensures.new ∙ ap (λ (place : Option InHand). freed_world (record w { cluster = c.sweep.new.self; hands = set_at w.hands c.args.who place })) c.clear.ensures)
           c.end_alone.new.self c.lead.new.nodes c.word-op.result c.lead.ensures c.end_alone.ensures c.word-op.ensures);
     }

@@ -45,7 +45,6 @@ returns-then-is_err c =
     let w = c.args.self.now in
     let hand = c.in-Some.hand in
     let held : hand_at w.hands c.args.who ≡ Some hand = c.at-slot.ensures.value ∙ c.in-Some.is in
-    let hands = set_at w.hands c.args.who None in
     let err = sym c.is_err.ensures.value ∙ c.if-is_err.true in
     let same : (c.apply-applied.new.cluster ≡ w.cluster) × (c.apply-applied.new.nodes ≡ w.nodes) × (c.apply-applied.new.snapshots ≡ w.snapshots) = when_err ((c.apply-applied.new.cluster ≡ w.cluster) × (c.apply-applied.new.nodes ≡ w.nodes) × (c.apply-applied.new.snapshots ≡ w.snapshots)) c.apply-applied.result err c.apply-applied.ensures.err in
     let takes : IsTrue (takes_memory c.args.step) = when_err (IsTrue (takes_memory c.args.step)) c.apply-applied.result err c.apply-applied.ensures.memory in
@@ -55,7 +54,7 @@ returns-then-is_err c =
       is = subst (λ (label : Label). IsStep c.args.who w c.end_alone.new.self label) (sym c.stepped.ensures)
           (refused_step w c.args.who c.args.step hand held (next_for w c.args.who (Event c.args.step) hand held c.requires.next) c.requires.shown c.end_alone.new.self c.word-op.result c.verb-verb.result c.event_ckpt-ckpt.result c.event_node-node.result Memory NoMemory c.requires.plain
           (subst (λ (o : Option Outcome). IsRefusedWith o c.args.step Memory NoMemory) (sym (c.requires.granted hand held)) (takes, refl))
-          (c.end_alone.ensures ∙ (λ i. ended_at c.args.who (Some NoMemory) (record w { cluster = same.0 i; nodes = same.1 i; snapshots = same.2 i; hands = hands }))) c.event_ckpt-ckpt.ensures c.event_node-node.ensures c.word-op.ensures c.verb-verb.ensures);
+          (c.end_alone.ensures ∙ (λ i. ended_at c.args.who (Some NoMemory) (record w { cluster = same.0 i; nodes = same.1 i; snapshots = same.2 i; hands = set_at w.hands c.args.who (c.clear.ensures i) }))) c.event_ckpt-ckpt.ensures c.event_node-node.ensures c.word-op.ensures c.verb-verb.ensures);
     }
 
 pub returns : goal.returns

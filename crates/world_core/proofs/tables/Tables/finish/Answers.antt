@@ -1,0 +1,15 @@
+use Rattle.std.proofs.Common.{◌≡◌, length, arith, ap, ◌∙◌}
+use Rattle.std.proofs.lemmas.List.{with_items_is}
+use Rattle.world_core.specs.TableEnds.{table_ended}
+use Rattle.world_core.specs.TableState.{at_client}
+use Rattle.world_core.proofs.tables.Tables.finish.Goals as goal
+
+pub invariant_of-self : goal.invariant_of-self
+invariant_of-self c =
+    let full : length c.finish_at.new.tables ≡ c.self.inside.list.len = omega (arith, ap length c.as_mut_slice.ensures.value) in
+    ap length (with_items_is c.self.inside.list c.finish_at.new.tables full) ∙ c.finish_at.auto.tables ∙ ap length c.as_mut_slice.ensures.value ∙ c.self.invariant
+
+pub returns : goal.returns
+returns c =
+    let full : length c.finish_at.new.tables ≡ c.self.inside.list.len = omega (arith, ap length c.as_mut_slice.ensures.value) in
+    with_items_is c.self.inside.list c.finish_at.new.tables full ∙ c.finish_at.ensures ∙ ap (at_client c.args.c (table_ended c.args.call c.args.end)) (c.as_mut_slice.ensures.value ∙ c.self.view_is)
