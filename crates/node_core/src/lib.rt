@@ -2,6 +2,7 @@
 #![tactic(auto)]
 
 mod changing;
+mod copying;
 mod fitting;
 mod keeping;
 mod lending;

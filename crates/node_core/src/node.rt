@@ -15,6 +15,7 @@ ghost use Rattle.node_core.specs.Payloads.{payload_of};
 ghost use Rattle.node_core.specs.Serving.{details_at, iteration_behind, snapshot_behind};
 
 use crate::changing::{break_at, lead_at, lend_at, stage_at, take_at};
+use crate::copying::copy_replicas;
 use crate::fitting::{change_fits_in, fits_in};
 use crate::lent::Lent;
 use crate::replicas::{find_at, keep_others, keep_there};
@@ -53,6 +54,16 @@ impl Node {
         Ok(Node {
             number,
             replicas: Vec::new(alloc),
+        })
+    }
+
+    /// An equal node, with storage of its own for each replica.
+    pub fn copy(&self, alloc: Global) -> Result<Node, AllocError>
+        ensures { IfOk result (λ copy. copy ≡ self.now) }
+    {
+        Ok(Node {
+            number: self.number,
+            replicas: copy_replicas(alloc, self.replicas.as_slice())?,
         })
     }
 
