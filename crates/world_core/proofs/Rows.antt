@@ -136,7 +136,7 @@ example_ask_of = last (comes_up ∷ begins 1 starts ∷ example_enters ∷ begin
 
 pub five_labels_are_a_run : IsRun five
 five_labels_are_a_run = (
-  (omega arith, omega arith, λ r. is_up-none r empty_record refl),
+  (omega arith, omega arith, refl),
   (omega arith, omega arith, refl),
   (
     first_may_begin,
