@@ -205,10 +205,6 @@ line_by f ws = if counts f.shape (length ws) then (values_told f.shape ws >>= λ
 unfoldable pub said_by : FirstWord → List (List ℕ) → Result Line Reason
 said_by k ws = line_by (form k) ws
 
--- the words in front made into a value
-abbrev pub value_made : {X : Type 0} → (cs : List Class) → (Values cs → X) → List (List ℕ) → Result X Reason
-value_made cs f ws = fields cs ws >>= λ v. Ok (f v.0)
-
 -- the words of these classes made into a value, where there are any
 abbrev pub more_made : {X : Type 0} → (ds : List Class) → (Values ds → X) → List (List ℕ) → Result (Option X) Reason
 more_made ds f ws = rest_of ds ws >>= λ v. Ok (option_map f v)

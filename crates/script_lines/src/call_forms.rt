@@ -6,7 +6,7 @@ ghost use Rattle.script_words.specs.Words.{read_word, some_bytes};
 ghost use Rattle.ckpt_types.specs.declared.words.FirstWord.TheVariants as first;
 ghost use Rattle.ckpt_types.specs.declared.words.OpWord.TheVariants as calls;
 ghost use Rattle.script_lines.specs.Readers.{Gives};
-ghost use Rattle.script_lines.specs.Table.{texts, said_by, line_by, value_made, more_made, one_made, gather, attributes, attributes_of, io_group, io_element, read_group, read_element};
+ghost use Rattle.script_lines.specs.Table.{texts, said_by, line_by, more_made, one_made, gather, attributes, attributes_of, io_group, io_element, read_group, read_element};
 ghost use Rattle.script_lines.specs.Shapes.{counts_groups, handle_form, timed_form, iteration_form};
 
 use crate::call_shapes::{HandleCall, IterationCall, TimedCall};
