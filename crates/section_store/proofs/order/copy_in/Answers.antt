@@ -1,5 +1,5 @@
 use Rattle.std.proofs.lemmas.Grind.{common_steps}
-use Rattle.std.proofs.Common.{◌≡◌, ◌+◌, ◌<◌, ◌≤◌, suc, length, take, ap, ◌∙◌, sym, subst, arith}
+use Rattle.std.proofs.Common.{◌≡◌, ◌+◌, ◌<◌, ◌≤◌, suc, length, take, ap, ◌∙◌, sym, subst, arith, rules}
 use Rattle.std.specs.Prelude.{insert}
 use Rattle.std.proofs.lemmas.List.{length-take-le}
 use Rattle.std.proofs.lemmas.Option.{get_or_from_slice_get, slice_get_within}
@@ -14,9 +14,9 @@ put_in-requires-clause-buffer g c =
     let sections = g.S.Sections.sections c.args.other.now in
     let i = c.loop-place.place in
     let was = c.loop-place.invariant in
-    let there : i ≤ length sections = omega (arith, c.loop-place-test.true, c.len-count.ensures.count) in
+    let there : i ≤ length sections = omega arith in
     let kept : length c.loop-place.kept.items ≡ i = sym (length-kept_sections c.loop-place.kept.items) ∙ ap length was.copied ∙ length-take-le i sections there in
-    omega (arith, kept, was.all, c.requires.buffers, c.loop-place-test.true, c.len-count.ensures.count)
+    omega arith
 
 pub put_in-requires-clause-room : goal.put_in-requires-clause-room
 put_in-requires-clause-room g c =
@@ -47,4 +47,4 @@ pub returns-clause-sections : goal.returns-clause-sections
 returns-clause-sections g c = grind (arith, common_steps)
 
 pub returns-clause-rises : goal.returns-clause-rises
-returns-clause-rises g c = c.len-count.ensures.in_order
+returns-clause-rises g c = search rules
