@@ -79,29 +79,22 @@ fn if_live(live: bool, answer: Option<Outcome>) -> Option<Outcome>
     }
 }
 
-// An asynchronous call whose callback is registered goes on by itself where no refusal comes first.
+// An asynchronous call whose callback is registered goes on by itself where no refusal comes first, and fewer than may be
+// are not dispatched.
 fn alone(registered: bool, refusal: Option<Outcome>, pending: usize) -> Option<Outcome>
     ensures { result ≡ if_registered registered (option_or refusal (goes_on_alone pending)) }
 {
     if !registered {
         return refused(AisError::Init);
     }
-    match refusal {
-        Some(refusal) => Some(refusal),
-        None => goes_on_alone(pending),
+    if refusal.is_some() {
+        return refusal;
     }
-}
-
-// A call goes on by itself where fewer than may be are not dispatched.
-fn goes_on_alone(pending: usize) -> Option<Outcome>
-    ensures { result ≡ goes_on_alone pending }
-{
     if pending >= PENDING_MAX {
         let count = PENDING_MAX as u32;
-        Some(Outcome::Refused(AisError::NoResources, Cause::Count(count)))
-    } else {
-        Some(Outcome::Done(Answer::Nothing))
+        return Some(Outcome::Refused(AisError::NoResources, Cause::Count(count)));
     }
+    Some(Outcome::Done(Answer::Nothing))
 }
 
 // A synchronisation that goes on by itself.

@@ -19,7 +19,7 @@ ghost use Rattle.world_core.specs.HandsState.{hand_at};
 ghost use Rattle.world_core.specs.Shows.{IsShown, HasNumbersLeft};
 ghost use Rattle.world_core.specs.UpdateSteps.{IsUpdate};
 
-use crate::hands::{InHand, let_go};
+use crate::hands::{InHand, clear, let_go};
 use crate::lending::{creates, share_update};
 use crate::messages::{done, goes_on, served};
 use crate::world::World;
@@ -139,7 +139,7 @@ impl World {
         if hand.committed(&self.cluster, ckpt, r) {
             log.push(goes_on(call, op, Verb::Commit, ckpt, r));
         } else {
-            *slot = None;
+            clear(slot);
             log.push(done(call, op, Verb::Commit, ckpt, r));
         }
         Ok(())

@@ -1,5 +1,5 @@
 use Rattle.std.proofs.Common.{◌≡◌, Some, sym, ap, subst, ◌∙◌}
-use Rattle.std.specs.Prelude.{Bool, None, OnOk, OnErr}
+use Rattle.std.specs.Prelude.{Bool, OnOk, OnErr}
 use Rattle.node_msgs.specs.declared.steps.StepReply.TheVariants as words
 use Rattle.node_msgs.specs.declared.steps.Verb.TheVariants as verbs
 use Rattle.node_msgs.specs.declared.details.Details.TheVariants as beside
@@ -53,6 +53,6 @@ returns-else-committed-clause-ok c =
       label = _;
       labels = c.push-else-committed.ensures.labels;
       is = commit_is c.args.self.now c.args.c c.args.r c.args.asked c.args.ckpt c.in-Some.hand (c.at_client-slot.ensures.value ∙ c.in-Some.is) c.requires.next c.requires.shown (sym c.creates.ensures ∙ c.if-creates.false) c.commit.new.self c.commit.ensures c.word-op.result c.word-op.ensures
-          c.committed.result c.committed.new.self None _ (c.committed.ensures.new, c.committed.ensures.end) (ap (λ (b : Bool). left (ended_unless b) c.committed.new.self) (sym c.if-committed.false))
+          c.committed.result c.committed.new.self c.clear.new.slot _ (c.committed.ensures.new, c.committed.ensures.end) (c.clear.ensures ∙ ap (λ (b : Bool). left (ended_unless b) c.committed.new.self) (sym c.if-committed.false))
           (c.done.ensures ∙ ap (λ (b : Bool). Stepped c.in-Some.hand.call c.word-op.result verbs.Commit (Some c.args.ckpt) (Some c.args.r) words.Ok (ended_unless b) beside.Nothing) (sym c.if-committed.false));
     }
