@@ -1,5 +1,5 @@
 use Rattle.std.proofs.Common.{◌≡◌, length, Some, refl, sym, ap, subst, ◌∙◌}
-use Rattle.std.specs.Prelude.{Option, None, IsTrue}
+use Rattle.std.specs.Prelude.{Option, IsTrue}
 use Rattle.ckpt_types.specs.declared.answers.Outcome.{Outcome}
 use Rattle.ckpt_types.specs.declared.answers.Outcome.TheVariants.{NoMemory}
 use Rattle.node_msgs.specs.declared.steps.StepReply.TheVariants.{Memory}
