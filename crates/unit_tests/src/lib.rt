@@ -6,6 +6,8 @@ mod cluster;
 #[cfg(test)]
 mod dispatches;
 #[cfg(test)]
+mod drivers;
+#[cfg(test)]
 mod handles;
 #[cfg(test)]
 mod labels;

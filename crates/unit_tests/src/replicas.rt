@@ -1,5 +1,5 @@
 //! A replica and a node where memory is there: an update that is staged and committed, a snapshot that is pulled from one
-//! replica and installed in another, and a node that gets a replica.
+//! replica and installed in another, a node that gets a replica, and a copy of each.
 ghost use Rattle.std.specs.Prelude.{◌≡◌, true};
 ghost use Rattle.node_core.specs.Fitting.{TakesSnapshot};
 ghost use Rattle.stage_slot.specs.Slots.{IsOwnedBy};
@@ -14,9 +14,11 @@ use node_core::{Lent, Node};
 use node_msgs::{NodeChange, Reply, Request};
 use replica::Replica;
 use snap_copy::Snap;
+use stage_slot::Slot;
 use std::alloc::{AllocError, Global};
 use std::process::Abort;
 use std::test::Fail;
+use weak_marks::Marks;
 
 const ONE: CreationAttributes = CreationAttributes {
     creation_flags: WR_ALL_REPLICAS,
@@ -40,6 +42,79 @@ fn write(alloc: Global, bytes: &[u8]) -> Result<SharedUpdate, AllocError> {
         bytes: Bytes::from_slice(alloc, bytes)?,
     };
     SharedUpdate::new(alloc, Update::Write(IoVector::one(element)))
+}
+
+/// Whether it is a write of these bytes alone.
+fn writes(update: &Update, bytes: &[u8]) -> bool {
+    let Update::Write(elements) = update else {
+        return false;
+    };
+    let elements = elements.as_slice();
+    elements.len() == 1 && elements[0].bytes.as_slice() == bytes
+}
+
+/// Stages a write in the slot, as that of the call on a replica with seven updates. Whether it is staged.
+fn fills(slot: &mut Slot, alloc: Global) -> Result<bool, AllocError> {
+    let update = write(alloc, b"ab")?;
+    Ok(slot.stage(FIRST, update, 5, 7).is_ok())
+}
+
+/// Whether the slot has that write staged, with all that goes with it.
+fn is_filled(slot: &Slot) -> bool {
+    let Some(staged) = slot.kept() else {
+        return false;
+    };
+    if staged.owner != FIRST || staged.moment != 5 || staged.count != 7 {
+        return false;
+    }
+    writes(staged.update.value(), b"ab")
+}
+
+/// A copy of the slot has the same staged.
+fn slot_is_copied(rt: &impl Abort, alloc: Global, slot: &Slot) -> Result<(), AllocError> {
+    let copy = slot.copy(alloc)?;
+    assert!(rt; is_filled(&copy));
+    Ok(())
+}
+
+#[test]
+fn a_copy_of_a_slot_has_what_is_staged_there(rt: HostRuntime) -> Result<(), Fail> {
+    let mut slot = Slot::empty();
+    assert!(rt; fills(&mut slot, rt.alloc())?);
+    slot_is_copied(&rt, rt.alloc(), &slot)?;
+    Ok(())
+}
+
+/// Begins a weak write of the call, on a replica of the third generation. Whether it is under way.
+fn begins(marks: &mut Marks, alloc: Global) -> Result<bool, AllocError> {
+    let update = write(alloc, b"ab")?;
+    Ok(marks.begin(FIRST, update, 5, 3).is_ok())
+}
+
+/// Whether these are the marks of that write, with its element not done.
+fn is_under_way(marks: &Marks) -> bool {
+    let Some(marked) = marks.kept() else {
+        return false;
+    };
+    if marked.call != FIRST || marked.moment != 5 || marked.generation != 3 {
+        return false;
+    }
+    marked.left() && writes(marked.update.value(), b"ab")
+}
+
+/// A copy of the marks is of the same write.
+fn marks_are_copied(rt: &impl Abort, alloc: Global, marks: &Marks) -> Result<(), AllocError> {
+    let copy = marks.copy(alloc)?;
+    assert!(rt; is_under_way(&copy));
+    Ok(())
+}
+
+#[test]
+fn a_copy_of_marks_is_of_the_same_write(rt: HostRuntime) -> Result<(), Fail> {
+    let mut marks = Marks::empty();
+    assert!(rt; begins(&mut marks, rt.alloc())?);
+    marks_are_copied(&rt, rt.alloc(), &marks)?;
+    Ok(())
 }
 
 /// Stages a write, where one update more can be counted. Whether it is staged.
@@ -80,6 +155,24 @@ fn has_bytes(replica: &Replica, bytes: &[u8]) -> bool {
         return false;
     }
     store.at(0).bytes == bytes
+}
+
+/// A copy commits what the replica has staged, which stays staged there.
+fn copy_goes_apart(rt: &impl Abort, alloc: Global, replica: &Replica) -> Result<(), AllocError> {
+    let mut copy = replica.copy(alloc)?;
+    assert!(rt; commits(&mut copy, FIRST));
+    assert!(rt; has_bytes(&copy, b"ab"));
+    assert!(rt; owns(replica, FIRST));
+    assert!(rt; has_bytes(replica, b""));
+    Ok(())
+}
+
+#[test]
+fn a_copy_of_a_replica_goes_its_own_way(rt: HostRuntime) -> Result<(), Fail> {
+    let mut replica = Replica::reserve(rt.alloc(), 1, &ONE, 2)?;
+    assert!(rt; stages(&mut replica, rt.alloc(), b"ab")?);
+    copy_goes_apart(&rt, rt.alloc(), &replica)?;
+    Ok(())
 }
 
 /// Pulls the replica into the snapshot, where both are of the same attributes. Whether it is done.
@@ -187,5 +280,34 @@ fn a_node_makes_room_for_what_the_record_has(rt: HostRuntime) -> Result<(), Fail
     let mut seen = Record::new(rt.alloc(), 2)?;
     open_as(&mut seen, rt.alloc(), 3, b"a", Some(ATTRIBUTES))?;
     nodes_take(&rt, rt.alloc(), &seen)?;
+    Ok(())
+}
+
+/// Whether the node has a replica of the first checkpoint, as it was made.
+fn has_opened(node: &Node) -> bool {
+    match node.replica(1) {
+        None => false,
+        Some(replica) => has_bytes(replica, b""),
+    }
+}
+
+/// A copy of the node has its replica.
+fn node_is_copied(rt: &impl Abort, alloc: Global, node: &Node) -> Result<(), AllocError> {
+    let copy = node.copy(alloc)?;
+    assert!(rt; has_opened(&copy));
+    Ok(())
+}
+
+fn node_takes_one(rt: &impl Abort, alloc: Global, seen: &Record) -> Result<(), AllocError> {
+    let mut node = Node::new(alloc, 0)?;
+    assert!(rt; adds(&mut node, alloc, seen)?);
+    node_is_copied(rt, alloc, &node)
+}
+
+#[test]
+fn a_copy_of_a_node_has_its_replica(rt: HostRuntime) -> Result<(), Fail> {
+    let mut seen = Record::new(rt.alloc(), 2)?;
+    open_as(&mut seen, rt.alloc(), 3, b"a", Some(ATTRIBUTES))?;
+    node_takes_one(&rt, rt.alloc(), &seen)?;
     Ok(())
 }
