@@ -26,6 +26,11 @@ pub run_before : (m : Machine) (log : List Label) (l : Label) → IsRunFrom m (l
 run_before m [] l run = (tt, run.0, run.1)
 run_before m (x ∷ log) l run = let (before, allowed, is) = run_before (after m x) log l run.2 in ((run.0, run.1, before), allowed, is)
 
+-- the state after two lists of labels is the state after the second from the state after the first
+pub last_from-append : (m : Machine) (xs ys : List Label) → last_from m (xs ++ ys) ≡ last_from (last_from m xs) ys
+last_from-append m [] ys = refl
+last_from-append m (x ∷ xs) ys = last_from-append (after m x) xs ys
+
 -- what comes behind a front may come from the state after it
 pub IsRunFrom-back : (m : Machine) (front back : List Label) → IsRunFrom m (front ++ back) → IsRunFrom (last_from m front) back
 IsRunFrom-back m [] back run = run
