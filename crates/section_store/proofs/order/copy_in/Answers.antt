@@ -1,22 +1,11 @@
 use Rattle.std.proofs.lemmas.Grind.{common_steps}
-use Rattle.std.proofs.Common.{◌≡◌, ◌+◌, ◌<◌, ◌≤◌, suc, length, take, ap, ◌∙◌, sym, subst, arith, rules}
+use Rattle.std.proofs.Common.{◌≡◌, ◌+◌, ◌<◌, suc, length, take, ap, ◌∙◌, subst, arith}
 use Rattle.std.specs.Prelude.{insert}
-use Rattle.std.proofs.lemmas.List.{length-take-le}
 use Rattle.std.proofs.lemmas.Option.{get_or_from_slice_get, slice_get_within}
 use Rattle.ckpt_types.specs.Sections.{size_of, section_of as lent_section}
 use Rattle.section_store.specs.Stored.{HaveRoom}
 use Rattle.section_store.proofs.PlaceLemmas.{insert-take}
-use Rattle.section_store.proofs.StoredLemmas.{length-kept_sections}
 use Rattle.section_store.proofs.order.copy_in.Goals as goal
-
-pub put_in-requires-clause-buffer : goal.put_in-requires-clause-buffer
-put_in-requires-clause-buffer g c =
-    let sections = g.S.Sections.sections c.args.other.now in
-    let i = c.loop-place.place in
-    let was = c.loop-place.invariant in
-    let there : i ≤ length sections = omega arith in
-    let kept : length c.loop-place.kept.items ≡ i = sym (length-kept_sections c.loop-place.kept.items) ∙ ap length was.copied ∙ length-take-le i sections there in
-    omega arith
 
 pub put_in-requires-clause-room : goal.put_in-requires-clause-room
 put_in-requires-clause-room g c =
@@ -45,6 +34,3 @@ loop-place-preserved g c =
 
 pub returns-clause-sections : goal.returns-clause-sections
 returns-clause-sections g c = grind (arith, common_steps)
-
-pub returns-clause-rises : goal.returns-clause-rises
-returns-clause-rises g c = search rules

@@ -27,9 +27,3 @@ returns-clause-bytes c =
     let before : c.args.now <ℤ c.self.inside.summary.earliest = grind (arith, ints, to_z-of_z, c.if-expired.false, c.expired.ensures.value) in
     let all = present-ExpireFrom c.args.now c.self.inside.summary.earliest (kept_sections c.self.inside.kept.items) before c.self.invariant.summary.earliest in
     rw (← c.self.view_is) (c.self.invariant.summary.used ∙ sym (ap memory_used all))
-
-pub returns-then-expired-clause-count : goal.returns-then-expired-clause-count
-returns-then-expired-clause-count c = cc (to_z-of_z w64 c.args.now c.ranges.now)
-
-pub returns-then-expired-clause-bytes : goal.returns-then-expired-clause-bytes
-returns-then-expired-clause-bytes c = cc (to_z-of_z w64 c.args.now c.ranges.now)
