@@ -45,8 +45,9 @@ pub record IsLaterRecord (m : Machine) (R : RecordState) (hands : Who → Option
   pub clients : (c : ℕ) → IfSome (find_key client_key c R.clients) (IsGoodClient m.next R c)
   -- the calls that are left
   pub was_held : (w : Who) (z : CallState) → hands w ≡ Some z → m.in_hand w ≡ Some z
-  -- live as they were, and with what they are making
+  -- no call that was dead is live again
   pub dead : (d : CallId) → IsDead m d → is_live R d ≡ false
+  -- live as they were, and with what they are making
   pub live : (w : Who) (z : CallState) → hands w ≡ Some z → is_live m.cluster z.call ≡ true → is_live R z.call ≡ true
   pub lives : (w : Who) (z : CallState) → hands w ≡ Some z → find_key client_key (client_of z.call) R.clients ≡ find_key client_key (client_of z.call) m.cluster.clients
   pub makes : (w : Who) (z : CallState) (k : ℕ) (e : Entry) → hands w ≡ Some z → entry_of k m.cluster.entries ≡ Some e → e.making ≡ Some z.call → IsSome (entry_of k R.entries)
