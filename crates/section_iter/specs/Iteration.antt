@@ -2,10 +2,10 @@
 use Rattle.std.specs.Prelude.{◌^◌, ◌*◌, ◌<◌, ◌≤◌, length, drop, vec_capacity}
 use Rattle.section_iter.specs.Ids.{ids_in, AreIds}
 use Rattle.section_iter.specs.KeptIds.{KeptIds}
-use Rattle.section_iter.specs.declared.iteration.Iteration.TheInside.{Inside}
+use Rattle.section_iter.specs.declared.iteration.Kept.{Kept}
 
 -- the identifiers stand in room that was taken for all that it may keep
-pub record HasIdRoom (it : Inside) : Type 0 where
+pub record HasIdRoom (it : Kept) : Type 0 where
   pub begun : it.first ≤ length it.ends.items
   pub kept : AreIds it.ends.items it.bytes.items
   pub ends_taken : it.room.ids ≤ vec_capacity it.ends
@@ -13,5 +13,5 @@ pub record HasIdRoom (it : Inside) : Type 0 where
   pub small : it.room.ids * it.room.id_size < 2 ^ 32
 
 -- the iteration as contracts see it: the identifiers that it may still give, and its room
-abbrev pub kept_ids : Inside → KeptIds
+abbrev pub kept_ids : Kept → KeptIds
 kept_ids it = record { ids = drop it.first (ids_in it.ends.items it.bytes.items); room = it.room }

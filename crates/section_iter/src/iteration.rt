@@ -18,6 +18,13 @@ pub struct NoSections;
 /// The identifiers of the sections that an iteration may still give, in room that was taken before.
 #[derive(Debug, Drop)]
 pub struct Iteration {
+    /// What it keeps, in a block of its own, so that an iteration is moved as a pointer.
+    block: Box<Kept>,
+}
+
+/// What an iteration keeps.
+#[derive(Debug, Drop)]
+struct Kept {
     /// The bytes of the identifiers, one behind another.
     bytes: Vec<u8>,
     /// Where each identifier ends in `bytes`.
@@ -34,9 +41,9 @@ impl Model for Iteration {
 
     ghost use Rattle.section_iter.specs.Iteration.{kept_ids, HasIdRoom};
 
-    ghost view = { kept_ids };
+    ghost view = { λ it. kept_ids it.block.value };
 
-    ghost invariant = { HasIdRoom };
+    ghost invariant = { λ it. HasIdRoom it.block.value };
 }
 
 impl Iteration {
@@ -48,19 +55,21 @@ impl Iteration {
         ensures { IfOk result (λ it. it ≡ record { ids = []; room = room_declared attrs.now }) }
     {
         let room = Room::declared(attrs);
-        Ok(Iteration {
+        let kept = Kept {
             bytes: reserve_bytes(alloc, room)?,
             ends: Vec::with_capacity(alloc, room.ids as usize)?,
             first: 0,
             room,
-        })
+        };
+        let block = Box::new(alloc, kept)?;
+        Ok(Iteration { block })
     }
 
     /// For how many identifiers there is room, and of how many bytes each.
     pub fn room(&self) -> Room
         ensures { result ≡ self.now.room }
     {
-        self.room
+        self.block.room
     }
 
     /// Begins anew, with the identifiers of the sections that are chosen now. It takes no memory.
@@ -69,11 +78,12 @@ impl Iteration {
         requires short { All (λ s. length s.id ≤ self.old.room.id_size) (S.sections sections.now) }
         ensures { self.new ≡ record self.old { ids = chosen choice now (S.sections sections.now) } }
     {
-        self.first = 0;
+        let kept = &mut *self.block;
+        kept.first = 0;
         keep_chosen(
-            &mut self.bytes,
-            &mut self.ends,
-            self.room,
+            &mut kept.bytes,
+            &mut kept.ends,
+            kept.room,
             sections,
             &choice,
             now,
@@ -90,11 +100,12 @@ impl Iteration {
         ensures answer { result ≡ given_answer (given self.old.ids now (S.sections sections.now)) }
         ensures kept { self.new ≡ kept_after self.old (given self.old.ids now (S.sections sections.now)) }
     {
-        let (bytes, ends) = (self.bytes.as_slice(), self.ends.as_slice());
-        let Some(found) = find_first(sections, bytes, ends, self.first, now) else {
+        let kept = &mut *self.block;
+        let (bytes, ends) = (kept.bytes.as_slice(), kept.ends.as_slice());
+        let Some(found) = find_first(sections, bytes, ends, kept.first, now) else {
             return Err(NoSections);
         };
-        self.first = found.place + 1;
+        kept.first = found.place + 1;
         Ok(found.section)
     }
 
@@ -102,15 +113,18 @@ impl Iteration {
     pub fn copy(&self, alloc: Global) -> Result<Iteration, AllocError>
         ensures { IfOk result (λ copy. copy ≡ self.now) }
     {
-        let mut bytes = reserve_bytes(alloc, self.room)?;
-        bytes.extend_from_slice(self.bytes.as_slice())?;
-        let mut ends = Vec::with_capacity(alloc, self.room.ids as usize)?;
-        ends.extend_from_slice(self.ends.as_slice())?;
-        Ok(Iteration {
+        let kept = &*self.block;
+        let mut bytes = reserve_bytes(alloc, kept.room)?;
+        bytes.extend_from_slice(kept.bytes.as_slice())?;
+        let mut ends = Vec::with_capacity(alloc, kept.room.ids as usize)?;
+        ends.extend_from_slice(kept.ends.as_slice())?;
+        let kept = Kept {
             bytes,
             ends,
-            first: self.first,
-            room: self.room,
-        })
+            first: kept.first,
+            room: kept.room,
+        };
+        let block = Box::new(alloc, kept)?;
+        Ok(Iteration { block })
     }
 }

@@ -11,6 +11,13 @@ use std::marker::Model;
 /// The sections that a replica had at one moment. All their room is taken when the snapshot is made.
 #[derive(Debug, Drop)]
 pub struct Snap {
+    /// What it keeps, in a block of its own, so that a snapshot is moved as a pointer.
+    block: Box<Kept>,
+}
+
+/// What a snapshot keeps.
+#[derive(Debug, Drop)]
+struct Kept {
     attributes: CreationAttributes,
     /// The bytes of all sections, one behind another.
     bytes: Vec<u8>,
@@ -27,9 +34,9 @@ impl Model for Snap {
 
     ghost use Rattle.snap_copy.specs.SnapView.{snapshot_of, IsReserved};
 
-    ghost view = { snapshot_of };
+    ghost view = { λ snap. snapshot_of snap.block.value };
 
-    ghost invariant = { IsReserved };
+    ghost invariant = { λ snap. IsReserved snap.block.value };
 }
 
 impl Snap {
@@ -39,13 +46,15 @@ impl Snap {
         requires { is_malformed attrs.now ≡ false }
         ensures { IfOk result (λ s. s ≡ record { attributes = attrs.now; sections = []; generation = 0; count = 0 }) }
     {
-        Ok(Snap {
+        let kept = Kept {
             attributes: *attrs,
             bytes: Vec::with_capacity(alloc, attrs.checkpoint_size as usize)?,
             heads: Vec::with_capacity(alloc, attrs.max_sections as usize)?,
             generation: 0,
             count: 0,
-        })
+        };
+        let block = Box::new(alloc, kept)?;
+        Ok(Snap { block })
     }
 
     /// Takes over the sections of another, which has this generation and so many updates. It takes no memory.
@@ -53,17 +62,19 @@ impl Snap {
         requires { Fits self.old.attributes (S.sections from.now) }
         ensures { self.new ≡ record self.old { sections = S.sections from.now; generation = generation; count = count } }
     {
-        copy_in(&mut self.bytes, &mut self.heads, from);
-        self.generation = generation;
-        self.count = count;
+        let kept = &mut *self.block;
+        copy_in(&mut kept.bytes, &mut kept.heads, from);
+        kept.generation = generation;
+        kept.count = count;
     }
 
     /// An equal snapshot, with room of its own. It fails where there is no memory for it.
     pub fn copy(&self, alloc: Global) -> Result<Snap, AllocError>
         ensures { IfOk result (λ s. s ≡ self.now) }
     {
-        let mut copy = Snap::reserve(alloc, &self.attributes)?;
-        copy.pull(self, self.generation, self.count);
+        let kept = &*self.block;
+        let mut copy = Snap::reserve(alloc, &kept.attributes)?;
+        copy.pull(self, kept.generation, kept.count);
         Ok(copy)
     }
 
@@ -72,21 +83,21 @@ impl Snap {
         ensures value { result.now ≡ self.now.attributes }
         ensures kept { Fits self.now.attributes self.now.sections }
     {
-        &self.attributes
+        &self.block.attributes
     }
 
     /// The generation of the replica when it had these sections.
     pub fn generation(&self) -> u64
         ensures { result ≡ self.now.generation }
     {
-        self.generation
+        self.block.generation
     }
 
     /// How many updates the replica had then.
     pub fn count(&self) -> u64
         ensures { result ≡ self.now.count }
     {
-        self.count
+        self.block.count
     }
 }
 
@@ -94,18 +105,20 @@ impl Sections for Snap {
     ghost sections = { λ s. s.sections };
 
     fn len(&self) -> usize {
-        self.heads.len()
+        self.block.heads.len()
     }
 
     fn at(&self, place: usize) -> SectionRef<'_> {
-        section_in(self.bytes.as_slice(), &self.heads[place])
+        let kept = &*self.block;
+        section_in(kept.bytes.as_slice(), &kept.heads[place])
     }
 
     fn find(&self, id: &[u8]) -> Option<usize> {
-        find(self.heads.as_slice(), id)
+        find(self.block.heads.as_slice(), id)
     }
 
     fn totals(&self, now: Moment) -> Totals {
-        totals(self.bytes.as_slice(), self.heads.as_slice(), now)
+        let kept = &*self.block;
+        totals(kept.bytes.as_slice(), kept.heads.as_slice(), now)
     }
 }
