@@ -2,12 +2,14 @@ pub mod AisError
 pub mod Asks
 pub mod Attributes
 pub mod Buffer
+pub mod ByteRoom
 pub mod Bytes
 pub mod Elements
 pub mod Ends
 pub mod FirstWord
 pub mod Limits
 pub mod OpWord
+pub mod PieceRoom
 pub mod ReadBuf
 pub mod Reads
 pub mod SectionId

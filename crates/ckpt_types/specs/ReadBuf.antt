@@ -1,21 +1,9 @@
--- How a buffer of a read keeps its pieces: one behind another, with the ends of all but the last.
-use Rattle.std.specs.Prelude.{◌-◌, ◌≤◌, length, vec_capacity}
+-- How a buffer of a read is kept: in a block of its own, or nowhere where it has room for none.
+use Rattle.std.specs.Prelude.{Option, None, Some, []}
+use Rattle.std.specs.Global.{Box}
 use Rattle.ckpt_types.specs.Buffer.{Buffer}
-use Rattle.ckpt_types.specs.Ends.{pieces_in, ArePieces}
-use Rattle.ckpt_types.specs.declared.read_buf.ReadBuf.TheInside.{Inside}
 
--- the pieces stand within the room that was taken
-pub record IsRoomy (b : Inside) : Type 0 where
-  pub pieces : ArePieces b.count b.breaks.items (length b.bytes.items)
-  pub bytes_declared : length b.bytes.items ≤ b.max_bytes
-  pub pieces_declared : b.count ≤ b.max_pieces
-  pub bytes_taken : b.max_bytes ≤ vec_capacity b.bytes
-  pub breaks_taken : b.max_pieces - 1 ≤ vec_capacity b.breaks
-
--- the buffer as contracts see it: its pieces, and for how many more pieces and bytes there is room
-abbrev pub buffer_of : Inside → Buffer
-buffer_of b = record {
-  pieces = pieces_in b.count b.breaks.items b.bytes.items;
-  spare_pieces = b.max_pieces - b.count;
-  spare_bytes = b.max_bytes - length b.bytes.items;
-}
+-- the buffer in a block; without one it has no pieces, and room for none
+abbrev pub buffer_in : Option (Box Buffer) → Buffer
+buffer_in None = record { pieces = []; spare_pieces = 0; spare_bytes = 0 }
+buffer_in (Some block) = block.value

@@ -1,6 +1,0 @@
-use Rattle.std.proofs.Common.{sym}
-use Rattle.ckpt_types.proofs.EndsLemmas.{length-pieces_in}
-use Rattle.ckpt_types.proofs.read_buf.ReadBuf.len.Goals as goal
-
-pub returns : goal.returns
-returns c = rw (← c.self.view_is) (sym (length-pieces_in c.self.inside.count c.self.inside.breaks.items c.self.inside.bytes.items c.self.invariant.pieces))
