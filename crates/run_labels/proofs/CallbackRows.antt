@@ -1,7 +1,7 @@
 -- The callbacks of a dispatch beside the lines that they print, by computation.
-use Rattle.std.proofs.Common.{◌≡◌, refl, ℕ, ◌^◌, ◌-◌, List, [], ◌∷◌, ◌++◌, Some, codes, true, pos}
+use Rattle.std.proofs.Common.{◌≡◌, refl, ℕ, ◌^◌, ◌-◌, List, [], ◌∷◌, ◌++◌, Option, Some, None, codes, true, pos}
 use Rattle.ckpt_types.specs.declared.ais_error.AisError.TheVariants as errors
-use Rattle.ckpt_types.specs.declared.answers.Answer.TheVariants.{Dispatched, Opened, Pulled}
+use Rattle.ckpt_types.specs.declared.answers.Answer.TheVariants.{Dispatched, Nothing, Opened, Pulled}
 use Rattle.ckpt_types.specs.declared.answers.Cause.TheVariants as causes
 use Rattle.ckpt_types.specs.declared.answers.Outcome.{Outcome}
 use Rattle.ckpt_types.specs.declared.answers.Outcome.TheVariants.{Done, Refused, NoMemory}
@@ -9,7 +9,8 @@ use Rattle.ckpt_types.specs.declared.calls.AsyncKind.TheVariants.{Open, Sync}
 use Rattle.ckpt_types.specs.declared.calls.Callback.{Callback}
 use Rattle.ckpt_types.specs.declared.identities.ActorName.TheVariants.{Client}
 use Rattle.ckpt_types.specs.declared.identities.CallId.{CallId}
-use Rattle.ckpt_types.specs.declared.operation.Op.TheVariants.{Dispatch}
+use Rattle.ckpt_types.specs.declared.operation.Op.{Op}
+use Rattle.ckpt_types.specs.declared.operation.Op.TheVariants.{Close, Dispatch}
 use Rattle.node_msgs.specs.declared.details.Details.TheVariants.{Callbacks}
 use Rattle.run_labels.specs.declared.labels.Label.{Label}
 use Rattle.run_labels.specs.declared.labels.Label.TheVariants.{Began, Nodes}
@@ -68,3 +69,16 @@ a_refused_callback_has_its_cause : CallBack
     (codes "c1 callback open 7 NO_RESOURCES 16\nc1 callback sync 0 TIMEOUT 5 6\nc1 callback sync 18446744073709551615 TRY_AGAIN 1 2\nc1 callback open 8 NOT_EXIST\nc1 callback sync 10 NO_MEMORY\n")
 unfolding texts
 a_refused_callback_has_its_cause = (refl, refl, refl)
+
+-- the label of the nodes, and one of a client's beginning that has these callbacks beside it
+abbrev told_with : Op → Option Outcome → List Label
+told_with op end = Nodes 2 ∷ Began (client 1 5) op end (Callbacks (of_sync 9 (Done (Pulled 1)) ∷ [])) ∷ []
+
+no_other_label_has_lines_of_callbacks :
+    (callback_lines_at (told_with (Dispatch 2) (Some (Done (Dispatched (record { given = 1; left = 0 }))))) 1 ≡ Some (codes "c1 callback sync 9 OK 1\n"))
+    × (callback_lines_at (told_with (Dispatch 0) (Some (Refused errors.InvalidParam causes.Plain))) 1 ≡ Some [])
+    × (callback_lines_at (told_with (Dispatch 2) (Some NoMemory)) 1 ≡ Some [])
+    × (callback_lines_at (told_with (Dispatch 2) None) 1 ≡ Some [])
+    × (callback_lines_at (told_with (Close 3) (Some (Done Nothing))) 1 ≡ Some [])
+unfolding texts
+no_other_label_has_lines_of_callbacks = (refl, refl, refl, refl, refl)

@@ -1,11 +1,15 @@
 -- The lines of the callbacks that a dispatch gives.
-use Rattle.std.specs.Prelude.{ℕ, List, [], ◌++◌, Option, codes, decimal, slice_get}
+use Rattle.std.specs.Prelude.{ℕ, List, [], ◌++◌, Option, Some, Bool, true, false, if◌then◌else◌, codes, decimal, slice_get}
 use Rattle.std.specs.List.{flat_map}
 use Rattle.std.specs.Option.{option_map}
+use Rattle.ckpt_types.specs.declared.answers.Outcome.{Outcome}
+use Rattle.ckpt_types.specs.declared.answers.Outcome.TheVariants as ends
 use Rattle.ckpt_types.specs.declared.calls.AsyncKind.{AsyncKind}
 use Rattle.ckpt_types.specs.declared.calls.AsyncKind.TheVariants as kinds
 use Rattle.ckpt_types.specs.declared.calls.Callback.{Callback}
 use Rattle.ckpt_types.specs.declared.identities.ActorName.{ActorName}
+use Rattle.ckpt_types.specs.declared.operation.Op.{Op}
+use Rattle.ckpt_types.specs.declared.operation.Op.TheVariants as ops
 use Rattle.ckpt_types.specs.declared.words.OpWord.{OpWord}
 use Rattle.ckpt_types.specs.declared.words.OpWord.TheVariants as words
 use Rattle.ckpt_types.specs.OpWord.{op_text}
@@ -34,9 +38,14 @@ abbrev pub told_callbacks : ActorName → Details → List ℕ
 told_callbacks client (beside.Callbacks callbacks) = flat_map (callback_line client) callbacks
 told_callbacks client _ = []
 
--- the lines of the callbacks of a label: those that a dispatch gives where it begins
+-- an operation is a dispatch, and it was done
+abbrev pub is_answered_dispatch : Op → Option Outcome → Bool
+is_answered_dispatch (ops.Dispatch flags) (Some (ends.Done answer)) = true
+is_answered_dispatch _ _ = false
+
+-- the lines of the callbacks of a label: those that an answered dispatch gives, and none of any other label
 abbrev pub callback_lines : Label → List ℕ
-callback_lines (labels.Began call op end details) = told_callbacks call.actor details
+callback_lines (labels.Began call op end details) = if is_answered_dispatch op end then told_callbacks call.actor details else []
 callback_lines _ = []
 
 -- the lines of the callbacks of the label at a place of a log

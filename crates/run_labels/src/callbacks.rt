@@ -1,17 +1,17 @@
 //! The lines of the callbacks that a dispatch gives.
 ghost use Rattle.std.specs.Prelude.{◌≡◌, ◌<◌, ◌++◌, Some, IfOk, OnOk, length};
 ghost use Rattle.std.specs.List.{flat_map};
-ghost use Rattle.run_labels.specs.Callbacks.{callback_word, callback_head, callback_line, callback_lines, callback_lines_at};
+ghost use Rattle.run_labels.specs.Callbacks.{callback_word, callback_head, callback_line, is_answered_dispatch, callback_lines, callback_lines_at};
 
 use crate::labels::Label;
 use crate::log::RunLog;
 use crate::outcomes::{append_answered, append_refused};
 use crate::texts::{append_actor, append_spaced, append_text};
-use ckpt_types::{ActorName, AisError, AsyncKind, Bytes, Callback, Cause, OpWord, Outcome};
+use ckpt_types::{ActorName, AisError, AsyncKind, Bytes, Callback, Cause, Op, OpWord, Outcome};
 use node_msgs::Details;
 use std::alloc::{AllocError, Global};
 
-/// What the callbacks of the label at a place print.
+/// What the callbacks of the label at a place print: nothing where it is no answered dispatch.
 pub fn render_callbacks(alloc: Global, log: &RunLog, place: usize) -> Result<Bytes, AllocError>
     requires { place < length log.now.labels }
     ensures { IfOk result (λ text. callback_lines_at log.now.labels place ≡ Some text) }
@@ -21,19 +21,38 @@ pub fn render_callbacks(alloc: Global, log: &RunLog, place: usize) -> Result<Byt
     Ok(Bytes::from_vec(out))
 }
 
-/// Adds what the callbacks of a label print behind what the buffer has. After an error, which is want of memory,
-/// the buffer may have a part of it.
+/// Adds what the callbacks of a label print behind what the buffer has: nothing where it is no answered dispatch.
+/// After an error, which is want of memory, the buffer may have a part of it.
 #[inline(always)]
 pub fn append_callbacks(out: &mut Vec<u8>, label: &Label) -> Result<(), AllocError>
     ensures { OnOk result (out.new.items ≡ out.old.items ++ callback_lines label.now) }
 {
-    let Label::Began { call, details, .. } = label else {
+    let Label::Began {
+        call,
+        op,
+        end,
+        details,
+    } = label
+    else {
         return Ok(());
     };
     let Details::Callbacks(callbacks) = details else {
         return Ok(());
     };
+    if !is_answered_dispatch(op, end) {
+        return Ok(());
+    }
     append_each_callback(out, call.actor, callbacks.value().as_slice())
+}
+
+/// Whether an operation is a dispatch that was done.
+fn is_answered_dispatch(op: &Op, end: &Option<Outcome>) -> bool
+    ensures { result ≡ is_answered_dispatch op.now end.now }
+{
+    match (op, end) {
+        (Op::Dispatch(_), Some(Outcome::Done(_))) => true,
+        _ => false,
+    }
 }
 
 /// The line of each callback in order. Few labels have any, so this stands apart.
