@@ -1,7 +1,7 @@
 -- Worked examples of what a record tells, and of a checkpoint's life on it, each by computation; the answers of an open, an
 -- unlink and a hold stand in Rows. A table is a map over its questions.
 use Rattle.std.proofs.Common.{◌≡◌, ℕ, List, [], ◌∷◌, map, codes, pos, Option, Some, None, Ok, Err, true, false, refl}
-use Rattle.std.specs.Prelude.{slice_index}
+use Rattle.std.specs.Prelude.{◌-◌, ◌^◌, slice_index, slice_set}
 use Rattle.std.specs.Option.{option_map}
 use Rattle.ckpt_types.specs.declared.ais_error.AisError.TheVariants.{NotExist, Exist}
 use Rattle.ckpt_types.specs.declared.attributes.CreationAttributes.{CreationAttributes}
@@ -118,6 +118,25 @@ name_is_of_the_later_one = refl
 
 pub few_numbers_leave_some : numbers_left with_a_and_ab ≡ true
 few_numbers_leave_some = refl
+
+-- each checkpoint changed so
+abbrev each_changed : (Entry → Entry) → RecordState
+each_changed f = record with_a_and_ab { entries = map f with_a_and_ab.entries }
+
+-- each number that rises, at this one of 32 bits, or the generation at this one of 64
+abbrev at_each_number : ℕ → ℕ → List RecordState
+at_each_number n g =
+    record with_a_and_ab { last_identity = n }
+    ∷ record with_a_and_ab { last_incarnations = 1 ∷ n ∷ [] }
+    ∷ each_changed (λ e. record e { references = slice_set e.references 99 n })
+    ∷ each_changed (λ e. record e { generation = g })
+    ∷ []
+
+pub one_below_the_greatest_leaves_some : map numbers_left (at_each_number (2 ^ 32 - 2) (2 ^ 64 - 2)) ≡ true ∷ true ∷ true ∷ true ∷ []
+one_below_the_greatest_leaves_some = refl
+
+pub the_greatest_of_any_number_leaves_none : map numbers_left (at_each_number (2 ^ 32 - 1) (2 ^ 64 - 1)) ≡ false ∷ false ∷ false ∷ false ∷ []
+the_greatest_of_any_number_leaves_none = refl
 
 -- ---- sixteen checkpoints
 
