@@ -8,7 +8,7 @@ use Rattle.ckpt_types.specs.Attributes.{has_flag}
 use Rattle.ckpt_types.specs.Limits.{wr_all_replicas, checkpoint_collocated}
 use Rattle.cluster_record.specs.declared.entries.Entry.{Entry}
 use Rattle.cluster_record.specs.Placement.{is_collocated, adds}
-use Rattle.cluster_record.specs.RecordState.{referred, joined, opened_with}
+use Rattle.cluster_record.specs.RecordState.{joined, opened_with}
 use Rattle.cluster_record.proofs.IdentityLaws.{KeepsIdentity}
 use Rattle.ckpt_machine.specs.Later.{IsLaterEntry}
 use Rattle.ckpt_machine.specs.Options.{is_all}
@@ -126,10 +126,6 @@ same_nodes-later up e f making complete active attributes generation hold client
 -- the same
 pub IsLaterEntry-refl : (up : List ℕ) (e : Entry) → IsLaterEntry up e e
 IsLaterEntry-refl up e = same_nodes-later up e e refl refl refl refl refl refl refl
-
--- one reference more changes nothing that the invariant looks at
-pub referred-later : (up : List ℕ) (c : ℕ) (e : Entry) → IsLaterEntry up e (referred c e)
-referred-later up c e = same_nodes-later up e (referred c e) refl refl refl refl refl refl (length-slice_set e.references c _)
 
 -- what an open leaves of one that is made
 pub opened_with-later : (opener : ℕ) (up : List ℕ) (c : ℕ) (e : Entry) → e.making ≡ None → IsLaterEntry up e (opened_with opener up c e)

@@ -26,13 +26,6 @@ use Rattle.ckpt_machine.proofs.OtherCalls.{LooksAlike, LooksLater-refl, making_s
 -- ---- calls
 
 -- what an actor has in hand after one actor's was changed
-pub put_actor-cases : {X : Type 0} (f : ActorName → Option X) (a : ActorName) (o : Option X) (b : ActorName) (x : X) → put_actor f a o b ≡ Some x → ((b ≡ a) × (o ≡ Some x)) ⊎ ((same_actor b a ≡ false) × (f b ≡ Some x))
-put_actor-cases f a o b x e =
-    elim (same_actor b a) as (λ t. same_actor b a ≡ t → cond t o (f b) ≡ Some x → ((b ≡ a) × (o ≡ Some x)) ⊎ ((same_actor b a ≡ false) × (f b ≡ Some x))) [
-      | true ↦ λ is here. inl (same_actor-true b a is, here)
-      | false ↦ λ is there. inr (is, there)
-    ] refl e
-
 pub put_actor-here : {X : Type 0} (f : ActorName → X) (a : ActorName) (x : X) → put_actor f a x a ≡ x
 put_actor-here f a x = ap (λ b. cond b x (f a)) (same_actor-refl a)
 
