@@ -14,8 +14,8 @@ ghost use Rattle.world_core.specs.IterationPlaces.{gone_on_place};
 use crate::tables::Tables;
 use ckpt_types::{
     AisError, Answer, Bytes, CHECKPOINT_COLLOCATED, CHECKPOINT_CREATE, Cause, Choice, CkptId,
-    CreationAttributes, Given, MAJOR_MAX, MAJOR_MIN, Moment, NAME_MAX, OPEN_FLAGS_ALL, Op, Outcome,
-    PENDING_MAX, RELEASE, SECTIONS_ANY, Update, VECTOR_MAX, Version, WR_ALL_REPLICAS,
+    CreationAttributes, Given, MAJOR_MAX, MAJOR_MIN, Moment, OPEN_FLAGS_ALL, Op, Outcome,
+    PENDING_MAX, RELEASE, SECTIONS_ANY, Update, VECTOR_MAX, Version, WR_ALL_REPLICAS, name_fits,
 };
 use client_handles::HandleView;
 
@@ -227,8 +227,7 @@ fn has_flag(flags: u32, flag: u32) -> bool
 fn name_is_bad(name: &Bytes) -> bool
     ensures { result ≡ name_is_bad name.now }
 {
-    let len = name.as_slice().len();
-    len == 0 || len > NAME_MAX
+    !name_fits(name)
 }
 
 fn attributes_are_bad(flags: u32, attributes: &Option<CreationAttributes>) -> bool
