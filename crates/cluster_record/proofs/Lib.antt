@@ -14,3 +14,4 @@ pub mod ClientLaws
 pub mod NoneAbove
 pub mod Rows
 pub mod RecordRows
+pub mod Walking

@@ -1,5 +1,5 @@
 //! What the record keeps of each checkpoint, what a step makes of it, and when it is due to go.
-ghost use Rattle.std.specs.Prelude.{◌≡◌, ◌+◌, ◌-◌, ◌^◌, ◌<◌, ◌≤◌, Some, None, IfSome, IfOk, MatchOption, length, filter, map, not, ◌==◌, slice_index, slice_set, vec_capacity};
+ghost use Rattle.std.specs.Prelude.{◌≡◌, ◌+◌, ◌-◌, ◌^◌, ◌<◌, ◌≤◌, Some, None, IfSome, IfOk, MatchOption, length, filter, is_some, map, not, ◌&&◌, ◌==◌, remove, slice_get, slice_index, slice_set, vec_capacity};
 ghost use Rattle.std.specs.List.{list_any, list_all};
 ghost use Rattle.ckpt_types.specs.Limits.{name_max, checkpoints_max};
 ghost use Rattle.moment_rules.specs.Times.{sum_until_end, is_reached};
@@ -8,7 +8,7 @@ ghost use Rattle.cluster_record.specs.Changes.{changed_by, CanChange};
 ghost use Rattle.cluster_record.specs.Makings.{makings_of};
 ghost use Rattle.cluster_record.specs.NamesOf.{stays_by, without_name, without_gone};
 ghost use Rattle.cluster_record.specs.Places.{change_key, place_key};
-ghost use Rattle.cluster_record.specs.RecordState.{no_nodes, no_references, identity_of, entry_of, first_active, first_complete, stays, has_references, referred, joined, opened_with, made_with, idle_from, unreferred, released_all, is_call_of, can_be_held, with_hold, can_lead, is_active, with_active};
+ghost use Rattle.cluster_record.specs.RecordState.{no_nodes, no_references, identity_of, entry_of, first_active, first_complete, retained_until, stays, has_references, referred, joined, opened_with, made_with, idle_from, unreferred, released_all, is_call_of, can_be_held, with_hold, can_lead, is_active, with_active};
 
 use crate::placement::{adds, incarnation_at, is_collocated, targets};
 use ckpt_types::{
@@ -208,13 +208,18 @@ impl Entry {
         self.generation < u64::MAX && all_may_rise(&self.references)
     }
 
-    // Whether the sweep leaves it.
+    // Whether it has a name, and is not past its retention.
+    fn is_retained(&self, now: Moment) -> bool
+        ensures { result ≡ (is_some self.now.name && not (is_reached (retained_until self.now) now)) }
+    {
+        self.name.is_some() && !is_over(self.idle, self.retention, now)
+    }
+
+    // Whether the sweep leaves it. The name is looked at first: what nobody has open has no reference in the whole list.
     fn stays(&self, now: Moment) -> bool
         ensures { result ≡ stays now self.now }
     {
-        self.making.is_some()
-            || self.has_references()
-            || (self.name.is_some() && !is_over(self.idle, self.retention, now))
+        self.is_retained(now) || self.making.is_some() || self.has_references()
     }
 }
 
@@ -486,24 +491,34 @@ pub(crate) fn makings_in(entries: &[Entry], client: u8) -> usize
         .count()
 }
 
-/// The entries that stay are left, and the names of the others are unlinked.
+/// The entries that stay are left, and the names of the others are unlinked. Each is looked at once, and where all stay,
+/// nothing is moved.
+#[inline(always)]
 pub(crate) fn keep_only(entries: &mut Vec<Entry>, names: &mut Names, staying: Staying)
     ensures items { entries.new.items ≡ filter (stays_by staying) entries.old.items }
     ensures capacity { vec_capacity entries.new ≡ vec_capacity entries.old }
     ensures names { names.new ≡ without_gone (stays_by staying) entries.old.items names.old }
 {
-    unlink_gone(entries.as_slice(), names, staying);
-    entries.retain(|entry| staying.keeps(entry));
-}
-
-fn unlink_gone(entries: &[Entry], names: &mut Names, staying: Staying)
-    ensures { names.new ≡ without_gone (stays_by staying) entries.now names.old }
-{
-    for entry in entries {
-        if !staying.keeps(entry) {
-            unlink_name(names, &entry.name);
+    let mut place = 0;
+    while place < entries.len() {
+        if staying.keeps(&entries[place]) {
+            place += 1;
+        } else {
+            take_gone(entries, names, place);
         }
     }
+}
+
+// The entry at a place goes, with its name. Most sweeps take none, so this stands apart from their loop.
+#[inline(never)]
+fn take_gone(entries: &mut Vec<Entry>, names: &mut Names, place: usize)
+    requires { place < length entries.old.items }
+    ensures items { entries.new.items ≡ remove entries.old.items place }
+    ensures capacity { vec_capacity entries.new ≡ vec_capacity entries.old }
+    ensures names { IfSome (slice_get entries.old.items place) (λ e. names.new ≡ without_name e.name names.old) }
+{
+    unlink_name(names, &entries[place].name);
+    entries.remove(place);
 }
 
 fn unlink_name(names: &mut Names, name: &Option<KeptName>)

@@ -411,8 +411,9 @@ impl Record {
         self.entries.push_reserved(entry);
     }
 
-    // A client has a checkpoint open once more, by an open from its node.
-    fn refer(&mut self, identity: CkptId, client: u8)
+    /// A client has a checkpoint open once more, which has a name and is not in the making; a collocated one is complete
+    /// on the client's node from then on. So an open is done whose answer is known. It takes no memory.
+    pub fn refer(&mut self, identity: CkptId, client: u8)
         requires can { CanRefer client (entry_of identity self.old.entries) }
         requires made { (name : List ℕ) × (identity_in (named name self.old.entries) ≡ Some identity) × (making_call (named name self.old.entries) ≡ None) }
         ensures { self.new ≡ opened identity client self.old }
