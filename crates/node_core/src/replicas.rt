@@ -1,5 +1,6 @@
 //! The replicas of a node: which one is of a checkpoint, and what comes and goes.
 ghost use Rattle.std.specs.Prelude.{◌≡◌, ◌<◌, [], ◌∷◌, ◌++◌, false, not, ◌==◌, None, Some, IfSome, IsSomeAnd, MatchOption, OnOk, OnErr, filter, length};
+ghost use Rattle.std.specs.List.{list_all};
 ghost use Rattle.ckpt_types.specs.Attributes.{is_malformed};
 ghost use Rattle.cluster_record.specs.Places.{find_key, place_key};
 ghost use Rattle.cluster_record.specs.RecordState.{entry_of};
@@ -60,7 +61,17 @@ pub(crate) fn push_opened(
 pub(crate) fn keep_there(replicas: &mut Vec<Replica>, seen: &Record)
     ensures { replicas.new.items ≡ filter (is_there seen.now.entries) replicas.old.items }
 {
+    if all_there(replicas.as_slice(), seen) {
+        return;
+    }
     replicas.retain(|replica| has_entry(replica, seen));
+}
+
+// Whether each replica's checkpoint has an entry in the record.
+fn all_there(replicas: &[Replica], seen: &Record) -> bool
+    ensures { result ≡ list_all (is_there seen.now.entries) replicas.now }
+{
+    replicas.iter().all(|replica| has_entry(replica, seen))
 }
 
 fn has_entry(replica: &Replica, seen: &Record) -> bool
