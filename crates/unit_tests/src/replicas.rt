@@ -196,12 +196,12 @@ fn can_take(replica: &Replica, snap: &Snap) -> bool
     snap.attributes() == replica.store().attributes()
 }
 
-/// Installs the snapshot, where the replica can take it over. Whether it is done.
-fn installs(replica: &mut Replica, snap: &Snap) -> bool {
+/// Installs the snapshot. Whether it is done; nothing where the replica can't take it over.
+fn installs(replica: &mut Replica, snap: &Snap) -> Option<bool> {
     if !can_take(replica, snap) {
-        return false;
+        return None;
     }
-    replica.install(snap).is_ok()
+    Some(replica.install(snap).is_ok())
 }
 
 /// A replica is pulled after its first update.
@@ -218,10 +218,13 @@ fn give(rt: &impl Abort, alloc: Global, snap: &mut Snap) -> Result<(), AllocErro
 /// A replica without an update takes what the snapshot has, and takes it once.
 fn take_over(rt: &impl Abort, alloc: Global, snap: &Snap) -> Result<(), AllocError> {
     let mut replica = Replica::reserve(alloc, 1, &ONE, 7)?;
-    assert!(rt; installs(&mut replica, snap));
+    assert!(rt; installs(&mut replica, snap) == Some(true));
     assert!(rt; has_bytes(&replica, b"ab"));
     assert_eq!(rt; replica.count(), 1);
-    assert!(rt; !installs(&mut replica, snap), "it is no older any more");
+    assert!(rt;
+        installs(&mut replica, snap) == Some(false),
+        "it is no older any more"
+    );
     Ok(())
 }
 

@@ -48,14 +48,14 @@ fn creates(
     Ok(make(store, &update, now))
 }
 
-/// Whether a read of two bytes of the second section gives these.
+/// Whether a read of two bytes of the second section gives these; nothing where the read is refused.
 fn gives(
     store: &Store,
     alloc: Global,
     offset: u64,
     bytes: &[u8],
     now: Moment,
-) -> Result<bool, AllocError> {
+) -> Result<Option<bool>, AllocError> {
     let elements = [ReadElement {
         id: Bytes::from_slice(alloc, &numbered(2))?,
         offset,
@@ -63,10 +63,10 @@ fn gives(
     }];
     let mut out = ReadBuf::reserve(alloc, 1, 8)?;
     if check_read(store, &elements, now).is_err() {
-        return Ok(false);
+        return Ok(None);
     }
     store.read_into(&elements, now, &mut out);
-    Ok(out.len() == 1 && out.piece(0) == bytes)
+    Ok(Some(out.len() == 1 && out.piece(0) == bytes))
 }
 
 /// The store has two sections: the first of all, and one of these bytes.
@@ -85,8 +85,12 @@ fn makes_room(rt: &impl Abort, alloc: Global, store: &mut Store) -> Result<(), A
     assert!(rt; creates(store, alloc, NEVER, b"ijkl", 10)?.is_ok());
     has_two(rt, store, b"ijkl");
     has_two(rt, &copy, b"efgh");
-    assert!(rt; gives(store, alloc, 2, b"kl", 10)?);
-    assert!(rt; !gives(&copy, alloc, 2, b"gh", 10)?, "it has expired");
+    assert!(rt; gives(store, alloc, 2, b"kl", 10)? == Some(true));
+    assert!(rt; gives(&copy, alloc, 2, b"gh", 9)? == Some(true));
+    assert!(rt;
+        gives(&copy, alloc, 2, b"gh", 10)?.is_none(),
+        "it has expired"
+    );
     Ok(())
 }
 
