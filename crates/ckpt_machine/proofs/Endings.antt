@@ -137,7 +137,7 @@ module _ (m : Machine) (s : CallState) (end : Option Outcome) (amiss : EndsAmiss
 
   reserve_ends : (k r : ℕ) (reply : StepReply) → ReserveRow m s k r reply end → ⊥
   reserve_ends k r words.Ok row = goes_on row.4
-  reserve_ends k r words.Memory row = goes_on row.4
+  reserve_ends k r words.Memory row = goes_on row.5
   reserve_ends k r reply row = absurd row
 
   finish_ends : (k : ℕ) (reply : StepReply) → FinishRow m s k reply end → ⊥

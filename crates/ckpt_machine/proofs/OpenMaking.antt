@@ -1,6 +1,6 @@
 -- An open that is making a checkpoint reserves it on each node that is up, and finishes it; or undoes it, where memory was refused or its deadline is reached; with any calls of others in hand.
-use Rattle.std.proofs.Common.{◌≡◌, ℕ, ◌+◌, ◌<◌, ◌≤◌, inl, inr, ◌∷◌, length, Option, Some, None, Bool, true, false, cond, not, ◌==◌, ◌&&◌, nat_lt, ℤ, refl, sym, ap, subst, ◌∙◌, arith}
-use Rattle.std.specs.Prelude.{IsSome, IsSomeAnd, IfSome, slice_index, slice_set}
+use Rattle.std.proofs.Common.{◌≡◌, ◌⊎◌, ℕ, ◌+◌, ◌<◌, ◌≤◌, inl, inr, ◌∷◌, length, Option, Some, None, Bool, true, false, cond, not, ◌==◌, ◌&&◌, nat_lt, ℤ, refl, sym, ap, subst, ◌∙◌, arith}
+use Rattle.std.specs.Prelude.{IsSome, IsSomeAnd, IfSome, is_some, slice_index, slice_set}
 use Rattle.std.proofs.lemmas.Bool.{eqb-true, eq-eqb, lt-ltb, ltb-true, and_parts}
 use Rattle.std.proofs.lemmas.Option.{same_Some}
 use Rattle.moment_rules.specs.Times.{is_reached}
@@ -11,11 +11,13 @@ use Rattle.ckpt_types.specs.declared.answers.Outcome.TheVariants.{Refused}
 use Rattle.ckpt_types.specs.declared.calls.OpenAsk.{OpenAsk}
 use Rattle.ckpt_types.specs.declared.identities.CallId.{CallId}
 use Rattle.node_msgs.specs.declared.requests.Request.TheVariants as requests
+use Rattle.node_msgs.specs.declared.replies.Reply.{Reply}
 use Rattle.node_msgs.specs.declared.replies.Reply.TheVariants as replies
 use Rattle.node_msgs.specs.declared.next.RecordStep.TheVariants as events
 use Rattle.node_msgs.specs.declared.next.Next.TheVariants.{Event, End}
 use Rattle.node_msgs.specs.declared.steps.Verb.TheVariants as verbs
 use Rattle.node_msgs.specs.declared.steps.StepReply.TheVariants as words
+use Rattle.node_core.specs.Nodes.{MayReserve}
 use Rattle.cluster_record.specs.declared.calls.Making.{Making}
 use Rattle.cluster_record.specs.declared.entries.Entry.{Entry}
 use Rattle.cluster_record.specs.Calls.{client_of}
@@ -59,6 +61,12 @@ use Rattle.ckpt_machine.proofs.Reserved.{reserved_keeps}
 use Rattle.ckpt_machine.proofs.Undone.{undone_keeps}
 use Rattle.ckpt_machine.specs.Whose.{put_who}
 use Rattle.ckpt_machine.proofs.DueStep.{Goes}
+
+-- a reservation is done, or is refused for memory where none stands
+reserve_answers : (o : Option ℕ) (answer : Reply) → MayReserve (is_some o) answer → (answer ≡ replies.Done answers.Nothing) ⊎ ((answer ≡ replies.NoMemory) × (o ≡ None))
+reserve_answers None answer (inl done) = inl done
+reserve_answers None answer (inr refused) = inr (refused, refl)
+reserve_answers (Some n) answer done = inl done
 
 -- the call is in hand, with one step more
 abbrev going_on : CallState → StepDone → Machine → Machine
@@ -382,14 +390,14 @@ module _ (m : Machine) (shapes : ℕ → Shape) (inv : InvariantIn shapes m) (s 
 
     -- the reservation is done, or refused memory
     reserve_goes : (t : Told) → IsServed m s r (requests.Reserve k) t → Goes m s (drivers.Open at_making) t
-    reserve_goes t served = elim served.may [
+    reserve_goes t served = elim (reserve_answers (m.reserved k r) served.answer served.may) [
       | inl ok ↦ subst (Goes m s (drivers.Open at_making)) (sym (IsServed-told m s r (requests.Reserve k) t (drivers.Open at_making) (replies.Done answers.Nothing) served is ok)) (record {
         row = ((ask.name, ask.attrs, at_open.asks, (up_there, by, in_time_is before, is_target, refl)), refl);
         holds = reserved_holds;
         nearer = λ none. reserved_nearer;
       })
-      | inr memory ↦ subst (Goes m s (drivers.Open at_making)) (sym (IsServed-told m s r (requests.Reserve k) t (drivers.Open at_making) replies.NoMemory served is memory)) (record {
-        row = ((ask.name, ask.attrs, at_open.asks, (up_there, by, in_time_is before, is_target, refl)), refl);
+      | inr memory ↦ subst (Goes m s (drivers.Open at_making)) (sym (IsServed-told m s r (requests.Reserve k) t (drivers.Open at_making) replies.NoMemory served is memory.0)) (record {
+        row = ((ask.name, ask.attrs, at_open.asks, (up_there, by, in_time_is before, is_target, memory.1, refl)), refl);
         holds = refused_holds;
         nearer = λ none. refused_nearer;
       })

@@ -2,7 +2,7 @@
 use Rattle.section_iter.specs.Room.{room_declared}
 use Rattle.section_iter.specs.declared.room.Room.{Room}
 use Rattle.std.specs.Option.{option_or, option_map}
-use Rattle.std.specs.Prelude.{◌≡◌, ◌≢◌, ◌⊎◌, ℕ, ◌+◌, ◌<◌, ◌≤◌, List, [], ◌∷◌, ◌++◌, length, Option, Some, None, Bool, IsTrue, true, false, ◌==◌, ◌&&◌, if◌then◌else◌, ℤ, slice_index}
+use Rattle.std.specs.Prelude.{◌≡◌, ◌≢◌, ◌⊎◌, ℕ, ◌+◌, ◌<◌, ◌≤◌, List, [], ◌∷◌, ◌++◌, length, Option, Some, None, is_some, Bool, IsTrue, true, false, ◌==◌, ◌&&◌, if◌then◌else◌, ℤ, slice_index}
 use Rattle.ckpt_types.specs.declared.answers.Answer.TheVariants as answers
 use Rattle.ckpt_types.specs.declared.answers.Outcome.{Outcome}
 use Rattle.ckpt_types.specs.declared.ais_error.AisError.TheVariants.{TryAgain}
@@ -57,6 +57,7 @@ use Rattle.cluster_record.specs.LookUps.{declared_in, creation_flags_of}
 use Rattle.cluster_record.specs.RecordState.{RecordState, entry_of, complete_of, is_live_client, home_of, is_up, no_nodes, brought_up, IsMomentFrom, moved, swept, entered, created_as, finished, opened, undone, closed, unlinked, retained, departed, hold_set, active_set}
 use Rattle.node_msgs.specs.Requests.{ckpt_of}
 use Rattle.node_core.specs.Serving.{made_id, reply_at, details_at}
+use Rattle.node_core.specs.Nodes.{MayReserve}
 use Rattle.node_core.specs.Seen.{record_seen}
 use Rattle.replica.specs.Replicas.{or_same, first_written, elements_left}
 use Rattle.weak_marks.specs.Marks.{Marked, call_of, with_next_done}
@@ -134,9 +135,9 @@ seen_snapshot (Some a) (Some s) = Some (record { attributes = a; sections = s.se
 abbrev pub payload_due : Machine → CallState → Payload
 payload_due m s = record { update = update_of s.op; elements = elements_of s.op; ids = ids_asked m s; snapshot = seen_snapshot s.kept.declares s.snapshot }
 
--- a reservation is done or refused for memory; every other answer is that of the one replica
+-- a reservation may be refused for memory where none stands; every other answer is that of the one replica
 abbrev pub MayAnswer : Machine → CallState → Request → ℕ → Reply → Type 0
-MayAnswer m s (requests.Reserve k) r answer = (answer ≡ replies.Done answers.Nothing) ⊎ (answer ≡ replies.NoMemory)
+MayAnswer m s (requests.Reserve k) r answer = MayReserve (is_some (m.reserved k r)) answer
 MayAnswer m s request r answer = answer ≡ reply_at request (payload_due m s) (record_seen m.cluster (ckpt_of request) r) (seen_at m (ckpt_of request) r)
 
 -- what comes with the answer, to be told beside it

@@ -8,13 +8,12 @@ use Rattle.node_msgs.specs.Requests.{ckpt_of}
 use Rattle.stage_slot.specs.Slots.{IsOwnedBy}
 use Rattle.weak_marks.specs.Marks.{IsMarkedBy, is_left_of}
 use Rattle.cluster_record.specs.Places.{find_key}
-use Rattle.cluster_record.specs.RecordState.{RecordState, entry_of}
 use Rattle.replica.specs.Replicas.{Replica}
 use Rattle.snap_copy.specs.Snapshots.{Snapshot}
 use Rattle.node_core.specs.declared.lent.Lent.{Lent}
 use Rattle.node_core.specs.Lending.{HasLent}
-use Rattle.node_core.specs.Nodes.{NodeState, replica_key, seen_from}
-use Rattle.node_core.specs.Seen.{is_complete}
+use Rattle.node_core.specs.Nodes.{NodeState, replica_key}
+use Rattle.node_core.specs.Seen.{EntrySeen, RecordSeen, is_complete}
 
 -- what a request asks of a replica: a stage meets no marks, an update in one step or a weak write no slot, and an installation neither; a commit and a withdrawal are of what the call has staged, and an element and the end of a weak write of what it has marked; a reservation asks no replica
 abbrev pub IsReadyFor : Request → Replica → Type 0
@@ -63,7 +62,11 @@ abbrev pub ReplicaFits : Bool → Request → Lent → Option Replica → Type 0
 ReplicaFits true request lent x = IsSomeAnd x (CanServe request lent)
 ReplicaFits false request lent x = Unit {0}
 
--- a reservation is of a checkpoint that has an entry, whose attributes passed their check; all else goes to the replica
-abbrev pub RequestFits : RecordState → NodeState → Request → Lent → Type 0
-RequestFits R n (requests.Reserve k) lent = IsSomeAnd (entry_of k R.entries) (λ e. is_malformed e.attributes ≡ false)
-RequestFits R n request lent = ReplicaFits (is_complete (seen_from R n (ckpt_of request))) request lent (find_key replica_key (ckpt_of request) n.replicas)
+-- a replica may be made of a checkpoint: it has an entry, whose attributes passed their check
+abbrev pub MayBeMade : Option EntrySeen → Type 0
+MayBeMade e = IsSomeAnd e (λ e. is_malformed e.attributes ≡ false)
+
+-- a reservation is of a checkpoint of which a replica may be made; all else goes to the replica
+abbrev pub RequestFits : RecordSeen → NodeState → Request → Lent → Type 0
+RequestFits seen n (requests.Reserve k) lent = MayBeMade seen.entry
+RequestFits seen n request lent = ReplicaFits (is_complete seen) request lent (find_key replica_key (ckpt_of request) n.replicas)

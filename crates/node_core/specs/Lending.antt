@@ -15,6 +15,18 @@ use Rattle.stage_slot.specs.Slots.{Slot}
 use Rattle.replica.specs.Replicas.{Replica, IsWrite}
 use Rattle.node_core.specs.declared.lent.Lent.{Lent}
 
+-- nothing is lent: all places are empty, and the buffer has no room
+abbrev pub nothing_lent : Lent
+nothing_lent = record {
+  read = record { pieces = []; spare_pieces = 0; spare_bytes = 0 };
+  vector = None;
+  update = None;
+  iteration = None;
+  snap = None;
+  status = None;
+  section = None;
+}
+
 -- how many bytes the elements of a read ask for at most
 abbrev pub bytes_asked : List ReadElement → ℕ
 bytes_asked elements = sum_by (λ e. e.len) elements
@@ -29,6 +41,11 @@ pub record HasRoomToRead (elements : List ReadElement) (read : Buffer) : Type 0 
 abbrev pub id_length : NewId → ℕ
 id_length (Given id) = length id
 id_length Generated = generated_id_bytes
+
+-- the update creates a section that is named so
+abbrev pub Creates : NewId → Update → Type 0
+Creates new (updates.Create named expiration bytes) = named ≡ new
+Creates new update = ⊥
 
 -- an empty buffer with room for the identifier of a new section
 pub record HasRoomForId (new : NewId) (read : Buffer) : Type 0 where

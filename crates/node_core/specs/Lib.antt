@@ -1,3 +1,4 @@
+pub mod Behind
 pub mod Changing
 pub mod Details
 pub mod Fitting

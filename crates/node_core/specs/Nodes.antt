@@ -11,7 +11,7 @@ use Rattle.cluster_record.specs.Places.{find_key, change_key}
 use Rattle.cluster_record.specs.RecordState.{RecordState, entry_of}
 use Rattle.replica.specs.Replicas.{Replica, opened_replica}
 use Rattle.node_core.specs.Payloads.{Payload}
-use Rattle.node_core.specs.Seen.{RecordSeen, record_seen, is_complete}
+use Rattle.node_core.specs.Seen.{EntrySeen, RecordSeen, record_seen, is_complete}
 use Rattle.node_core.specs.Serving.{reply_at, replica_after}
 
 -- its number, and its replicas, complete or reserved
@@ -28,20 +28,33 @@ abbrev pub where_seen : Bool → Option Replica → Option Replica
 where_seen true x = x
 where_seen false x = None
 
--- what a step at the node sees of the record
+-- what a step about a checkpoint at the node sees of the record
 abbrev pub seen_from : RecordState → NodeState → ℕ → RecordSeen
 seen_from R n k = record_seen R k n.number
 
--- the replica with which the node serves a checkpoint: by the record alone it is complete for that
-abbrev pub replica_served : RecordState → NodeState → ℕ → Option Replica
-replica_served R n k = where_seen (is_complete (seen_from R n k)) (find_key replica_key k n.replicas)
+-- the replica with which the node serves a checkpoint: by what it sees of the record alone it is complete for that
+abbrev pub replica_served : RecordSeen → NodeState → ℕ → Option Replica
+replica_served seen n k = where_seen (is_complete seen) (find_key replica_key k n.replicas)
+
+-- what a request to the node sees of the record
+abbrev pub seen_for : RecordState → NodeState → Request → RecordSeen
+seen_for R n request = seen_from R n (ckpt_of request)
+
+-- the replica with which the node serves a request
+abbrev pub served_for : RecordState → NodeState → Request → Option Replica
+served_for R n request = replica_served (seen_for R n request) n (ckpt_of request)
 
 -- ---- what it answers
 
--- a reservation is done, or is refused the memory; all else is the answer of the one replica
-abbrev pub MayReply : RecordState → NodeState → Request → Payload → Reply → Type 0
-MayReply R n (requests.Reserve k) p reply = (reply ≡ replies.Done answers.Nothing) ⊎ (reply ≡ replies.NoMemory)
-MayReply R n request p reply = reply ≡ reply_at request p (seen_from R n (ckpt_of request)) (replica_served R n (ckpt_of request))
+-- a reservation that stands is done; one that is to be made is done, or is refused the memory
+abbrev pub MayReserve : Bool → Reply → Type 0
+MayReserve true reply = reply ≡ replies.Done answers.Nothing
+MayReserve false reply = (reply ≡ replies.Done answers.Nothing) ⊎ (reply ≡ replies.NoMemory)
+
+-- a reservation may be refused the memory; all else is the answer of the one replica
+abbrev pub MayReply : RecordSeen → NodeState → Request → Payload → Reply → Type 0
+MayReply seen n (requests.Reserve k) p reply = MayReserve (is_some (find_key replica_key k n.replicas)) reply
+MayReply seen n request p reply = reply ≡ reply_at request p seen (replica_served seen n (ckpt_of request))
 
 -- ---- what becomes of it
 
@@ -51,23 +64,23 @@ with_reserved None new xs = xs ++ new ∷ []
 with_reserved (Some x) new xs = xs
 
 -- the replica of a checkpoint that is there, as it was made; what is reserved already stays
-abbrev pub reserved_for : Option Entry → ℕ → List Replica → List Replica
+abbrev pub reserved_for : Option EntrySeen → ℕ → List Replica → List Replica
 reserved_for None k xs = xs
 reserved_for (Some e) k xs = with_reserved (find_key replica_key k xs) (opened_replica k e.attributes e.made) xs
 
 -- the replicas after a reservation with this reply
-abbrev pub replicas_reserved : RecordState → ℕ → Reply → List Replica → List Replica
-replicas_reserved R k (replies.Done answers.Nothing) xs = reserved_for (entry_of k R.entries) k xs
-replicas_reserved R k reply xs = xs
+abbrev pub replicas_reserved : RecordSeen → ℕ → Reply → List Replica → List Replica
+replicas_reserved seen k (replies.Done answers.Nothing) xs = reserved_for seen.entry k xs
+replicas_reserved seen k reply xs = xs
 
 -- the replicas of a node after a request that was answered so
-abbrev pub replicas_after : RecordState → NodeState → Request → Payload → Reply → List Replica
-replicas_after R n (requests.Reserve k) p reply = replicas_reserved R k reply n.replicas
-replicas_after R n request p reply = if is_complete (seen_from R n (ckpt_of request)) then change_key replica_key (ckpt_of request) (replica_after request p (seen_from R n (ckpt_of request))) n.replicas else n.replicas
+abbrev pub replicas_after : RecordSeen → NodeState → Request → Payload → Reply → List Replica
+replicas_after seen n (requests.Reserve k) p reply = replicas_reserved seen k reply n.replicas
+replicas_after seen n request p reply = if is_complete seen then change_key replica_key (ckpt_of request) (replica_after request p seen) n.replicas else n.replicas
 
 -- the node after it
-abbrev pub node_after : RecordState → NodeState → Request → Payload → Reply → NodeState
-node_after R n request p reply = record n { replicas = replicas_after R n request p reply }
+abbrev pub node_after : RecordSeen → NodeState → Request → Payload → Reply → NodeState
+node_after seen n request p reply = record n { replicas = replicas_after seen n request p reply }
 
 -- the checkpoint of a replica has an entry
 abbrev pub is_there : List Entry → Replica → Bool

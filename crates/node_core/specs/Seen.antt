@@ -2,11 +2,12 @@
 use Rattle.std.specs.Prelude.{ℕ, Option, Some, None, Bool, false, ◌==◌, not, ℤ, slice_index}
 use Rattle.ckpt_types.specs.declared.attributes.CreationAttributes.{CreationAttributes}
 use Rattle.cluster_record.specs.declared.entries.Entry.{Entry}
-use Rattle.cluster_record.specs.RecordState.{RecordState, entry_of, attributes_now}
+use Rattle.cluster_record.specs.RecordState.{RecordState, entry_of}
 
--- of the entry of its checkpoint: what it declares, with the retention as it is set now; its generation; the moment of its making; and whether the node is complete for it
+-- of the entry of its checkpoint: what it declares, as it was made; the retention as it is set now; its generation; the moment of its making; and whether the node is complete for it
 pub record EntrySeen : Type 0 where
   pub attributes : CreationAttributes
+  pub retention : ℤ
   pub generation : ℕ
   pub made : ℤ
   pub complete : Bool
@@ -20,7 +21,8 @@ pub record RecordSeen : Type 0 where
 abbrev pub entry_seen : ℕ → Option Entry → Option EntrySeen
 entry_seen r None = None
 entry_seen r (Some e) = Some (record {
-  attributes = attributes_now e;
+  attributes = e.attributes;
+  retention = e.retention;
   generation = e.generation;
   made = e.made;
   complete = not (slice_index e.complete r == 0);

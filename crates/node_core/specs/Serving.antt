@@ -119,10 +119,10 @@ abbrev pub next_details : Option NextGiven → Details
 next_details None = beside.Nothing
 next_details (Some next) = beside.Section (description next.section)
 
--- the attributes of the checkpoint as they are now; where it is gone, those of the replica
+-- the attributes of the checkpoint, with the retention as it is set now; where it is gone, those of the replica
 abbrev pub attributes_seen : Option EntrySeen → CreationAttributes → CreationAttributes
 attributes_seen None own = own
-attributes_seen (Some e) own = e.attributes
+attributes_seen (Some e) own = record e.attributes { retention_duration = e.retention }
 
 -- ---- snapshots
 

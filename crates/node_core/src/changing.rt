@@ -1,5 +1,5 @@
 //! A node's part of a step of the record.
-ghost use Rattle.std.specs.Prelude.{◌≡◌, IsSomeAnd};
+ghost use Rattle.std.specs.Prelude.{◌≡◌, None, IsSomeAnd};
 ghost use Rattle.cluster_record.specs.Places.{find_key, change_key};
 ghost use Rattle.replica.specs.Replicas.{abandoned, staged};
 ghost use Rattle.node_core.specs.Changing.{filled_by, taken_lent, LendsInto, TakesLent, TakesStage};
@@ -23,7 +23,7 @@ pub(crate) fn stage_at(
 )
     requires { IsSomeAnd (find_key replica_key ckpt replicas.old) (TakesStage lent.old moment) }
     ensures new { replicas.new ≡ change_key replica_key ckpt (staged call (update_or lent.old.update) moment) replicas.old }
-    ensures snap { lent.new.snap ≡ lent.old.snap }
+    ensures lent { lent.new ≡ record lent.old { update = None } }
 {
     let Some(update) = lent.update.take() else {
         unreachable!()
@@ -35,7 +35,7 @@ pub(crate) fn stage_at(
 /// The snapshot that is lent has what the replica of a checkpoint has.
 pub(crate) fn lend_at(replicas: &[Replica], ckpt: CkptId, lent: &mut Lent)
     requires { IsSomeAnd (find_key replica_key ckpt replicas.now) (LendsInto lent.old) }
-    ensures { lent.new.snap ≡ filled_by (find_key replica_key ckpt replicas.now) lent.old.snap }
+    ensures { lent.new ≡ record lent.old { snap = filled_by (find_key replica_key ckpt replicas.now) lent.old.snap } }
 {
     let Some(replica) = find_at(replicas, ckpt) else {
         unreachable!()

@@ -1,14 +1,14 @@
 //! Whether a request or a change may come to a node.
-ghost use Rattle.std.specs.Prelude.{◌≡◌, ℕ, true, false, None, IsOk, IsSomeAnd, Decides};
-ghost use Rattle.ckpt_types.specs.Attributes.{is_malformed};
+ghost use Rattle.std.specs.Prelude.{◌≡◌, true, false, None, IsOk, IsSomeAnd, Decides};
 ghost use Rattle.cluster_record.specs.Places.{find_key};
-ghost use Rattle.cluster_record.specs.RecordState.{entry_of};
 ghost use Rattle.stage_slot.specs.Slots.{IsOwnedBy};
 ghost use Rattle.weak_marks.specs.Marks.{IsMarkedBy, is_left_of};
 ghost use Rattle.replica.specs.Replicas.{outcome_on};
-ghost use Rattle.node_core.specs.Changing.{ChangeFits, LendsInto, TakesLent, TakesStage};
-ghost use Rattle.node_core.specs.Fitting.{IsReadyFor, HasCountLeft, CanServe, RequestFits, TakesSnapshot};
+ghost use Rattle.node_core.specs.Changing.{seen_for_change, ChangeFits, LendsInto, TakesLent, TakesStage};
+ghost use Rattle.node_core.specs.Fitting.{IsReadyFor, HasCountLeft, CanServe, MayBeMade, RequestFits, TakesSnapshot};
 ghost use Rattle.node_core.specs.Nodes.{replica_key};
+ghost use Rattle.node_core.specs.Seen.{record_seen};
+ghost use Rattle.node_msgs.specs.Requests.{ckpt_of};
 
 use crate::keeping::keeps_to;
 use crate::lending::{has_lent, has_room_to_pull};
@@ -31,10 +31,10 @@ pub(crate) fn fits_in(
     request: &Request,
     lent: &Lent,
 ) -> bool
-    ensures { Decides result (RequestFits seen.now (record { number = number; replicas = replicas.now }) request.now lent.now) }
+    ensures { Decides result (RequestFits (record_seen seen.now (ckpt_of request.now) number) (record { number = number; replicas = replicas.now }) request.now lent.now) }
 {
     if let Request::Reserve(ckpt) = request {
-        return may_open(seen, *ckpt);
+        return may_be_made(seen, *ckpt, number);
     }
     if !is_complete(seen, request.ckpt(), number) {
         return true;
@@ -45,17 +45,18 @@ pub(crate) fn fits_in(
     }
 }
 
-/// Whether a change may come to a node of these replicas, whichever node it is.
+/// Whether a change may come to a node of these replicas.
 pub(crate) fn change_fits_in(
     replicas: &[Replica],
+    number: NodeId,
     seen: &Record,
     change: &NodeChange,
     lent: &Lent,
 ) -> bool
-    ensures { (r : ℕ) → Decides result (ChangeFits seen.now (record { number = r; replicas = replicas.now }) change.now lent.now) }
+    ensures { Decides result (ChangeFits (seen_for_change seen.now (record { number = number; replicas = replicas.now }) change.now) (record { number = number; replicas = replicas.now }) change.now lent.now) }
 {
     match change {
-        NodeChange::Add(ckpt, _) => may_add(replicas, seen, *ckpt),
+        NodeChange::Add(ckpt, _) => may_add(replicas, seen, *ckpt, number),
         NodeChange::Lend(ckpt) => may_lend(replicas, *ckpt, lent),
         NodeChange::Take(ckpt, _) => may_take(replicas, *ckpt, lent),
         NodeChange::Stage(_, ckpt, moment) => may_stage(replicas, *ckpt, *moment, lent),
@@ -67,8 +68,8 @@ pub(crate) fn change_fits_in(
 // ---- the record
 
 // Whether a replica of a checkpoint may be made: it has an entry, whose attributes passed their check.
-fn may_open(seen: &Record, ckpt: CkptId) -> bool
-    ensures { Decides result (IsSomeAnd (entry_of ckpt seen.now.entries) (λ e. is_malformed e.attributes ≡ false)) }
+fn may_be_made(seen: &Record, ckpt: CkptId, number: NodeId) -> bool
+    ensures { Decides result (MayBeMade (record_seen seen.now ckpt number).entry) }
 {
     match seen.entry(ckpt) {
         None => false,
@@ -76,10 +77,10 @@ fn may_open(seen: &Record, ckpt: CkptId) -> bool
     }
 }
 
-fn may_add(replicas: &[Replica], seen: &Record, ckpt: CkptId) -> bool
-    ensures { Decides result (IsSomeAnd (entry_of ckpt seen.now.entries) (λ e. is_malformed e.attributes ≡ false) × (find_key replica_key ckpt replicas.now ≡ None)) }
+fn may_add(replicas: &[Replica], seen: &Record, ckpt: CkptId, number: NodeId) -> bool
+    ensures { Decides result (MayBeMade (record_seen seen.now ckpt number).entry × (find_key replica_key ckpt replicas.now ≡ None)) }
 {
-    if !may_open(seen, ckpt) {
+    if !may_be_made(seen, ckpt, number) {
         return false;
     }
     find_at(replicas, ckpt).is_none()

@@ -1,5 +1,6 @@
 //! What a caller lends to a step, so that the step takes no memory.
-ghost use Rattle.std.specs.Prelude.{◌≡◌, IfOk, None};
+ghost use Rattle.std.specs.Prelude.{◌≡◌, IfOk};
+ghost use Rattle.node_core.specs.Lending.{nothing_lent};
 
 use ckpt_types::{
     Apart, CheckpointDescriptor, ReadBuf, SectionDescriptor, SharedReads, SharedUpdate,
@@ -28,12 +29,9 @@ pub struct Lent {
 }
 
 impl Lent {
-    /// Nothing is lent.
+    /// Nothing is lent, and the buffer has no room.
     pub fn nothing(alloc: Global) -> Result<Lent, AllocError>
-        ensures update { IfOk result (λ lent. lent.update ≡ None) }
-        ensures vector { IfOk result (λ lent. lent.vector ≡ None) }
-        ensures iteration { IfOk result (λ lent. lent.iteration ≡ None) }
-        ensures snap { IfOk result (λ lent. lent.snap ≡ None) }
+        ensures { IfOk result (λ lent. lent ≡ nothing_lent) }
     {
         Ok(Lent {
             read: ReadBuf::reserve(alloc, 0, 0)?,

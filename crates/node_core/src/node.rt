@@ -1,16 +1,14 @@
 //! A node, and the requests that it serves.
-ghost use Rattle.std.specs.Prelude.{◌≡◌, [], IfOk, IfSome, IsSomeAnd, MatchOption, None, Some, OnErr, OnOk, false, true};
-ghost use Rattle.ckpt_types.specs.Attributes.{is_malformed};
-ghost use Rattle.node_msgs.specs.Requests.{ckpt_of};
+ghost use Rattle.std.specs.Prelude.{◌≡◌, [], IfOk, IfSome, IsSomeAnd, MatchOption, None, Some, OnErr, OnOk, true};
 ghost use Rattle.stage_slot.specs.Slots.{owner_of, IsOwnedBy};
 ghost use Rattle.weak_marks.specs.Marks.{call_of};
 ghost use Rattle.replica.specs.Replicas.{answer_unless, committed, install_answer, installed, outcome_on, pull_result, pulled_unless, staged};
 ghost use Rattle.cluster_record.specs.Places.{find_key, change_key};
-ghost use Rattle.cluster_record.specs.RecordState.{entry_of};
-ghost use Rattle.node_core.specs.Changing.{added_for, changed_node, lent_behind, taken_over, ChangeFits, IsAddition};
+ghost use Rattle.node_core.specs.Behind.{remains_at};
+ghost use Rattle.node_core.specs.Changing.{added_for, changed_node, lent_behind, seen_for_change, taken_over, ChangeFits, IsAddition};
 ghost use Rattle.node_core.specs.Details.{details_told};
-ghost use Rattle.node_core.specs.Fitting.{RequestFits, TakesSnapshot, TakesUpdate};
-ghost use Rattle.node_core.specs.Nodes.{NodeState, replica_key, seen_from, replica_served, MayReply, node_after, freed_node};
+ghost use Rattle.node_core.specs.Fitting.{MayBeMade, RequestFits, TakesSnapshot, TakesUpdate};
+ghost use Rattle.node_core.specs.Nodes.{NodeState, replica_key, seen_from, seen_for, served_for, MayReply, node_after, freed_node};
 ghost use Rattle.node_core.specs.Payloads.{payload_of};
 ghost use Rattle.node_core.specs.Serving.{details_at, iteration_behind, snapshot_behind};
 
@@ -69,9 +67,9 @@ impl Node {
 
     /// The answer to a request, by what the node sees of the record, and by its replica of the checkpoint alone. What
     /// travels beside the request is lent, and what comes beside the reply stands in it: the pieces of a read, the
-    /// identifier of a new section, a status, the next section of an iteration, what was pulled. `NoReplica` is answered
-    /// exactly where the record does not have the node complete for the checkpoint. A reservation takes memory, and may be refused
-    /// it; no other request takes any.
+    /// identifier of a new section, a status, the next section of an iteration, what was pulled. What is not used stays as
+    /// it was. `NoReplica` is answered exactly where the record does not have the node complete for the checkpoint. A
+    /// reservation takes memory, and may be refused it, unless it stands already; no other request takes any.
     pub fn serve(
         &mut self,
         alloc: Global,
@@ -79,15 +77,16 @@ impl Node {
         request: &Request,
         lent: &mut Lent,
     ) -> Reply
-        requires fits { RequestFits seen.now self.old request.now lent.old }
-        ensures reply { MayReply seen.now self.old request.now (payload_of lent.old) result }
-        ensures new { self.new ≡ node_after seen.now self.old request.now (payload_of lent.old) result }
-        ensures details { details_told result lent.new ≡ details_at request.now (payload_of lent.old) (seen_from seen.now self.old (ckpt_of request.now)) (replica_served seen.now self.old (ckpt_of request.now)) }
-        ensures iteration { lent.new.iteration ≡ iteration_behind request.now (seen_from seen.now self.old (ckpt_of request.now)) (replica_served seen.now self.old (ckpt_of request.now)) lent.old.iteration }
-        ensures snapshot { lent.new.snap ≡ snapshot_behind request.now (replica_served seen.now self.old (ckpt_of request.now)) lent.old.snap }
+        requires fits { RequestFits (seen_for seen.now self.old request.now) self.old request.now lent.old }
+        ensures reply { MayReply (seen_for seen.now self.old request.now) self.old request.now (payload_of lent.old) result }
+        ensures new { self.new ≡ node_after (seen_for seen.now self.old request.now) self.old request.now (payload_of lent.old) result }
+        ensures details { details_told result lent.new ≡ details_at request.now (payload_of lent.old) (seen_for seen.now self.old request.now) (served_for seen.now self.old request.now) }
+        ensures iteration { lent.new.iteration ≡ iteration_behind request.now (seen_for seen.now self.old request.now) (served_for seen.now self.old request.now) lent.old.iteration }
+        ensures snapshot { lent.new.snap ≡ snapshot_behind request.now (served_for seen.now self.old request.now) lent.old.snap }
+        ensures kept { lent.new ≡ remains_at request.now (served_for seen.now self.old request.now) result lent.new lent.old }
     {
         if let Request::Reserve(ckpt) = request {
-            return reserve_in(&mut self.replicas, alloc, seen, *ckpt);
+            return reserve_in(&mut self.replicas, self.number, alloc, seen, *ckpt);
         }
         serve_in(
             self.replicas.as_mut_slice(),
@@ -166,15 +165,15 @@ impl Node {
 
     /// Whether a request may come to the node, with what is lent.
     pub fn fits(&self, seen: &Record, request: &Request, lent: &Lent) -> bool
-        ensures fits { result ≡ true → RequestFits seen.now self.now request.now lent.now }
-        ensures all { RequestFits seen.now self.now request.now lent.now → result ≡ true }
+        ensures fits { result ≡ true → RequestFits (seen_for seen.now self.now request.now) self.now request.now lent.now }
+        ensures all { RequestFits (seen_for seen.now self.now request.now) self.now request.now lent.now → result ≡ true }
     {
         fits_in(self.replicas.as_slice(), self.number, seen, request, lent)
     }
 
     /// The node's part of a step of the record. An addition takes memory; where that is refused, the node is as
     /// before. Nothing else takes any. Where a replica is lent, the snapshot that travels beside the step has what the
-    /// replica has from then on.
+    /// replica has from then on; the update of a stage is used up, and all else that is lent stays.
     pub fn change(
         &mut self,
         alloc: Global,
@@ -182,14 +181,21 @@ impl Node {
         change: &NodeChange,
         lent: &mut Lent,
     ) -> Result<(), AllocError>
-        requires fits { ChangeFits seen.now self.old change.now lent.old }
-        ensures ok { OnOk result (self.new ≡ changed_node seen.now change.now (payload_of lent.old) self.old) }
+        requires fits { ChangeFits (seen_for_change seen.now self.old change.now) self.old change.now lent.old }
+        ensures ok { OnOk result (self.new ≡ changed_node (seen_for_change seen.now self.old change.now) change.now (payload_of lent.old) self.old) }
         ensures err { OnErr result ((self.new ≡ self.old) × IsAddition change.now) }
-        ensures snapshot { lent.new.snap ≡ lent_behind change.now self.old.replicas lent.old.snap }
+        ensures lent { lent.new ≡ lent_behind change.now self.old.replicas lent.old }
     {
         match change {
             NodeChange::Add(ckpt, generation) => {
-                add_in(&mut self.replicas, alloc, seen, *ckpt, *generation)
+                add_in(
+                    &mut self.replicas,
+                    self.number,
+                    alloc,
+                    seen,
+                    *ckpt,
+                    *generation,
+                )
             }
             NodeChange::Lend(ckpt) => {
                 lend_at(self.replicas.as_slice(), *ckpt, lent);
@@ -230,20 +236,27 @@ impl Node {
         ckpt: CkptId,
         generation: u64,
     ) -> Result<(), AllocError>
-        requires there { IsSomeAnd (entry_of ckpt seen.now.entries) (λ e. is_malformed e.attributes ≡ false) }
+        requires there { MayBeMade (seen_from seen.now self.old ckpt).entry }
         requires free { find_key replica_key ckpt self.old.replicas ≡ None }
-        ensures ok { OnOk result (self.new ≡ record self.old { replicas = added_for (entry_of ckpt seen.now.entries) ckpt generation self.old.replicas }) }
+        ensures ok { OnOk result (self.new ≡ record self.old { replicas = added_for (seen_from seen.now self.old ckpt).entry ckpt generation self.old.replicas }) }
         ensures err { OnErr result (self.new ≡ self.old) }
     {
-        add_in(&mut self.replicas, alloc, seen, ckpt, generation)
+        add_in(
+            &mut self.replicas,
+            self.number,
+            alloc,
+            seen,
+            ckpt,
+            generation,
+        )
     }
 
     /// Whether a change may come to the node, with what is lent.
     pub fn change_fits(&self, seen: &Record, change: &NodeChange, lent: &Lent) -> bool
-        ensures fits { result ≡ true → ChangeFits seen.now self.now change.now lent.now }
-        ensures all { ChangeFits seen.now self.now change.now lent.now → result ≡ true }
+        ensures fits { result ≡ true → ChangeFits (seen_for_change seen.now self.now change.now) self.now change.now lent.now }
+        ensures all { ChangeFits (seen_for_change seen.now self.now change.now) self.now change.now lent.now → result ≡ true }
     {
-        change_fits_in(self.replicas.as_slice(), seen, change, lent)
+        change_fits_in(self.replicas.as_slice(), self.number, seen, change, lent)
     }
 
     /// The replica that the node has of a checkpoint, complete or reserved.

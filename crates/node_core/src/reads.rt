@@ -8,6 +8,7 @@ ghost use Rattle.update_rules.specs.Told.{check_answer};
 ghost use Rattle.cluster_record.specs.RecordState.{entry_of};
 ghost use Rattle.node_msgs.specs.declared.replies.Reply.TheVariants as replies;
 ghost use Rattle.node_msgs.specs.declared.details.Details.TheVariants as beside;
+ghost use Rattle.node_core.specs.Behind.{section_in_place, with_told};
 ghost use Rattle.node_core.specs.Details.{details_told, section_put};
 ghost use Rattle.node_core.specs.Lending.{bytes_asked, HasRoomToRead};
 ghost use Rattle.node_core.specs.Payloads.{elements_or, ids_or};
@@ -28,8 +29,7 @@ pub(crate) fn read_lent(replica: &Replica, seen: &Record, lent: &mut Lent) -> Re
     requires { IsSomeAnd lent.old.vector (λ elements. HasRoomToRead elements lent.old.read) }
     ensures reply { result ≡ done_or_refused (replies.Done answers.Pieces) (read (elements_or lent.old.vector) seen.now.moment replica.now.sections) }
     ensures details { details_told result lent.new ≡ read_details (read (elements_or lent.old.vector) seen.now.moment replica.now.sections) }
-    ensures iteration { lent.new.iteration ≡ lent.old.iteration }
-    ensures snap { lent.new.snap ≡ lent.old.snap }
+    ensures lent { lent.new ≡ with_told result lent.new (record lent.old { vector = None }) }
 {
     let Some(vector) = lent.vector.take() else {
         unreachable!()
@@ -45,8 +45,7 @@ fn read(store: &Store, elements: &[ReadElement], now: Moment, lent: &mut Lent) -
     requires bytes { bytes_asked elements.now ≤ lent.old.read.spare_bytes }
     ensures reply { result ≡ done_or_refused (replies.Done answers.Pieces) (read elements.now now store.now.sections) }
     ensures details { details_told result lent.new ≡ read_details (read elements.now now store.now.sections) }
-    ensures iteration { lent.new.iteration ≡ lent.old.iteration }
-    ensures snap { lent.new.snap ≡ lent.old.snap }
+    ensures lent { lent.new ≡ with_told result lent.new lent.old }
 {
     if let Err(refused) = check_read(store, elements, now) {
         return Reply::Refused(refused.error, refused.index);
@@ -67,8 +66,7 @@ pub(crate) fn status_lent(replica: &Replica, ckpt: CkptId, seen: &Record, lent: 
     requires { IsSome lent.old.status }
     ensures reply { result ≡ replies.Done answers.Status }
     ensures details { (r : ℕ) → details_told result lent.new ≡ beside.Status (status (attributes_seen (entry_seen r (entry_of ckpt seen.now.entries)) replica.now.attributes) seen.now.moment replica.now.sections) }
-    ensures iteration { lent.new.iteration ≡ lent.old.iteration }
-    ensures snap { lent.new.snap ≡ lent.old.snap }
+    ensures lent { lent.new ≡ record lent.old { status = lent.new.status } }
 {
     let Some(place) = &mut lent.status else {
         unreachable!()
@@ -83,7 +81,7 @@ pub(crate) fn start_lent(replica: &Replica, choice: Choice, seen: &Record, lent:
     requires { IsSomeAnd lent.old.iteration (λ kept. IsRoomFor replica.now.attributes kept.room) }
     ensures reply { result ≡ replies.Done answers.Nothing }
     ensures iteration { MatchOption lent.old.iteration (lent.new.iteration ≡ None) (λ kept. lent.new.iteration ≡ Some (record kept { ids = chosen choice seen.now.moment replica.now.sections })) }
-    ensures snap { lent.new.snap ≡ lent.old.snap }
+    ensures lent { lent.new ≡ record lent.old { iteration = lent.new.iteration } }
 {
     let Some(iteration) = &mut lent.iteration else {
         unreachable!()
@@ -116,7 +114,7 @@ pub(crate) fn next_lent(replica: &Replica, seen: &Record, lent: &mut Lent) -> Re
     ensures reply { result ≡ next_reply (given (ids_or lent.old.iteration) seen.now.moment replica.now.sections) }
     ensures details { details_told result lent.new ≡ next_details (given (ids_or lent.old.iteration) seen.now.moment replica.now.sections) }
     ensures iteration { MatchOption lent.old.iteration (lent.new.iteration ≡ None) (λ kept. lent.new.iteration ≡ Some (kept_after kept (given kept.ids seen.now.moment replica.now.sections))) }
-    ensures snap { lent.new.snap ≡ lent.old.snap }
+    ensures lent { lent.new ≡ with_told result lent.new (record lent.old { iteration = lent.new.iteration }) }
 {
     let Some(iteration) = &mut lent.iteration else {
         unreachable!()
@@ -137,6 +135,7 @@ fn next(
     ensures reply { result ≡ next_reply (given iteration.old.ids now store.now.sections) }
     ensures details { section_put result place.new ≡ next_details (given iteration.old.ids now store.now.sections) }
     ensures new { iteration.new ≡ kept_after iteration.old (given iteration.old.ids now store.now.sections) }
+    ensures left { place.new ≡ section_in_place result place.new place.old }
 {
     match iteration.next(store, now) {
         Err(_) => Reply::Refused(AisError::NoSections, 0),

@@ -5,6 +5,7 @@ ghost use Rattle.node_msgs.specs.Requests.{ckpt_of};
 ghost use Rattle.stage_slot.specs.Slots.{owner_of, IsOwnedBy};
 ghost use Rattle.weak_marks.specs.Marks.{call_of};
 ghost use Rattle.replica.specs.Replicas.{answer_unless, committed, install_answer, installed, outcome_on, pull_result, pulled_unless, staged};
+ghost use Rattle.node_core.specs.Behind.{remains_at, remains_of};
 ghost use Rattle.node_core.specs.Changing.{taken_over};
 ghost use Rattle.node_core.specs.Details.{details_told};
 ghost use Rattle.node_core.specs.Fitting.{CanServe, ReplicaFits, TakesSnapshot, TakesUpdate};
@@ -52,6 +53,7 @@ pub(crate) fn serve_in(
     ensures details { details_told result lent.new ≡ details_at request.now (payload_of lent.old) (record_seen seen.now (ckpt_of request.now) number) (where_seen (is_complete (record_seen seen.now (ckpt_of request.now) number)) (find_key replica_key (ckpt_of request.now) replicas.old)) }
     ensures iteration { lent.new.iteration ≡ iteration_behind request.now (record_seen seen.now (ckpt_of request.now) number) (where_seen (is_complete (record_seen seen.now (ckpt_of request.now) number)) (find_key replica_key (ckpt_of request.now) replicas.old)) lent.old.iteration }
     ensures snapshot { lent.new.snap ≡ snapshot_behind request.now (where_seen (is_complete (record_seen seen.now (ckpt_of request.now) number)) (find_key replica_key (ckpt_of request.now) replicas.old)) lent.old.snap }
+    ensures kept { lent.new ≡ remains_at request.now (where_seen (is_complete (record_seen seen.now (ckpt_of request.now) number)) (find_key replica_key (ckpt_of request.now) replicas.old)) result lent.new lent.old }
 {
     let Some(i) = place_served(replicas, number, seen, request.ckpt()) else {
         return Reply::NoReplica;
@@ -144,6 +146,7 @@ fn answer(
     ensures details { details_told result lent.new ≡ details_of request.now (payload_of lent.old) (record_seen seen.now (ckpt_of request.now) number) replica.old }
     ensures iteration { lent.new.iteration ≡ iteration_behind request.now (record_seen seen.now (ckpt_of request.now) number) (Some replica.old) lent.old.iteration }
     ensures snapshot { lent.new.snap ≡ snapshot_behind request.now (Some replica.old) lent.old.snap }
+    ensures kept { lent.new ≡ remains_of request.now result lent.new lent.old }
 {
     match request {
         Request::Stage(call, _, moment) => stage_lent(replica, *call, *moment, lent),

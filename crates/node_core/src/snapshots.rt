@@ -55,7 +55,7 @@ pub(crate) fn pull_whole(replica: &Replica, snap: &mut Snap) -> Result<(), Held>
 /// The snapshot that is lent has what the replica has, on which no marks stand.
 pub(crate) fn fill_lent(replica: &Replica, lent: &mut Lent)
     requires { LendsInto lent.old replica.now }
-    ensures { lent.new.snap ≡ filled_by (Some replica.now) lent.old.snap }
+    ensures { lent.new ≡ record lent.old { snap = filled_by (Some replica.now) lent.old.snap } }
 {
     let Some(snap) = &mut lent.snap else {
         unreachable!()

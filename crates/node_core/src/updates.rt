@@ -1,14 +1,15 @@
 //! What a replica makes of an update: stages, claims, commits and withdrawals, and updates in one step.
-ghost use Rattle.std.specs.Prelude.{◌≡◌, ◌-◌, ◌^◌, ◌<◌, None, IsSome, IsSomeAnd};
+ghost use Rattle.std.specs.Prelude.{◌≡◌, ◌-◌, ◌^◌, ◌<◌, ◌≤◌, [], None, Some, IsSome, IsSomeAnd, length};
 ghost use Rattle.ckpt_types.specs.declared.answers.Answer.TheVariants as answers;
 ghost use Rattle.node_msgs.specs.declared.replies.Reply.TheVariants as replies;
 ghost use Rattle.stage_slot.specs.Slots.{IsOwnedBy};
 ghost use Rattle.replica.specs.Replicas.{outcome_on, staged, committed, applied};
+ghost use Rattle.node_core.specs.Behind.{with_told};
 ghost use Rattle.node_core.specs.Details.{details_told};
 ghost use Rattle.node_core.specs.Fitting.{TakesUpdate};
-ghost use Rattle.node_core.specs.Lending.{HasRoomToTell, HasRoomToCommit};
+ghost use Rattle.node_core.specs.Lending.{Creates, HasRoomForId, HasRoomToTell, HasRoomToCommit};
 ghost use Rattle.node_core.specs.Payloads.{update_or};
-ghost use Rattle.node_core.specs.Serving.{stage_reply, claim_reply, claimed_by, update_answer, commit_answer, told_id, slot_id, apply_reply, applied_id};
+ghost use Rattle.node_core.specs.Serving.{stage_reply, claim_reply, claimed_by, update_answer, commit_answer, id_told, told_id, slot_id, apply_reply, applied_id};
 ghost use Rattle.node_core.specs.StageReplies.{reply_refused, reply_told};
 
 use crate::lent::Lent;
@@ -29,8 +30,7 @@ pub(crate) fn stage_lent(
     requires lent { IsSome lent.old.update }
     ensures reply { result ≡ stage_reply (outcome_on replica.old (update_or lent.old.update) moment) replica.old.slot }
     ensures new { replica.new ≡ staged call (update_or lent.old.update) moment replica.old }
-    ensures iteration { lent.new.iteration ≡ lent.old.iteration }
-    ensures snap { lent.new.snap ≡ lent.old.snap }
+    ensures lent { lent.new ≡ record lent.old { update = None } }
 {
     let Some(update) = lent.update.take() else {
         unreachable!()
@@ -67,15 +67,82 @@ pub(crate) fn apply_lent(replica: &mut Replica, moment: Moment, lent: &mut Lent)
     ensures reply { result ≡ apply_reply (update_or lent.old.update) (outcome_on replica.old (update_or lent.old.update) moment) replica.old.marks }
     ensures new { replica.new ≡ applied (update_or lent.old.update) moment replica.old }
     ensures details { details_told result lent.new ≡ applied_id replica.old.marks (outcome_on replica.old (update_or lent.old.update) moment) (told_id (update_or lent.old.update) moment replica.old.sections) }
-    ensures iteration { lent.new.iteration ≡ lent.old.iteration }
-    ensures snap { lent.new.snap ≡ lent.old.snap }
+    ensures lent { lent.new ≡ with_told result lent.new (record lent.old { update = None }) }
 {
     let Some(update) = lent.update.take() else {
         unreachable!()
     };
-    let update = update.value();
-    tell_id(replica.store(), update, moment, lent);
-    reply_told(update_answer(update), replica.apply_now(update, moment))
+    apply(replica, update.value(), moment, lent)
+}
+
+fn apply(replica: &mut Replica, update: &Update, moment: Moment, lent: &mut Lent) -> Reply
+    requires room { replica.old.count < 2 ^ 64 - 1 }
+    requires free { replica.old.slot ≡ None }
+    requires lent { HasRoomToTell update.now lent.old.read }
+    ensures reply { result ≡ apply_reply update.now (outcome_on replica.old update.now moment) replica.old.marks }
+    ensures new { replica.new ≡ applied update.now moment replica.old }
+    ensures details { details_told result lent.new ≡ applied_id replica.old.marks (outcome_on replica.old update.now moment) (told_id update.now moment replica.old.sections) }
+    ensures lent { lent.new ≡ with_told result lent.new lent.old }
+{
+    match update {
+        Update::Create(new, _, _) => create(replica, update, new, moment, lent),
+        _ => reply_told(Answer::Nothing, replica.apply_now(update, moment)),
+    }
+}
+
+// A creation is made at once. Where it is done, it tells the identifier of its section.
+fn create(
+    replica: &mut Replica,
+    update: &Update,
+    new: &NewId,
+    moment: Moment,
+    lent: &mut Lent,
+) -> Reply
+    requires creation { Creates new.now update.now }
+    requires room { replica.old.count < 2 ^ 64 - 1 }
+    requires free { replica.old.slot ≡ None }
+    requires lent { HasRoomForId new.now lent.old.read }
+    ensures reply { result ≡ apply_reply update.now (outcome_on replica.old update.now moment) replica.old.marks }
+    ensures new { replica.new ≡ applied update.now moment replica.old }
+    ensures details { details_told result lent.new ≡ applied_id replica.old.marks (outcome_on replica.old update.now moment) (told_id update.now moment replica.old.sections) }
+    ensures lent { lent.new ≡ with_told result lent.new lent.old }
+{
+    match new {
+        NewId::Given(id) => create_named(replica, update, id.as_slice(), moment, lent),
+        NewId::Generated => {
+            let id = replica.store().generated(moment);
+            create_named(replica, update, id.as_slice(), moment, lent)
+        }
+    }
+}
+
+// A creation of a section whose identifier is known.
+fn create_named(
+    replica: &mut Replica,
+    update: &Update,
+    id: &[u8],
+    moment: Moment,
+    lent: &mut Lent,
+) -> Reply
+    requires creation { update_answer update.now ≡ answers.Created }
+    requires id { told_id update.now moment replica.old.sections ≡ id_told (Some id.now) }
+    requires room { replica.old.count < 2 ^ 64 - 1 }
+    requires free { replica.old.slot ≡ None }
+    requires empty { lent.old.read.pieces ≡ [] }
+    requires places { 1 ≤ lent.old.read.spare_pieces }
+    requires bytes { length id.now ≤ lent.old.read.spare_bytes }
+    ensures reply { result ≡ apply_reply update.now (outcome_on replica.old update.now moment) replica.old.marks }
+    ensures new { replica.new ≡ applied update.now moment replica.old }
+    ensures details { details_told result lent.new ≡ applied_id replica.old.marks (outcome_on replica.old update.now moment) (told_id update.now moment replica.old.sections) }
+    ensures lent { lent.new ≡ with_told result lent.new lent.old }
+{
+    match replica.apply_now(update, moment) {
+        Ok(()) => {
+            lent.read.push(id);
+            Reply::Done(Answer::Created)
+        }
+        Err(refused) => reply_refused(refused),
+    }
 }
 
 pub(crate) fn claim(replica: &mut Replica, call: CallId, owner: CallId) -> Reply
@@ -117,8 +184,7 @@ pub(crate) fn commit_lent(replica: &mut Replica, call: CallId, lent: &mut Lent) 
     ensures reply { result ≡ replies.Done (commit_answer replica.old.slot) }
     ensures new { replica.new ≡ committed replica.old replica.old.slot }
     ensures details { details_told (replies.Done (commit_answer replica.old.slot)) lent.new ≡ slot_id replica.old.sections replica.old.slot }
-    ensures iteration { lent.new.iteration ≡ lent.old.iteration }
-    ensures snap { lent.new.snap ≡ lent.old.snap }
+    ensures lent { lent.new ≡ with_told result lent.new lent.old }
 {
     tell_slot(replica, lent);
     let answer = commit_answer(replica.slot());
@@ -129,20 +195,18 @@ pub(crate) fn commit_lent(replica: &mut Replica, call: CallId, lent: &mut Lent) 
 fn tell_slot(replica: &Replica, lent: &mut Lent)
     requires { HasRoomToCommit replica.now.slot lent.old.read }
     ensures details { details_told (replies.Done (commit_answer replica.now.slot)) lent.new ≡ slot_id replica.now.sections replica.now.slot }
-    ensures iteration { lent.new.iteration ≡ lent.old.iteration }
-    ensures snap { lent.new.snap ≡ lent.old.snap }
+    ensures lent { lent.new ≡ with_told (replies.Done (commit_answer replica.now.slot)) lent.new lent.old }
 {
     if let Some(staged) = replica.slot().kept() {
         tell_id(replica.store(), staged.update.value(), staged.moment, lent);
     }
 }
 
-// A creation puts the identifier of its section into the empty buffer.
+// A creation that is staged puts the identifier of its section into the empty buffer.
 fn tell_id(store: &Store, update: &Update, moment: Moment, lent: &mut Lent)
     requires { HasRoomToTell update.now lent.old.read }
     ensures details { details_told (replies.Done (update_answer update.now)) lent.new ≡ told_id update.now moment store.now.sections }
-    ensures iteration { lent.new.iteration ≡ lent.old.iteration }
-    ensures snap { lent.new.snap ≡ lent.old.snap }
+    ensures lent { lent.new ≡ with_told (replies.Done (update_answer update.now)) lent.new lent.old }
 {
     match update {
         Update::Create(NewId::Given(id), _, _) => lent.read.push(id.as_slice()),

@@ -25,8 +25,7 @@ pub(crate) fn mark_lent(
     requires lent { IsSomeAnd lent.old.update IsWrite }
     ensures reply { result ≡ mark_reply (outcome_on replica.old (update_or lent.old.update) moment) replica.old.marks }
     ensures new { replica.new ≡ begun call (update_or lent.old.update) moment replica.old }
-    ensures iteration { lent.new.iteration ≡ lent.old.iteration }
-    ensures snap { lent.new.snap ≡ lent.old.snap }
+    ensures lent { lent.new ≡ record lent.old { update = None } }
 {
     let Some(update) = lent.update.take() else {
         unreachable!()

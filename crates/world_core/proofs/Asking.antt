@@ -12,7 +12,7 @@ use Rattle.replica.specs.Replicas.{Replica}
 use Rattle.node_core.specs.declared.lent.Lent.{Lent}
 use Rattle.node_core.specs.Fitting.{ReplicaFits, RequestFits}
 use Rattle.node_core.specs.Lending.{HasLent}
-use Rattle.node_core.specs.Nodes.{NodeState, replica_key, seen_from}
+use Rattle.node_core.specs.Nodes.{NodeState, replica_key, seen_from, seen_for}
 use Rattle.node_core.specs.Seen.{is_complete}
 use Rattle.world_core.specs.Asking.{IsLentFor, ReplicaMayBeAsked, MayCome, KeepsToDeclared}
 
@@ -42,8 +42,8 @@ of_other true request lent None same may = absurd may
 of_other true request lent (Some x) same may = record { ready = may.ready; room = may.room; beside = same x may.beside }
 
 -- so it is of any request
-pub fits_that_comes : (R : RecordState) (n : NodeState) (request : Request) (lent : Lent) → MayCome R n request lent → KeepsToDeclared request n lent → RequestFits R n request lent
+pub fits_that_comes : (R : RecordState) (n : NodeState) (request : Request) (lent : Lent) → MayCome R n request lent → KeepsToDeclared request n lent → RequestFits (seen_for R n request) n request lent
 fits_that_comes R n (requests.Reserve k) lent may keeps = may
 fits_that_comes R n (requests.Pull call k) lent may keeps = of_pull (is_complete (seen_from R n k)) call k lent (find_key replica_key k n.replicas) may keeps
 fits_that_comes R n (requests.Install call k) lent may keeps = of_install (is_complete (seen_from R n k)) call k lent (find_key replica_key k n.replicas) may keeps
-fits_that_comes R n request lent may keeps = of_other (is_complete (seen_from R n (ckpt_of request))) request lent (find_key replica_key (ckpt_of request) n.replicas) (λ x is. is) may
+fits_that_comes R n request lent may keeps = of_other (is_complete (seen_for R n request)) request lent (find_key replica_key (ckpt_of request) n.replicas) (λ x is. is) may

@@ -172,7 +172,7 @@ module _ (w : World) (h : History) (v : Who) (r : ℕ) (request : Request) (hand
     pub seen_complete : is_complete (record_seen w.cluster k r) ≡ true
     seen_complete = complete_where r (entry_of k w.cluster.entries) found.complete
 
-    pub served_is : replica_served w.cluster (node_at w.nodes r) k ≡ Some found.replica
+    pub served_is : replica_served (record_seen w.cluster k r) (node_at w.nodes r) k ≡ Some found.replica
     served_is = ap (λ b. where_seen b (replica_in w.nodes k r)) seen_complete ∙ found.is
 
     pub shown : m.replicas k r ≡ shown_replica (h.effects k r) (h.origins k r) (Some found.replica)

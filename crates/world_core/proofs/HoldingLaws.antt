@@ -14,7 +14,7 @@ use Rattle.cluster_record.specs.Places.{find_key, change_key, list_or}
 use Rattle.cluster_record.specs.RecordState.{RecordState, entry_of, is_up}
 use Rattle.replica.specs.Replicas.{Replica}
 use Rattle.world_core.specs.Holding.{replicas_on, IsReservation, IsHeld, HoldsOnlyWhatStands}
-use Rattle.node_core.specs.Nodes.{NodeState, replica_key, replicas_after, reserved_for, with_reserved, replicas_reserved}
+use Rattle.node_core.specs.Nodes.{NodeState, replica_key, replicas_after, reserved_for, seen_for, with_reserved, replicas_reserved}
 use Rattle.node_core.specs.Payloads.{Payload}
 use Rattle.node_core.specs.Seen.{RecordSeen, record_seen, entry_seen, is_complete, is_complete_in}
 use Rattle.node_core.specs.Serving.{replica_after, generation_seen, installed_of}
@@ -114,7 +114,7 @@ after_key request p seen x = refl
 
 -- what is no reservation changes the one replica, where the node is complete for it
 pub replicas_served : (R : RecordState) (n : NodeState) (request : Request) (p : Payload) (reply : Reply) → ((k : ℕ) → request ≢ Reserve k) →
-    replicas_after R n request p reply ≡ cond (is_complete (record_seen R (ckpt_of request) n.number)) (change_key replica_key (ckpt_of request) (replica_after request p (record_seen R (ckpt_of request) n.number)) n.replicas) n.replicas
+    replicas_after (seen_for R n request) n request p reply ≡ cond (is_complete (record_seen R (ckpt_of request) n.number)) (change_key replica_key (ckpt_of request) (replica_after request p (record_seen R (ckpt_of request) n.number)) n.replicas) n.replicas
 replicas_served R n (Reserve k) p reply other = absurd (other k refl)
 replicas_served R n request p reply other = refl
 
@@ -198,11 +198,11 @@ module _ (R : RecordState) (nodes : List (List Replica)) (holds : HoldsOnlyWhatS
     by_found (Some x) is = holds_as_it_was
 
   -- what a reservation asks: the checkpoint is in the making, and the node is not complete for it
-  by_entry : (k : ℕ) (o : Option Entry) → entry_of k R.entries ≡ o → IsSomeAnd o (IsReservable R r) → HoldsOnlyWhatStands R (slice_set nodes r (reserved_for o k xs))
+  by_entry : (k : ℕ) (o : Option Entry) → entry_of k R.entries ≡ o → IsSomeAnd o (IsReservable R r) → HoldsOnlyWhatStands R (slice_set nodes r (reserved_for (entry_seen r o) k xs))
   by_entry k None there can = holds_as_it_was
   by_entry k (Some e) there can = holds_reserved k e there can
 
-  by_reply : (k : ℕ) (reply : Reply) → IsSomeAnd (entry_of k R.entries) (IsReservable R r) → HoldsOnlyWhatStands R (slice_set nodes r (replicas_reserved R k reply xs))
+  by_reply : (k : ℕ) (reply : Reply) → IsSomeAnd (entry_of k R.entries) (IsReservable R r) → HoldsOnlyWhatStands R (slice_set nodes r (replicas_reserved (record_seen R k r) k reply xs))
   by_reply k (replies.Done answers.Nothing) can = by_entry k (entry_of k R.entries) refl can
   by_reply k reply can = holds_as_it_was
 
@@ -220,7 +220,7 @@ module _ (R : RecordState) (nodes : List (List Replica)) (holds : HoldsOnlyWhatS
   served_there request p reply can (inr own) =
       let (k, is) = own in
       subst (λ (q : Request). HoldsOnlyWhatStands R (nodes_after R nodes r q p reply)) (sym is)
-      (subst (λ (ys : List Replica). HoldsOnlyWhatStands R (slice_set nodes r ys)) (ap (λ (o : Option (List Replica)). replicas_reserved R k reply (list_or o)) (sym at)) (by_reply k reply (can k is)))
+      (subst (λ (ys : List Replica). HoldsOnlyWhatStands R (slice_set nodes r ys)) (ap (λ (o : Option (List Replica)). replicas_reserved (record_seen R k r) k reply (list_or o)) (sym at)) (by_reply k reply (can k is)))
 
 -- a request is a reservation, or it is none
 reserves_or_not : (request : Request) → ((k : ℕ) → request ≢ Reserve k) ⊎ ((k : ℕ) × (request ≡ Reserve k))

@@ -1,6 +1,6 @@
 -- A reservation: the node takes the storage of a replica, or is refused the memory.
 use Rattle.std.proofs.Common.{◌≡◌, ◌⊎◌, inl, inr, ℕ, ◌<◌, Bool, true, false, List, length, refl, sym, ap, subst, ◌∙◌, cond}
-use Rattle.std.specs.Prelude.{Option, Some, None, ◌==◌, ◌&&◌, IsSomeAnd, slice_get, slice_set, slice_index}
+use Rattle.std.specs.Prelude.{Option, Some, None, ◌==◌, ◌&&◌, IsSomeAnd, is_some, slice_get, slice_set, slice_index}
 use Rattle.std.proofs.lemmas.Bool.{eqb-true}
 use Rattle.ckpt_types.specs.declared.answers.Answer.TheVariants as answers
 use Rattle.ckpt_types.specs.declared.answers.Outcome.{Outcome}
@@ -17,8 +17,8 @@ use Rattle.world_core.specs.declared.world.World.{World}
 use Rattle.cluster_record.specs.Places.{find_key, put2, list_or}
 use Rattle.cluster_record.specs.RecordState.{RecordState, entry_of, complete_of}
 use Rattle.node_core.specs.Payloads.{Payload}
-use Rattle.node_core.specs.Seen.{RecordSeen, record_seen}
-use Rattle.node_core.specs.Nodes.{replica_key, with_reserved, reserved_for}
+use Rattle.node_core.specs.Seen.{RecordSeen, entry_seen, record_seen}
+use Rattle.node_core.specs.Nodes.{replica_key, with_reserved, reserved_for, MayReserve}
 use Rattle.world_core.specs.Nodes.{nodes_after, replica_in}
 use Rattle.node_core.specs.Serving.{details_at, snapshot_behind}
 use Rattle.snap_copy.specs.Snapshots as copies
@@ -107,6 +107,22 @@ only_this new (Some x) opening = opening x refl
 
 -- ---- the step
 
+-- a reservation is done, or is refused the memory
+reserve_answers : (b : Bool) (reply : Reply) → MayReserve b reply → (reply ≡ Done answers.Nothing) ⊎ (reply ≡ NoMemory)
+reserve_answers true reply done = inl done
+reserve_answers false reply may = may
+
+-- what can be reserved stands on the node where it stands in the machine
+stands_alike : (o : Option Entry) (x : Option Replica) (R : RecordState) (r : ℕ) → IsSomeAnd o (IsReservable R r) → is_some x ≡ is_some (where_not_complete o r (shown_reservation (slice_index R.up r) x))
+stands_alike None x R r can = absurd can
+stands_alike (Some e) x R r can = by_replica x ∙ ap (λ b. is_some (cond b (shown_reservation (slice_index R.up r) x) None)) (sym free) where
+  free : (slice_index e.complete r == 0) ≡ true
+  free = ap (λ n. n == 0) can.not_complete
+
+  by_replica : (x : Option Replica) → is_some x ≡ is_some (shown_reservation (slice_index R.up r) x)
+  by_replica None = refl
+  by_replica (Some x) = refl
+
 -- nothing comes beside the answer
 none_read : (k : ℕ) (p : Payload) (seen : RecordSeen) (y : Option Replica) → details_at (Reserve k) p seen y ≡ beside.Nothing
 none_read k p seen None = refl
@@ -122,7 +138,7 @@ copy_kept k None s = refl
 copy_kept k (Some x) None = refl
 copy_kept k (Some x) (Some s) = refl
 
-module _ (w : World) (v : Who) (r k : ℕ) (hand : InHand) (p : Payload) (reply : Reply) (held : hand_at w.hands v ≡ Some hand) (next : driver_next w.cluster (rooms_at w (client_by v)) hand.driver ≡ Serve r (Reserve k)) (may : (reply ≡ Done answers.Nothing) ⊎ (reply ≡ NoMemory)) (within : r < length w.nodes) where
+module _ (w : World) (v : Who) (r k : ℕ) (hand : InHand) (p : Payload) (reply : Reply) (held : hand_at w.hands v ≡ Some hand) (next : driver_next w.cluster (rooms_at w (client_by v)) hand.driver ≡ Serve r (Reserve k)) (may : MayReserve (is_some (replica_in w.nodes k r)) reply) (within : r < length w.nodes) where
   abbrev new : World
   new = behind w v r (Reserve k) hand p reply
 
@@ -131,7 +147,7 @@ module _ (w : World) (v : Who) (r k : ℕ) (hand : InHand) (p : Payload) (reply 
 
   -- neither answer tells a count
   no_count : 0 ≡ count_told reply
-  no_count = elim may [ inl done ↦ ap count_told (sym done) | inr refused ↦ ap count_told (sym refused) ]
+  no_count = elim (reserve_answers (is_some (replica_in w.nodes k r)) reply may) [ inl done ↦ ap count_told (sym done) | inr refused ↦ ap count_told (sym refused) ]
 
   -- what the step has changed with this reply, where the nodes have this then
   record Reserves (answer : Reply) (nodes : List (List Replica)) (h : History) : Type 0 where
@@ -152,11 +168,11 @@ module _ (w : World) (v : Who) (r k : ℕ) (hand : InHand) (p : Payload) (reply 
 
   -- the node reserves, or is refused the memory
   reserves : (h : History) → IsKnown w h → Reserves reply new.nodes h
-  reserves h known = elim may [
+  reserves h known = elim (reserve_answers (is_some (replica_in w.nodes k r)) reply may) [
     | inl done ↦
         let (e, there, can) = entry_there (entry_of k w.cluster.entries) (finding.ready w h v r (Reserve k) hand known.facts known.fits held next).1 in
         subst (λ (a : Reply). Reserves a (nodes_after w.cluster w.nodes r (Reserve k) p a) h) (sym done)
-        (subst (λ (nodes : List (List Replica)). Reserves (Done answers.Nothing) nodes h) (sym (ap (λ (o : Option Entry). slice_set w.nodes r (reserved_for o k (list_or (slice_get w.nodes r)))) there)) (taken e there can h known))
+        (subst (λ (nodes : List (List Replica)). Reserves (Done answers.Nothing) nodes h) (sym (ap (λ (o : Option Entry). slice_set w.nodes r (reserved_for (entry_seen r o) k (list_or (slice_get w.nodes r)))) there)) (taken e there can h known))
     | inr refused ↦
         let (xs, there) = there_is w.nodes r within in
         subst (λ (a : Reply). Reserves a (nodes_after w.cluster w.nodes r (Reserve k) p a) h) (sym refused)
@@ -169,7 +185,7 @@ module _ (w : World) (v : Who) (r k : ℕ) (hand : InHand) (p : Payload) (reply 
       (step_before w v hand held new (λ h. h) verbs.Reserve (Some k) (Some r) (word_of reply) end (ended_details end (its_details w v r (Reserve k) hand p reply)) (count_told reply) (its_copy w v r (Reserve k) hand p reply) (pulled_by_client v) (Serve r (Reserve k)) next held (λ h. refl) (λ h known. record {
         done = record {
           answer = reply;
-          may = may;
+          may = subst (λ (b : Bool). MayReserve b reply) (stands_alike (entry_of k w.cluster.entries) (replica_in w.nodes k r) w.cluster r (finding.ready w h v r (Reserve k) hand known.facts known.fits held next).1) may;
           verb = refl;
           ckpt = refl;
           node = refl;

@@ -24,7 +24,7 @@ use Rattle.cluster_record.specs.StepDone.{StepDone, counting, count_told, done_o
 use Rattle.snap_copy.specs.Snapshots as copies
 use Rattle.node_msgs.specs.Requests.{ckpt_of}
 use Rattle.node_msgs.specs.Steps.{verb_of, word_of}
-use Rattle.node_core.specs.Nodes.{NodeState, MayReply, replica_key, replica_served, seen_from}
+use Rattle.node_core.specs.Nodes.{NodeState, MayReply, replica_key, replica_served, seen_for, served_for}
 use Rattle.node_core.specs.Payloads.{Payload}
 use Rattle.node_core.specs.Seen.{RecordSeen, record_seen, is_complete}
 use Rattle.node_core.specs.Serving.{reply_at, reply_of, details_at, iteration_behind, snapshot_behind, replica_after}
@@ -77,7 +77,7 @@ node_within nodes k r x is = let (xs, there) = slice_there (slice_get nodes r) (
 -- ---- the step
 
 -- what is asked of a replica as it is, is answered by that replica
-replied : (R : RecordState) (n : NodeState) (request : Request) (p : Payload) (reply : Reply) → GoesToReplica request → MayReply R n request p reply → reply ≡ reply_at request p (seen_from R n (ckpt_of request)) (replica_served R n (ckpt_of request))
+replied : (R : RecordState) (n : NodeState) (request : Request) (p : Payload) (reply : Reply) → GoesToReplica request → MayReply (seen_for R n request) n request p reply → reply ≡ reply_at request p (seen_for R n request) (served_for R n request)
 replied R n (Reserve k) p reply goes may = absurd goes
 replied R n request p reply goes may = may
 
@@ -91,7 +91,7 @@ module _ (w : World) (v : Who) (r : ℕ) (request : Request) (hand : InHand) (p 
   sight = record_seen w.cluster (ckpt_of request) r
 
   abbrev pub replica_there : Option Replica
-  replica_there = replica_served w.cluster (node_at w.nodes r) (ckpt_of request)
+  replica_there = replica_served (record_seen w.cluster (ckpt_of request) r) (node_at w.nodes r) (ckpt_of request)
 
   abbrev pub its_done : StepDone
   its_done = served_done w.cluster request r reply
@@ -120,7 +120,7 @@ module _ (w : World) (v : Who) (r : ℕ) (request : Request) (hand : InHand) (p 
   served_label = Stepped hand.call (word_of_op hand.op) (verb_of request) (Some (ckpt_of request)) (Some r) (word_of reply) its_end (ended_details its_end its_details)
 
 module _ (w : World) (v : Who) (r : ℕ) (request : Request) (hand : InHand) (p : Payload) (reply : Reply) (goes : GoesToReplica request) (held : hand_at w.hands v ≡ Some hand) (next : driver_next w.cluster (rooms_at w (client_by v)) hand.driver ≡ Serve r request)
-    (carries : Carries request p (payload_with hand (kept_by w.tables (client_by v)))) (may : MayReply w.cluster (node_at w.nodes r) request p reply) (valid : IsValidFor request (kept_by w.tables (client_by v))) where
+    (carries : Carries request p (payload_with hand (kept_by w.tables (client_by v)))) (may : MayReply (record_seen w.cluster (ckpt_of request) r) (node_at w.nodes r) request p reply) (valid : IsValidFor request (kept_by w.tables (client_by v))) where
   abbrev k : ℕ
   k = ckpt_of request
 

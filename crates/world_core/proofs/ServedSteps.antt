@@ -59,11 +59,11 @@ told_still reply lent it copy = refl
 -- a node has served a request in this world, with what was lent and came back
 pub record ServedAs (w : World) (r : ℕ) (request : Request) (lent back : Lent) (reply : Reply) (nodes : List (List Replica)) : Type 0 where
   pub there : r < length w.nodes
-  pub may : MayReply w.cluster (node_at w.nodes r) request (payload_of lent) reply
+  pub may : MayReply (record_seen w.cluster (ckpt_of request) r) (node_at w.nodes r) request (payload_of lent) reply
   pub nodes_are : nodes ≡ nodes_after w.cluster w.nodes r request (payload_of lent) reply
-  pub details : details_told reply back ≡ details_at request (payload_of lent) (record_seen w.cluster (ckpt_of request) r) (replica_served w.cluster (node_at w.nodes r) (ckpt_of request))
-  pub iteration : back.iteration ≡ iteration_behind request (record_seen w.cluster (ckpt_of request) r) (replica_served w.cluster (node_at w.nodes r) (ckpt_of request)) lent.iteration
-  pub snapshot : back.snap ≡ snapshot_behind request (replica_served w.cluster (node_at w.nodes r) (ckpt_of request)) lent.snap
+  pub details : details_told reply back ≡ details_at request (payload_of lent) (record_seen w.cluster (ckpt_of request) r) (replica_served (record_seen w.cluster (ckpt_of request) r) (node_at w.nodes r) (ckpt_of request))
+  pub iteration : back.iteration ≡ iteration_behind request (record_seen w.cluster (ckpt_of request) r) (replica_served (record_seen w.cluster (ckpt_of request) r) (node_at w.nodes r) (ckpt_of request)) lent.iteration
+  pub snapshot : back.snap ≡ snapshot_behind request (replica_served (record_seen w.cluster (ckpt_of request) r) (node_at w.nodes r) (ckpt_of request)) lent.snap
 
 -- the copy is in a hand that lends its iteration as in one that does not
 lent_copy : (request : Request) (hand : InHand) (copy : Option Snapshot) → with_copy (hand_lending request hand) copy ≡ hand_lending request (with_copy hand copy)

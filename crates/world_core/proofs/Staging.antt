@@ -105,7 +105,7 @@ copy_kept request same (Some x) (Some s) = ap Some (same x s)
 
 -- what is told beside an update on its own is nothing
 module _ (w : World) (c : ℕ) (r : ℕ) (request : Request) (hand : InHand) (held : hand_at w.hands (Actor (Client c)) ≡ Some hand) (next : IsNext w (Actor (Client c)) (Serve r request)) (shown : IsShown w) (goes : GoesToReplica request) (p : Payload) (carries : Carries request p (payload_with hand (kept_by w.tables c))) (valid : IsValidFor request (kept_by w.tables c)) (nodes : List (List Replica)) (word : OpWord) (word_is : word ≡ word_of_op hand.op) where
-  named_is : (reply : Reply) (hands : HandsState) (end : Option Outcome) → MayReply w.cluster (node_at w.nodes r) request p reply → beside.Nothing ≡ its_details w (Actor (Client c)) r request hand p reply → nodes ≡ nodes_after w.cluster w.nodes r request p reply →
+  named_is : (reply : Reply) (hands : HandsState) (end : Option Outcome) → MayReply (record_seen w.cluster (ckpt_of request) r) (node_at w.nodes r) request p reply → beside.Nothing ≡ its_details w (Actor (Client c)) r request hand p reply → nodes ≡ nodes_after w.cluster w.nodes r request p reply →
       tables_keeping request c hand.op reply (its_iteration w (Actor (Client c)) r request hand p reply) (tables_lending request c hand.op w.tables) ≡ w.tables → end ≡ its_end w (Actor (Client c)) r request hand p reply → hands ≡ set_at w.hands (Actor (Client c)) (left end (hand_taken (served_done w.cluster request r reply) hand)) → its_copy w (Actor (Client c)) r request hand p reply ≡ hand.snapshot →
       IsStep (Actor (Client c)) w (record w { nodes = nodes; hands = hands }) (Stepped hand.call word (verb_of request) (Some (ckpt_of request)) (Some r) (word_of reply) end beside.Nothing)
   named_is reply hands end may details nodes_are tables end_is hands_are copy =
@@ -133,18 +133,18 @@ module _ (w : World) (c : ℕ) (r : ℕ) (call : CallId) (k : ℕ) (t : ℤ) (ha
     abbrev lent : Payload
     lent = update_alone update
 
-    answered : (reply : Reply) → reply_told answers.Nothing told ≡ reply → reply ≡ reply_at stage lent (record_seen w.cluster k r) (replica_served w.cluster (node_at w.nodes r) k)
+    answered : (reply : Reply) → reply_told answers.Nothing told ≡ reply → reply ≡ reply_at stage lent (record_seen w.cluster k r) (replica_served (record_seen w.cluster k r) (node_at w.nodes r) k)
     answered reply so =
         let here_told : told ≡ answer_unless (owner_of here.slot) (outcome_on here update t) = subst (λ (o : Option Replica). IfSome o (λ x. told ≡ answer_unless (owner_of x.slot) (outcome_on x update t))) (its_there w (Actor (Client c)) r stage hand held next shown tt) is in
         sym so ∙ ap (reply_told answers.Nothing) here_told ∙ stage_told (outcome_on here update t) here.slot ∙ ap (reply_at stage lent (record_seen w.cluster k r)) (sym (its_served w (Actor (Client c)) r stage hand held next shown tt))
 
     nothing : (reply : Reply) → beside.Nothing ≡ its_details w (Actor (Client c)) r stage hand lent reply
-    nothing reply = stage_details call k t lent (record_seen w.cluster k r) (replica_served w.cluster (node_at w.nodes r) k)
+    nothing reply = stage_details call k t lent (record_seen w.cluster k r) (replica_served (record_seen w.cluster k r) (node_at w.nodes r) k)
 
     told_so : (reply : Reply) (hands : HandsState) (end : Option Outcome) → reply_told answers.Nothing told ≡ reply → end ≡ its_end w (Actor (Client c)) r stage hand lent reply → hands ≡ set_at w.hands (Actor (Client c)) (left end (hand_taken (served_done w.cluster stage r reply) hand)) →
         IsStep (Actor (Client c)) w (record w { nodes = nodes; hands = hands }) (Stepped hand.call word verbs.Stage (Some k) (Some r) (word_of reply) end beside.Nothing)
     told_so reply hands end so end_is hands_are =
-        named_is w c r stage hand held next shown tt lent update_is tt nodes word word_is reply hands end (answered reply so) (nothing reply) (nodes_are ∙ its_nodes w (Actor (Client c)) r stage hand held next shown tt lent reply) refl end_is hands_are (copy_kept stage (λ x s. refl) (replica_served w.cluster (node_at w.nodes r) k) hand.snapshot)
+        named_is w c r stage hand held next shown tt lent update_is tt nodes word word_is reply hands end (answered reply so) (nothing reply) (nodes_are ∙ its_nodes w (Actor (Client c)) r stage hand held next shown tt lent reply) refl end_is hands_are (copy_kept stage (λ x s. refl) (replica_served (record_seen w.cluster k r) (node_at w.nodes r) k) hand.snapshot)
 
     -- it is staged
     pub stage_is : (taken : InHand) (label : Label) → IsUpdate hand.driver → reply_told answers.Nothing told ≡ replies.Done answers.Nothing →
@@ -180,7 +180,7 @@ module _ (w : World) (c : ℕ) (r : ℕ) (call : CallId) (k : ℕ) (hand : InHan
     abbrev done : Reply
     done = replies.Done answers.Nothing
 
-    done_by : done ≡ reply_at commit no_payload (record_seen w.cluster k r) (replica_served w.cluster (node_at w.nodes r) k)
+    done_by : done ≡ reply_at commit no_payload (record_seen w.cluster k r) (replica_served (record_seen w.cluster k r) (node_at w.nodes r) k)
     done_by = sym (ap (reply_at commit no_payload (record_seen w.cluster k r)) (its_served w (Actor (Client c)) r commit hand held next shown tt) ∙ ap replies.Done tells.0)
 
     none_told : beside.Nothing ≡ its_details w (Actor (Client c)) r commit hand no_payload done
@@ -193,4 +193,4 @@ module _ (w : World) (c : ℕ) (r : ℕ) (call : CallId) (k : ℕ) (hand : InHan
         let d = done_of w.cluster verbs.Commit (Some k) (Some r) words.Ok in
         subst (IsStep (Actor (Client c)) w (record w { nodes = nodes; hands = set_at w.hands (Actor (Client c)) place })) (sym label_is)
         (named_is w c r commit hand held next shown tt no_payload tt tt nodes word word_is done (set_at w.hands (Actor (Client c)) place) (ended_unless goes_on) done_by none_told (nodes_are ∙ its_nodes w (Actor (Client c)) r commit hand held next shown tt no_payload done) refl
-        (end_is ∙ ap (hand_end d (replies.Done answers.Nothing)) taken_is) (ap (set_at w.hands (Actor (Client c))) (place_is ∙ ap (left (ended_unless goes_on)) taken_is)) (copy_kept commit (λ x s. refl) (replica_served w.cluster (node_at w.nodes r) k) hand.snapshot))
+        (end_is ∙ ap (hand_end d (replies.Done answers.Nothing)) taken_is) (ap (set_at w.hands (Actor (Client c))) (place_is ∙ ap (left (ended_unless goes_on)) taken_is)) (copy_kept commit (λ x s. refl) (replica_served (record_seen w.cluster k r) (node_at w.nodes r) k) hand.snapshot))

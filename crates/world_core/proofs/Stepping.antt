@@ -1,10 +1,9 @@
 -- The steps of a call in hand, with the call that the code finds there.
-use Rattle.std.proofs.Common.{◌≡◌, ℕ, ◌-◌, ◌^◌, ◌<◌, Bool, false, length, refl, sym, ap, subst, cond, ◌∙◌}
+use Rattle.std.proofs.Common.{◌≡◌, ℕ, ◌-◌, ◌^◌, ◌<◌, Bool, length, refl, sym, ap, subst, cond, ◌∙◌}
 use Rattle.std.specs.Prelude.{Option, Some, None, IsSome, IsSomeAnd, slice_set}
 use Rattle.ckpt_types.specs.declared.answers.Answer.{Answer}
 use Rattle.ckpt_types.specs.declared.answers.Answer.TheVariants as answers
 use Rattle.ckpt_types.specs.declared.operation.Op.{Op}
-use Rattle.ckpt_types.specs.Attributes.{is_malformed}
 use Rattle.node_msgs.specs.declared.requests.Request.{Request}
 use Rattle.node_msgs.specs.declared.requests.Request.TheVariants.{Reserve}
 use Rattle.node_msgs.specs.declared.requests.Request.TheVariants as requests
@@ -25,11 +24,11 @@ use Rattle.cluster_record.specs.StepDone.{StepDone}
 use Rattle.node_msgs.specs.Requests.{ckpt_of}
 use Rattle.node_msgs.specs.Steps.{verb_of, word_of}
 use Rattle.node_core.specs.declared.lent.Lent.{Lent}
-use Rattle.node_core.specs.Fitting.{HasCountLeft, IsReadyFor}
+use Rattle.node_core.specs.Fitting.{HasCountLeft, IsReadyFor, MayBeMade}
 use Rattle.world_core.specs.Asking.{ReplicaMayBeAsked, MayCome}
 use Rattle.node_core.specs.Nodes.{NodeState, MayReply, replica_key, replica_served, seen_from}
 use Rattle.node_core.specs.Payloads.{Payload}
-use Rattle.node_core.specs.Seen.{record_seen, is_complete}
+use Rattle.node_core.specs.Seen.{entry_seen, record_seen, is_complete}
 use Rattle.node_core.specs.Serving.{reply_at, replica_after}
 use Rattle.ckpt_machine.specs.Drivers.{Driver}
 use Rattle.ckpt_machine.specs.Drivers as drivers
@@ -60,13 +59,13 @@ use Rattle.world_core.proofs.Serve.{its_copy, its_done, its_end, its_details, se
 -- ---- a step that a node serves
 
 -- a reservation is of a checkpoint whose attributes passed their check
-well_formed_there : (R : RecordState) (r : ℕ) (o : Option Entry) → IsSomeAnd o (IsReservable R r) → IsSomeAnd o (λ e. is_malformed e.attributes ≡ false)
-well_formed_there R r None can = absurd can
-well_formed_there R r (Some e) can = can.well_formed
+well_formed_there : (R : RecordState) (r q : ℕ) (o : Option Entry) → IsSomeAnd o (IsReservable R r) → MayBeMade (entry_seen q o)
+well_formed_there R r q None can = absurd can
+well_formed_there R r q (Some e) can = can.well_formed
 
 fits_by : (request : Request) (m : Machine) (r : ℕ) (n : NodeState) (lent : Lent) → IsReservationOr request → IsServable m r request →
     (GoesToReplica request → ReplicaMayBeAsked (is_complete (seen_from m.cluster n (ckpt_of request))) request lent (find_key replica_key (ckpt_of request) n.replicas)) → MayCome m.cluster n request lent
-fits_by (Reserve k) m r n lent goes servable fits = well_formed_there m.cluster r (entry_of k m.cluster.entries) servable
+fits_by (Reserve k) m r n lent goes servable fits = well_formed_there m.cluster r n.number (entry_of k m.cluster.entries) servable
 fits_by request m r n lent goes servable fits = fits goes
 
 count_left : (request : Request) (x : Replica) → x.count < 2 ^ 64 - 1 → HasCountLeft request x
@@ -88,7 +87,7 @@ active_ends op d answer (drivers.Update u) iterates is = absurd is
 active_ends op d answer (drivers.Sync u) iterates is = absurd is
 
 -- so one that starts an iteration has ended
-ends_by : (request : Request) (w : World) (h : History) (v : Who) (r : ℕ) (hand : InHand) (p : Payload) (reply : Reply) (known_is : IsKnown w h) (held : hand_at w.hands v ≡ Some hand) → driver_next w.cluster (rooms_at w (client_by v)) hand.driver ≡ Serve r request → MayReply w.cluster (node_at w.nodes r) request p reply → EndsIts request (its_end w v r request hand p reply)
+ends_by : (request : Request) (w : World) (h : History) (v : Who) (r : ℕ) (hand : InHand) (p : Payload) (reply : Reply) (known_is : IsKnown w h) (held : hand_at w.hands v ≡ Some hand) → driver_next w.cluster (rooms_at w (client_by v)) hand.driver ≡ Serve r request → MayReply (record_seen w.cluster (ckpt_of request) r) (node_at w.nodes r) request p reply → EndsIts request (its_end w v r request hand p reply)
 ends_by (requests.Iterate call k choice) w h v r hand p reply known_is held next may =
     let request = requests.Iterate call k choice in
     let served = finding.served_is w h v r request hand known_is.facts known_is.fits held next tt in
@@ -101,7 +100,7 @@ ends_by request w h v r hand p reply known_is held next may = tt
 
 -- a node does what is due
 does_by : (request : Request) (w : World) (v : Who) (r : ℕ) (hand : InHand) (p : Payload) (reply : Reply) → IsReservationOr request → hand_at w.hands v ≡ Some hand → driver_next w.cluster (rooms_at w (client_by v)) hand.driver ≡ Serve r request → Carries request p (payload_with hand (kept_by w.tables (client_by v))) →
-    MayReply w.cluster (node_at w.nodes r) request p reply → IsValidFor request (kept_by w.tables (client_by v)) → r < length w.nodes → Does w (served_world w v r request hand p reply) (served_label w v r request hand p reply)
+    MayReply (record_seen w.cluster (ckpt_of request) r) (node_at w.nodes r) request p reply → IsValidFor request (kept_by w.tables (client_by v)) → r < length w.nodes → Does w (served_world w v r request hand p reply) (served_label w v r request hand p reply)
 does_by (Reserve k) w v r hand p reply goes held next carries may valid within = reserve_does w v r k hand p reply held next may within
 does_by request w v r hand p reply goes held next carries may valid within = serve_does w v r request hand p reply goes held next carries may valid
 
@@ -159,11 +158,11 @@ module _ (w : World) (v : Who) (r : ℕ) (request : Request) (hand : InHand) (he
         step_under v w (served_world w v r request hand p reply) hand (hand_taken (its_done w v r request hand p reply) (with_copy hand (its_copy w v r request hand p reply))) (word_of_op hand.op) (verb_of request) (Some (ckpt_of request)) (Some r) (word_of reply) (its_end w v r request hand p reply) (ended_details (its_end w v r request hand p reply) (its_details w v r request hand p reply))
         held refl refl (hand_left w.hands v hand (hand_taken (its_done w v r request hand p reply) (with_copy hand (its_copy w v r request hand p reply))) (its_end w v r request hand p reply) held refl) does
 
-    pub serve_is : (p : Payload) (reply : Reply) → Carries request p (payload_with hand kept) → MayReply w.cluster (node_at w.nodes r) request p reply → IsValidFor request kept → r < length w.nodes →
+    pub serve_is : (p : Payload) (reply : Reply) → Carries request p (payload_with hand kept) → MayReply (record_seen w.cluster (ckpt_of request) r) (node_at w.nodes r) request p reply → IsValidFor request kept → r < length w.nodes →
         IsStep v w (served_world w v r request hand p reply) (served_label w v r request hand p reply)
     serve_is p reply carries may valid within = told_so p reply (does_by request w v r hand p reply goes held its_next carries may valid within)
 
-    pub ends_its : (p : Payload) (reply : Reply) → MayReply w.cluster (node_at w.nodes r) request p reply → EndsIts request (its_end w v r request hand p reply)
+    pub ends_its : (p : Payload) (reply : Reply) → MayReply (record_seen w.cluster (ckpt_of request) r) (node_at w.nodes r) request p reply → EndsIts request (its_end w v r request hand p reply)
     ends_its p reply may = ends_by request w h v r hand p reply (known w shown) held its_next may
 
     -- where the request goes to a replica
@@ -172,7 +171,7 @@ module _ (w : World) (v : Who) (r : ℕ) (request : Request) (hand : InHand) (he
       its_replica = (finding.found w h v r request hand facts fitting held its_next to).replica
 
       -- the node serves it with that one
-      pub its_served : replica_served w.cluster (node_at w.nodes r) (ckpt_of request) ≡ Some its_replica
+      pub its_served : replica_served (record_seen w.cluster (ckpt_of request) r) (node_at w.nodes r) (ckpt_of request) ≡ Some its_replica
       its_served = finding.served_is w h v r request hand facts fitting held its_next to
 
       pub its_ready : IsReadyFor request its_replica
@@ -199,7 +198,7 @@ module _ (w : World) (v : Who) (r : ℕ) (request : Request) (hand : InHand) (he
       pub its_room : HasNumbersLeft w → its_replica.count < 2 ^ 64 - 1
       its_room room = room.updates (ckpt_of request) r its_replica (finding.complete_is w h v r request hand facts fitting held its_next to)
 
-      pub answered_is : (p : Payload) (reply : Reply) → Carries request p (payload_with hand kept) → MayReply w.cluster (node_at w.nodes r) request p reply → IsValidFor request kept →
+      pub answered_is : (p : Payload) (reply : Reply) → Carries request p (payload_with hand kept) → MayReply (record_seen w.cluster (ckpt_of request) r) (node_at w.nodes r) request p reply → IsValidFor request kept →
           IsStep v w (served_world w v r request hand p reply) (served_label w v r request hand p reply)
       answered_is p reply carries may valid = told_so p reply (serve_does w v r request hand p reply to held its_next carries may valid)
 

@@ -10,7 +10,7 @@ use Rattle.replica.specs.Replicas.{Replica}
 use Rattle.node_core.specs.declared.lent.Lent.{Lent}
 use Rattle.node_core.specs.Fitting.{IsReadyFor, HasCountLeft, RequestFits}
 use Rattle.node_core.specs.Lending.{HasLent}
-use Rattle.node_core.specs.Nodes.{NodeState, replica_key, seen_from}
+use Rattle.node_core.specs.Nodes.{NodeState, replica_key, seen_from, seen_for}
 use Rattle.node_core.specs.Seen.{is_complete}
 
 -- what a request uses is lent; a snapshot was reserved for what the replica declares
@@ -32,8 +32,8 @@ ReplicaMayBeAsked false request lent x = Unit {0}
 
 -- the request may come to the node
 abbrev pub MayCome : RecordState → NodeState → Request → Lent → Type 0
-MayCome R n (requests.Reserve k) lent = RequestFits R n (requests.Reserve k) lent
-MayCome R n request lent = ReplicaMayBeAsked (is_complete (seen_from R n (ckpt_of request))) request lent (find_key replica_key (ckpt_of request) n.replicas)
+MayCome R n (requests.Reserve k) lent = RequestFits (seen_from R n k) n (requests.Reserve k) lent
+MayCome R n request lent = ReplicaMayBeAsked (is_complete (seen_for R n request)) request lent (find_key replica_key (ckpt_of request) n.replicas)
 
 -- the sections that a pull and an installation copy keep to what is declared for them
 abbrev pub KeepsToDeclared : Request → NodeState → Lent → Type 0

@@ -9,8 +9,9 @@ use Rattle.cluster_record.specs.Places.{find_key, change_key, list_or}
 use Rattle.cluster_record.specs.RecordState.{RecordState}
 use Rattle.replica.specs.Replicas.{Replica}
 use Rattle.node_core.specs.Changing.{added_for}
-use Rattle.node_core.specs.Nodes.{NodeState, replica_key, replicas_after}
+use Rattle.node_core.specs.Nodes.{NodeState, replica_key, replicas_after, seen_for}
 use Rattle.node_core.specs.Payloads.{Payload}
+use Rattle.node_core.specs.Seen.{entry_seen}
 
 -- the node of a number
 abbrev pub node_at : List (List Replica) → ℕ → NodeState
@@ -22,7 +23,7 @@ replica_in nodes k r = find_key replica_key k (list_or (slice_get nodes r))
 
 -- the nodes after a request to one of them, which it answered so
 abbrev pub nodes_after : RecordState → List (List Replica) → ℕ → Request → Payload → Reply → List (List Replica)
-nodes_after R nodes r request p reply = slice_set nodes r (replicas_after R (node_at nodes r) request p reply)
+nodes_after R nodes r request p reply = slice_set nodes r (replicas_after (seen_for R (node_at nodes r) request) (node_at nodes r) request p reply)
 
 -- the nodes with the replica of a checkpoint on one of them changed
 abbrev pub with_changed : ℕ → ℕ → (Replica → Replica) → List (List Replica) → List (List Replica)
@@ -30,7 +31,7 @@ with_changed k r change nodes = slice_set nodes r (change_key replica_key k chan
 
 -- the nodes with a replica more on one of them, as a checkpoint that is there was made, with its generation
 abbrev pub with_added : Entry → ℕ → List (List Replica) → List (List Replica)
-with_added e r nodes = slice_set nodes r (added_for (Some e) e.identity e.generation (list_or (slice_get nodes r)))
+with_added e r nodes = slice_set nodes r (added_for (entry_seen r (Some e)) e.identity e.generation (list_or (slice_get nodes r)))
 
 -- the nodes behind an open from one of them, of a checkpoint that is there or not: a replica more, where it adds one
 abbrev pub with_opened : Option Entry → ℕ → List (List Replica) → List (List Replica)

@@ -3,12 +3,11 @@ ghost use Rattle.std.specs.Prelude.{◌≡◌, ◌<◌, [], None, Some, IfOk, If
 ghost use Rattle.ckpt_types.specs.Attributes.{is_malformed};
 ghost use Rattle.ckpt_types.specs.Limits.{nodes_max};
 ghost use Rattle.cluster_record.specs.RecordState.{entry_of};
-ghost use Rattle.node_msgs.specs.Requests.{ckpt_of};
 ghost use Rattle.node_core.specs.Details.{details_told};
 ghost use Rattle.node_core.specs.Changing.{taken_over};
 ghost use Rattle.node_core.specs.Fitting.{TakesSnapshot, TakesUpdate};
 ghost use Rattle.world_core.specs.Asking.{MayCome, KeepsToDeclared};
-ghost use Rattle.node_core.specs.Nodes.{MayReply, replica_served, seen_from};
+ghost use Rattle.node_core.specs.Nodes.{MayReply, seen_for, served_for};
 ghost use Rattle.node_core.specs.Payloads.{payload_of};
 ghost use Rattle.node_core.specs.Serving.{details_at, iteration_behind, snapshot_behind};
 ghost use Rattle.replica.specs.Replicas.{answer_unless, committed, install_answer, installed, outcome_on, pull_result, pulled_unless, staged};
@@ -67,11 +66,11 @@ impl Nodes {
     ) -> Reply
         requires node { r < nodes_max }
         requires may { MayCome seen.now (node_at self.old r) request.now lent.old }
-        ensures reply { MayReply seen.now (node_at self.old r) request.now (payload_of lent.old) result }
+        ensures reply { MayReply (seen_for seen.now (node_at self.old r) request.now) (node_at self.old r) request.now (payload_of lent.old) result }
         ensures new { self.new ≡ nodes_after seen.now self.old r request.now (payload_of lent.old) result }
-        ensures details { details_told result lent.new ≡ details_at request.now (payload_of lent.old) (seen_from seen.now (node_at self.old r) (ckpt_of request.now)) (replica_served seen.now (node_at self.old r) (ckpt_of request.now)) }
-        ensures iteration { lent.new.iteration ≡ iteration_behind request.now (seen_from seen.now (node_at self.old r) (ckpt_of request.now)) (replica_served seen.now (node_at self.old r) (ckpt_of request.now)) lent.old.iteration }
-        ensures snapshot { lent.new.snap ≡ snapshot_behind request.now (replica_served seen.now (node_at self.old r) (ckpt_of request.now)) lent.old.snap }
+        ensures details { details_told result lent.new ≡ details_at request.now (payload_of lent.old) (seen_for seen.now (node_at self.old r) request.now) (served_for seen.now (node_at self.old r) request.now) }
+        ensures iteration { lent.new.iteration ≡ iteration_behind request.now (seen_for seen.now (node_at self.old r) request.now) (served_for seen.now (node_at self.old r) request.now) lent.old.iteration }
+        ensures snapshot { lent.new.snap ≡ snapshot_behind request.now (served_for seen.now (node_at self.old r) request.now) lent.old.snap }
         ensures there { r < length self.old }
     {
         serve_node(self.list.as_mut_slice(), alloc, r, seen, request, lent)
@@ -205,11 +204,11 @@ fn serve_node(
     requires node { r < length nodes.old }
     requires may { MayCome seen.now (node_at (nodes_shown nodes.old) r) request.now lent.old }
     ensures numbered { StandByNumber nodes.new }
-    ensures reply { MayReply seen.now (node_at (nodes_shown nodes.old) r) request.now (payload_of lent.old) result }
+    ensures reply { MayReply (seen_for seen.now (node_at (nodes_shown nodes.old) r) request.now) (node_at (nodes_shown nodes.old) r) request.now (payload_of lent.old) result }
     ensures new { nodes_shown nodes.new ≡ nodes_after seen.now (nodes_shown nodes.old) r request.now (payload_of lent.old) result }
-    ensures details { details_told result lent.new ≡ details_at request.now (payload_of lent.old) (seen_from seen.now (node_at (nodes_shown nodes.old) r) (ckpt_of request.now)) (replica_served seen.now (node_at (nodes_shown nodes.old) r) (ckpt_of request.now)) }
-    ensures iteration { lent.new.iteration ≡ iteration_behind request.now (seen_from seen.now (node_at (nodes_shown nodes.old) r) (ckpt_of request.now)) (replica_served seen.now (node_at (nodes_shown nodes.old) r) (ckpt_of request.now)) lent.old.iteration }
-    ensures snapshot { lent.new.snap ≡ snapshot_behind request.now (replica_served seen.now (node_at (nodes_shown nodes.old) r) (ckpt_of request.now)) lent.old.snap }
+    ensures details { details_told result lent.new ≡ details_at request.now (payload_of lent.old) (seen_for seen.now (node_at (nodes_shown nodes.old) r) request.now) (served_for seen.now (node_at (nodes_shown nodes.old) r) request.now) }
+    ensures iteration { lent.new.iteration ≡ iteration_behind request.now (seen_for seen.now (node_at (nodes_shown nodes.old) r) request.now) (served_for seen.now (node_at (nodes_shown nodes.old) r) request.now) lent.old.iteration }
+    ensures snapshot { lent.new.snap ≡ snapshot_behind request.now (served_for seen.now (node_at (nodes_shown nodes.old) r) request.now) lent.old.snap }
 {
     let node = &mut nodes[r as usize];
     see_declared(node, request, lent);

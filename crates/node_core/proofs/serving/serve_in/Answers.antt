@@ -1,5 +1,7 @@
 use Rattle.std.proofs.Common.{sym, ap, ◌∙◌}
+use Rattle.node_msgs.specs.declared.replies.Reply.TheVariants as replies
 use Rattle.node_msgs.specs.Requests.{ckpt_of}
+use Rattle.node_core.specs.Behind.{remains_at}
 use Rattle.node_core.specs.Payloads.{payload_of}
 use Rattle.node_core.specs.Seen.{record_seen, is_complete}
 use Rattle.node_core.specs.Serving.{reply_at, details_at, iteration_behind, snapshot_behind, replica_after}
@@ -40,6 +42,13 @@ returns-in_default-clause-snapshot c =
     let seen = record_seen c.args.seen.now k c.args.number in
     let from = c.place_served.ensures.place ∙ ap (λ k. place_served (is_complete (record_seen c.args.seen.now k c.args.number)) k c.args.replicas.now) c.ckpt.ensures in
     ap (λ x. snapshot_behind c.args.request.now x c.args.lent.now.snap) (sym (served_none (is_complete seen) k c.args.replicas.now c.place_served.result from c.in_default.is))
+
+pub returns-in_default-clause-kept : goal.returns-in_default-clause-kept
+returns-in_default-clause-kept c =
+    let k = ckpt_of c.args.request.now in
+    let seen = record_seen c.args.seen.now k c.args.number in
+    let from = c.place_served.ensures.place ∙ ap (λ k. place_served (is_complete (record_seen c.args.seen.now k c.args.number)) k c.args.replicas.now) c.ckpt.ensures in
+    ap (λ x. remains_at c.args.request.now x replies.NoReplica c.args.lent.now c.args.lent.now) (sym (served_none (is_complete seen) k c.args.replicas.now c.place_served.result from c.in_default.is))
 
 pub answer-requires : goal.answer-requires
 answer-requires c =
@@ -86,3 +95,11 @@ returns-clause-snapshot c =
     let from = c.place_served.ensures.place ∙ ap (λ k. place_served (is_complete (record_seen c.args.seen.now k c.args.number)) k c.args.replicas.now) c.ckpt.ensures in
     c.answer.ensures.snapshot
     ∙ ap (λ x. snapshot_behind c.args.request.now x c.args.lent.now.snap) (sym (served_at (is_complete seen) k c.args.replicas.now c.place_served.result from c.in-Some.i c.index-replicas-i.result c.in-Some.is))
+
+pub returns-clause-kept : goal.returns-clause-kept
+returns-clause-kept c =
+    let k = ckpt_of c.args.request.now in
+    let seen = record_seen c.args.seen.now k c.args.number in
+    let from = c.place_served.ensures.place ∙ ap (λ k. place_served (is_complete (record_seen c.args.seen.now k c.args.number)) k c.args.replicas.now) c.ckpt.ensures in
+    c.answer.ensures.kept
+    ∙ ap (λ x. remains_at c.args.request.now x c.answer.result c.answer.new.lent c.args.lent.now) (sym (served_at (is_complete seen) k c.args.replicas.now c.place_served.result from c.in-Some.i c.index-replicas-i.result c.in-Some.is))

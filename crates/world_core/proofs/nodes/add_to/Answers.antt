@@ -4,6 +4,7 @@ use Rattle.std.specs.Prelude.{slice_index_or, slice_set}
 use Rattle.cluster_record.specs.RecordState.{entry_of}
 use Rattle.node_core.specs.Changing.{added_for}
 use Rattle.node_core.specs.Nodes.{NodeState}
+use Rattle.node_core.specs.Seen.{entry_seen}
 use Rattle.world_core.specs.Nodes.{nodes_shown, StandByNumber}
 use Rattle.world_core.proofs.Numbered.{node_is, numbered_set, shown_set, set_or_same}
 use Rattle.world_core.proofs.nodes.add_to.Goals as goal
@@ -20,5 +21,5 @@ returns-clause-ok c =
     let is = node_is c.args.nodes.now c.requires.numbered c.args.r node c.requires.node in
     on_ok_weaker c.add.result (λ added.
     ap (λ (n : NodeState). nodes_shown (slice_set c.args.nodes.now c.args.r n)) added
-    ∙ shown_set c.args.nodes.now c.requires.numbered c.args.r node c.requires.node (added_for (entry_of e.identity c.args.seen.now.entries) e.identity e.generation (slice_index_or c.args.nodes.now c.args.r node).replicas)
-    ∙ (λ i. slice_set (nodes_shown c.args.nodes.now) c.args.r (added_for (c.requires.there i) e.identity e.generation (sym is i).replicas))) c.add.ensures.ok
+    ∙ shown_set c.args.nodes.now c.requires.numbered c.args.r node c.requires.node (added_for (entry_seen (slice_index_or c.args.nodes.now c.args.r node).number (entry_of e.identity c.args.seen.now.entries)) e.identity e.generation (slice_index_or c.args.nodes.now c.args.r node).replicas)
+    ∙ (λ i. slice_set (nodes_shown c.args.nodes.now) c.args.r (added_for (entry_seen (sym is i).number (c.requires.there i)) e.identity e.generation (sym is i).replicas))) c.add.ensures.ok

@@ -1,7 +1,6 @@
 use Rattle.std.proofs.Common.{◌≡◌, length, arith, sym, ap, subst, ◌∙◌}
 use Rattle.std.proofs.lemmas.List.{with_items_is}
-use Rattle.node_msgs.specs.Requests.{ckpt_of}
-use Rattle.node_core.specs.Nodes.{MayReply, replica_served, seen_from}
+use Rattle.node_core.specs.Nodes.{MayReply, seen_for, served_for}
 use Rattle.node_core.specs.Payloads.{payload_of}
 use Rattle.node_core.specs.Serving.{details_at, iteration_behind, snapshot_behind}
 use Rattle.world_core.specs.Asking.{MayCome}
@@ -21,7 +20,7 @@ invariant_of-self c =
 pub returns-clause-reply : goal.returns-clause-reply
 returns-clause-reply c =
     let shown = ap nodes_shown c.as_mut_slice.ensures.value ∙ c.self.view_is in
-    subst (λ nodes. MayReply c.args.seen.now (node_at nodes c.args.r) c.args.request.now (payload_of c.args.lent.now) c.serve_node.result) shown c.serve_node.ensures.reply
+    subst (λ nodes. MayReply (seen_for c.args.seen.now (node_at nodes c.args.r) c.args.request.now) (node_at nodes c.args.r) c.args.request.now (payload_of c.args.lent.now) c.serve_node.result) shown c.serve_node.ensures.reply
 
 pub returns-clause-new : goal.returns-clause-new
 returns-clause-new c =
@@ -32,16 +31,14 @@ returns-clause-new c =
 pub returns-clause-details : goal.returns-clause-details
 returns-clause-details c =
     let shown = ap nodes_shown c.as_mut_slice.ensures.value ∙ c.self.view_is in
-    let k = ckpt_of c.args.request.now in
-    c.serve_node.ensures.details ∙ ap (λ nodes. details_at c.args.request.now (payload_of c.args.lent.now) (seen_from c.args.seen.now (node_at nodes c.args.r) k) (replica_served c.args.seen.now (node_at nodes c.args.r) k)) shown
+    c.serve_node.ensures.details ∙ ap (λ nodes. details_at c.args.request.now (payload_of c.args.lent.now) (seen_for c.args.seen.now (node_at nodes c.args.r) c.args.request.now) (served_for c.args.seen.now (node_at nodes c.args.r) c.args.request.now)) shown
 
 pub returns-clause-iteration : goal.returns-clause-iteration
 returns-clause-iteration c =
     let shown = ap nodes_shown c.as_mut_slice.ensures.value ∙ c.self.view_is in
-    let k = ckpt_of c.args.request.now in
-    c.serve_node.ensures.iteration ∙ ap (λ nodes. iteration_behind c.args.request.now (seen_from c.args.seen.now (node_at nodes c.args.r) k) (replica_served c.args.seen.now (node_at nodes c.args.r) k) c.args.lent.now.iteration) shown
+    c.serve_node.ensures.iteration ∙ ap (λ nodes. iteration_behind c.args.request.now (seen_for c.args.seen.now (node_at nodes c.args.r) c.args.request.now) (served_for c.args.seen.now (node_at nodes c.args.r) c.args.request.now) c.args.lent.now.iteration) shown
 
 pub returns-clause-snapshot : goal.returns-clause-snapshot
 returns-clause-snapshot c =
     let shown = ap nodes_shown c.as_mut_slice.ensures.value ∙ c.self.view_is in
-    c.serve_node.ensures.snapshot ∙ ap (λ nodes. snapshot_behind c.args.request.now (replica_served c.args.seen.now (node_at nodes c.args.r) (ckpt_of c.args.request.now)) c.args.lent.now.snap) shown
+    c.serve_node.ensures.snapshot ∙ ap (λ nodes. snapshot_behind c.args.request.now (served_for c.args.seen.now (node_at nodes c.args.r) c.args.request.now) c.args.lent.now.snap) shown
