@@ -56,3 +56,4 @@ pub mod Waits
 pub mod WaitedFor
 pub mod Words
 mod Staging
+mod Granted

@@ -39,7 +39,7 @@ use Rattle.world_core.specs.HandSteps.{hand_taken}
 use Rattle.world_core.specs.Happenings.{IsStep, rooms_at}
 use Rattle.world_core.specs.LiveRooms.{room_is_taken}
 use Rattle.world_core.specs.RecordAfter.{event_after, nodes_behind, snapshots_behind}
-use Rattle.world_core.specs.RecordReady.{CanAdd, IsPlain, IsRecordReady, IsRefusedWith}
+use Rattle.world_core.specs.RecordReady.{CanAdd, HasFound, IsPlain, IsRecordReady, IsRefusedWith}
 use Rattle.world_core.specs.Settling.{settled, CanGive, CanSettle}
 use Rattle.world_core.specs.Shows.{IsShown, HasNumbersLeft, machine_of, tables_of}
 use Rattle.world_core.specs.TableState.{TableState, kept_by}
@@ -47,6 +47,7 @@ use Rattle.world_core.specs.Alone.{ended_at, gone_with}
 use Rattle.world_core.proofs.AloneSteps.{gone_clients, gone_here, gone_set}
 use Rattle.world_core.proofs.CallSteps.{IsKnown, known, step_told, step_under}
 use Rattle.world_core.proofs.Going.{event_free}
+use Rattle.world_core.proofs.Granted.{has_found}
 use Rattle.world_core.proofs.Held.{state_in, in_hand_is, driver_is, actor_is}
 use Rattle.world_core.proofs.OpenRoom.{open_room}
 use Rattle.world_core.proofs.Readiness.{record_ready}
@@ -107,6 +108,10 @@ module _ (w : World) (v : Who) (step : RecordStep) (hand : InHand) (held : hand_
   -- what the step asks of the record
   pub is_ready : event_refusal w.cluster step hand.driver ≡ None → HasNumbersLeft w → IsRecordReady hand.call w.cluster hand.driver step
   is_ready granted roomy = let h = shown.shows.history in record_ready (machine_of w h) (state_in h v hand) hand.driver step granted roomy.identity roomy.references (event_ready w v step hand held next shown)
+
+  -- where it opens a checkpoint, that is the one that was looked up
+  pub is_found : (k : Option ℕ) → event_refusal w.cluster step hand.driver ≡ None → HasNumbersLeft w → k ≡ event_ckpt w.cluster hand.driver step → HasFound w.cluster hand.driver step k
+  is_found k granted roomy is = has_found hand.call w.cluster hand.driver step k is (known w shown).facts.rises (is_ready granted roomy)
 
   -- what it adds, the node does not have yet
   pub can_add : event_refusal w.cluster step hand.driver ≡ None → CanAdd hand.driver step w.cluster w.nodes

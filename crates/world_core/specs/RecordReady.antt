@@ -1,12 +1,13 @@
 -- What a step of a call asks of the record.
-use Rattle.std.specs.Prelude.{◌≡◌, ℕ, ◌+◌, ◌-◌, ◌^◌, ◌<◌, length, Option, Some, None, IsSome, IsSomeAnd, IsTrue, List, Bool, true, pos, ◌≤ℤ◌}
+use Rattle.std.specs.Prelude.{◌≡◌, ℕ, ◌+◌, ◌-◌, ◌^◌, ◌<◌, length, Option, Some, None, Result, Ok, Err, IsSome, IsSomeAnd, IsTrue, List, Bool, true, pos, ◌≤ℤ◌}
 use Rattle.ckpt_types.specs.declared.answers.Outcome.{Outcome}
 use Rattle.ckpt_types.specs.declared.answers.Outcome.TheVariants.{NoMemory}
+use Rattle.ckpt_types.specs.declared.answers.Outcome.TheVariants as outcomes
 use Rattle.node_msgs.specs.declared.next.RecordStep.{RecordStep}
 use Rattle.node_msgs.specs.declared.next.RecordStep.TheVariants as events
 use Rattle.node_msgs.specs.declared.steps.StepReply.{StepReply}
 use Rattle.node_msgs.specs.declared.steps.StepReply.TheVariants as words
-use Rattle.ckpt_machine.specs.Driving.{takes_memory}
+use Rattle.ckpt_machine.specs.Driving.{event_ckpt, event_refusal, takes_memory}
 use Rattle.ckpt_machine.specs.Drivers.{Driver}
 use Rattle.ckpt_machine.specs.Drivers as drivers
 use Rattle.cluster_record.specs.DueOnce.{OneStep, Enter, Unlink, Retain}
@@ -19,12 +20,12 @@ use Rattle.cluster_record.specs.declared.opening.OpenAnswer.{OpenAnswer}
 use Rattle.cluster_record.specs.declared.opening.OpenAnswer.TheVariants.{Opened, Made, Refused}
 use Rattle.cluster_record.specs.Opening.{open_answer}
 use Rattle.cluster_record.specs.Calls.{IsClient}
-use Rattle.cluster_record.specs.RecordReady.{CanBecomeLive, CanOpen, CanReferAt}
+use Rattle.cluster_record.specs.RecordReady.{CanBecomeLive, CanOpen, CanRefer, CanReferAt}
 use Rattle.cluster_record.specs.Placement.{adds}
 use Rattle.cluster_record.specs.RecordState.{RecordState, named, entry_of, home_of}
 use Rattle.cluster_record.specs.DueOpen.{making_ckpt}
 use Rattle.cluster_record.specs.LookUps.{identity_in}
-use Rattle.cluster_record.specs.Makings.{IsMakingOf}
+use Rattle.cluster_record.specs.Makings.{IsMakingOf, making_call}
 use Rattle.replica.specs.Replicas.{Replica}
 use Rattle.world_core.specs.Nodes.{replica_in}
 
@@ -64,6 +65,34 @@ abbrev pub IsRefusedWith : Option Outcome → RecordStep → StepReply → Outco
 IsRefusedWith (Some why) step words.Refused end = end ≡ why
 IsRefusedWith None step words.Memory end = IsTrue (takes_memory step) × (end ≡ NoMemory)
 IsRefusedWith refusal step reply end = ⊥
+
+-- a step that the record does not refuse, with its checkpoint; or one that it refuses, with how its call ends
+abbrev pub IsGrantedAt : RecordState → Driver → RecordStep → Result (Option ℕ) Outcome → Type 0
+IsGrantedAt R driver step (Ok k) = (event_refusal R step driver ≡ None) × (k ≡ event_ckpt R driver step)
+IsGrantedAt R driver step (Err end) = event_refusal R step driver ≡ Some end
+
+-- what an open's answer grants: to open this checkpoint, or to make one; or how its call ends
+abbrev pub granted_in : OpenAnswer → Result (Option ℕ) Outcome
+granted_in (Opened k added) = Ok (Some k)
+granted_in (Made k) = Ok None
+granted_in (Refused why) = Err (outcomes.Refused why.error why.cause)
+
+-- this checkpoint has the name that an open asks for, is not in the making, and its client's references can rise
+pub record IsOpenedAt (R : RecordState) (ask : OpenAsk) (k : ℕ) : Type 0 where
+  pub name : identity_in (named ask.name R.entries) ≡ Some k
+  pub entry : entry_of k R.entries ≡ named ask.name R.entries
+  pub made : making_call (named ask.name R.entries) ≡ None
+  pub references : CanRefer ask.client (entry_of k R.entries)
+
+-- the checkpoint that an open opens was found, and is this one
+abbrev pub IsOpenedAs : RecordState → OpenAsk → Option ℕ → Type 0
+IsOpenedAs R ask None = ⊥
+IsOpenedAs R ask (Some k) = IsOpenedAt R ask k
+
+-- where a step opens a checkpoint, it was found by its name, and is this one
+abbrev pub HasFound : RecordState → Driver → RecordStep → Option ℕ → Type 0
+HasFound R (drivers.Open o) events.Open k = IsOpenedAs R o.ask k
+HasFound R driver step k = Unit {0}
 
 -- what a call of one step asks
 abbrev pub IsOnceReady : CallId → RecordState → OneStep → Type 0

@@ -1,12 +1,13 @@
 //! What a step of a call does to the record, and to the nodes by it.
 ghost use Rattle.std.specs.Prelude.{◌≡◌, ◌+◌, IfSome, OnOk, OnErr, IsTrue};
 ghost use Rattle.ckpt_types.specs.Attributes.{IsWellFormed};
+ghost use Rattle.cluster_record.specs.LookUps.{at_ckpt, identity_in};
 ghost use Rattle.cluster_record.specs.Opening.{open_answer, after_open};
-ghost use Rattle.cluster_record.specs.RecordState.{named, home_of};
+ghost use Rattle.cluster_record.specs.RecordState.{entry_of, named, home_of, opened};
 ghost use Rattle.world_core.specs.CallStates.{step_in};
 ghost use Rattle.world_core.specs.Nodes.{with_opened};
 ghost use Rattle.world_core.specs.RecordAfter.{once_change, event_change, event_after, nodes_behind, snapshots_behind, with_room_asked};
-ghost use Rattle.world_core.specs.RecordReady.{CanAsk, CanAdd, HasNoneOf, IsGranted, IsOnceReady, IsOpenReady, IsPlain, IsRecordReady};
+ghost use Rattle.world_core.specs.RecordReady.{CanAsk, CanAdd, HasFound, HasNoneOf, IsGranted, IsOnceReady, IsOpenedAs, IsOpenReady, IsPlain, IsRecordReady};
 ghost use Rattle.ckpt_machine.specs.Driving.{takes_memory};
 ghost use Rattle.ckpt_machine.specs.Drivers.{Open};
 
@@ -30,17 +31,19 @@ pub fn apply(
     call: CallId,
     driver: &Driver,
     step: RecordStep,
+    ckpt: Option<CkptId>,
 ) -> Result<(), AllocError>
     requires plain { IsPlain step }
     requires ready { IsRecordReady call cluster.old driver.now step }
     requires free { CanAdd driver.now step cluster.old nodes.old }
+    requires found { HasFound cluster.old driver.now step ckpt }
     ensures ok { OnOk result (cluster.new ≡ event_after call driver.now step cluster.old) }
     ensures nodes { OnOk result (nodes.new ≡ nodes_behind driver.now step cluster.old nodes.old) }
     ensures snapshots { OnOk result (snapshots.new ≡ snapshots_behind driver.now step cluster.old snapshots.old) }
     ensures err { OnErr result ((cluster.new ≡ cluster.old) × (nodes.new ≡ nodes.old) × (snapshots.new ≡ snapshots.old)) }
     ensures memory { OnErr result (IsTrue (takes_memory step)) }
 {
-    change(alloc, cluster, nodes, snapshots, call, driver, step)?;
+    change(alloc, cluster, nodes, snapshots, call, driver, step, ckpt)?;
     cluster.sweep();
     Ok(())
 }
@@ -53,10 +56,12 @@ fn change(
     call: CallId,
     driver: &Driver,
     step: RecordStep,
+    ckpt: Option<CkptId>,
 ) -> Result<(), AllocError>
     requires plain { IsPlain step }
     requires ready { IsRecordReady call cluster.old driver.now step }
     requires free { CanAdd driver.now step cluster.old nodes.old }
+    requires found { HasFound cluster.old driver.now step ckpt }
     ensures ok { OnOk result (cluster.new ≡ event_change call driver.now step cluster.old) }
     ensures nodes { OnOk result (nodes.new ≡ nodes_behind driver.now step cluster.old nodes.old) }
     ensures snapshots { OnOk result (snapshots.new ≡ snapshots_behind driver.now step cluster.old snapshots.old) }
@@ -69,7 +74,9 @@ fn change(
             Ok(())
         }
         DriverKind::Open(open_call) => {
-            change_by_open(alloc, cluster, nodes, snapshots, call, open_call, step)
+            change_by_open(
+                alloc, cluster, nodes, snapshots, call, open_call, step, ckpt,
+            )
         }
         DriverKind::Update(_) | DriverKind::Active(_) | DriverKind::Sync(_) => Ok(()),
     }
@@ -108,9 +115,11 @@ fn change_by_open(
     call: CallId,
     open_call: &OpenCall,
     step: RecordStep,
+    ckpt: Option<CkptId>,
 ) -> Result<(), AllocError>
     requires ready { IsOpenReady call cluster.old open_call.now step }
     requires free { CanAdd (Open open_call.now) step cluster.old nodes.old }
+    requires found { HasFound cluster.old (Open open_call.now) step ckpt }
     ensures ok { OnOk result (cluster.new ≡ event_change call (Open open_call.now) step cluster.old) }
     ensures nodes { OnOk result (nodes.new ≡ nodes_behind (Open open_call.now) step cluster.old nodes.old) }
     ensures snapshots { OnOk result (snapshots.new ≡ snapshots_behind (Open open_call.now) step cluster.old snapshots.old) }
@@ -119,7 +128,7 @@ fn change_by_open(
 {
     match step {
         RecordStep::Create => create(alloc, cluster, snapshots, call, open_call.ask()),
-        RecordStep::Open => open(alloc, cluster, nodes, call, open_call.ask()),
+        RecordStep::Open => open(alloc, cluster, nodes, ckpt, open_call.ask()),
         RecordStep::Finish => {
             if let Some(ckpt) = open_call.making() {
                 cluster.finish_create(ckpt);
@@ -173,48 +182,48 @@ fn make_room(
     }
 }
 
-// The record opens the checkpoint of the ask, and where that adds a replica, the client's node has it.
+// The client of the ask opens the checkpoint that was found, and where that adds a replica, its node has it.
 fn open(
     alloc: Global,
     cluster: &mut Record,
     nodes: &mut Nodes,
-    call: CallId,
+    ckpt: Option<CkptId>,
     ask: &SharedAsk,
 ) -> Result<(), AllocError>
-    requires can { CanAsk call cluster.old ask.now }
-    requires granted { IsGranted (open_answer cluster.old ask.now) }
+    requires found { IsOpenedAs cluster.old ask.now ckpt }
     requires free { HasNoneOf (named ask.now.name cluster.old.entries) (home_of ask.now.client cluster.old) nodes.old }
-    ensures ok { OnOk result (cluster.new ≡ after_open call ask.now cluster.old) }
+    ensures ok { OnOk result (cluster.new ≡ at_ckpt (identity_in (named ask.now.name cluster.old.entries)) cluster.old (λ k. opened k ask.now.client cluster.old)) }
     ensures nodes { OnOk result (nodes.new ≡ with_opened (named ask.now.name cluster.old.entries) (home_of ask.now.client cluster.old) nodes.old) }
     ensures err { OnErr result ((cluster.new ≡ cluster.old) × (nodes.new ≡ nodes.old)) }
 {
-    let ask = ask.to_ask()?;
-    add_replica(alloc, cluster, nodes, &ask)?;
-    put(cluster, call, ask);
+    let Some(ckpt) = ckpt else { unreachable!() };
+    add_replica(alloc, cluster, nodes, ckpt, ask.client)?;
+    cluster.refer(ckpt, ask.client);
     Ok(())
 }
 
-// The client's node gets the replica that the open adds, if it adds one.
+// The client's node gets the replica that an open of the checkpoint adds, if it adds one.
 fn add_replica(
     alloc: Global,
     cluster: &Record,
     nodes: &mut Nodes,
-    ask: &OpenAsk,
+    ckpt: CkptId,
+    client: u8,
 ) -> Result<(), AllocError>
-    requires { HasNoneOf (named ask.now.name cluster.now.entries) (home_of ask.now.client cluster.now) nodes.old }
-    ensures ok { OnOk result (nodes.new ≡ with_opened (named ask.now.name cluster.now.entries) (home_of ask.now.client cluster.now) nodes.old) }
+    requires { HasNoneOf (entry_of ckpt cluster.now.entries) (home_of client cluster.now) nodes.old }
+    ensures ok { OnOk result (nodes.new ≡ with_opened (entry_of ckpt cluster.now.entries) (home_of client cluster.now) nodes.old) }
     ensures err { OnErr result (nodes.new ≡ nodes.old) }
 {
-    let Some(entry) = cluster.named(&ask.name) else {
+    let Some(entry) = cluster.entry(ckpt) else {
         return Ok(());
     };
-    if !cluster.adds_replica(entry.identity, ask.client) {
+    if !cluster.adds_replica(ckpt, client) {
         return Ok(());
     }
-    nodes.add(alloc, cluster.home_of(ask.client), cluster, entry)
+    nodes.add(alloc, cluster.home_of(client), cluster, entry)
 }
 
-// The record opens the checkpoint of the ask, or puts it into the making: that none of both is refused was decided before.
+// The record puts the checkpoint of the ask into the making: that it is not refused was decided before.
 fn put(cluster: &mut Record, call: CallId, ask: OpenAsk)
     requires can { CanAsk call cluster.old ask }
     requires granted { IsGranted (open_answer cluster.old ask) }

@@ -4,7 +4,7 @@ ghost use Rattle.std.specs.Prelude.{◌≡◌, ℕ, ◌-◌, ◌^◌, ◌<◌, S
 ghost use Rattle.ckpt_types.specs.Limits.{client_numbers, nodes_max};
 ghost use Rattle.node_msgs.specs.Requests.{ckpt_of};
 ghost use Rattle.node_msgs.specs.Steps.{verb_of, word_of, event_verb};
-ghost use Rattle.ckpt_machine.specs.Driving.{driver_next, driver_taken, driver_end, driver_start, on_kept, kind_of_change, change_start, active_start, sync_start, done_end, event_ckpt, event_node, event_end, event_refusal, making_in, opened_end, refusal_in, takes_memory, refused_cause};
+ghost use Rattle.ckpt_machine.specs.Driving.{driver_next, driver_taken, driver_end, driver_start, on_kept, kind_of_change, change_start, active_start, sync_start, done_end, event_ckpt, event_node, event_end, making_in, opened_end, takes_memory, refused_cause};
 ghost use Rattle.cluster_record.specs.StepDone.{done_of, names_live, count_told};
 ghost use Rattle.cluster_record.specs.DueSync.{sync_taken};
 ghost use Rattle.world_core.specs.Leading.{synchronized_by};
@@ -22,6 +22,7 @@ ghost use Rattle.node_msgs.specs.declared.steps.StepReply.TheVariants as words;
 ghost use Rattle.node_msgs.specs.declared.steps.Verb.TheVariants as verbs;
 ghost use Rattle.ckpt_types.specs.declared.answers.Answer.TheVariants as answers;
 ghost use Rattle.world_core.specs.UpdateSteps.{IsUpdate, end_of_refused, ended_unless};
+ghost use Rattle.world_core.specs.RecordReady.{IsGrantedAt, granted_in};
 ghost use Rattle.world_core.specs.TableState.{kept_by};
 ghost use Rattle.ckpt_machine.specs.Drivers.{Once};
 ghost use Rattle.ckpt_machine.specs.Drivers as kinds;
@@ -535,23 +536,29 @@ fn opened_end(ckpt: Option<CkptId>) -> Option<Outcome>
     }
 }
 
-/// How a call ends by a step that the record refuses: an open of what another call is making.
-pub fn event_refusal(cluster: &Record, driver: &Driver, step: &RecordStep) -> Option<Outcome>
+/// The checkpoint of a step that the record does not refuse, before it is done. What it refuses is an open of what
+/// another call is making: then how its call ends.
+pub fn event_granted(
+    cluster: &Record,
+    driver: &Driver,
+    step: &RecordStep,
+) -> Result<Option<CkptId>, Outcome>
     requires { cluster.now.last_identity < 2 ^ 32 - 1 }
-    ensures { result ≡ event_refusal cluster.now step.now driver.now }
+    ensures { IsGrantedAt cluster.now driver.now step.now result }
 {
     match (step, &driver.kind) {
-        (RecordStep::Open, DriverKind::Open(open_call)) => refusal_in(open_call.answer(cluster)),
-        _ => None,
+        (RecordStep::Open, DriverKind::Open(open_call)) => granted_in(open_call.answer(cluster)),
+        _ => Ok(event_ckpt(cluster, driver, step)),
     }
 }
 
-fn refusal_in(answer: OpenAnswer) -> Option<Outcome>
-    ensures { result ≡ refusal_in answer }
+fn granted_in(answer: OpenAnswer) -> Result<Option<CkptId>, Outcome>
+    ensures { result ≡ granted_in answer }
 {
     match answer {
-        OpenAnswer::Refused(why) => Some(Outcome::Refused(why.error, why.cause)),
-        _ => None,
+        OpenAnswer::Opened(ckpt, _) => Ok(Some(ckpt)),
+        OpenAnswer::Made(_) => Ok(None),
+        OpenAnswer::Refused(why) => Err(Outcome::Refused(why.error, why.cause)),
     }
 }
 

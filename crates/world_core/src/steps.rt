@@ -11,8 +11,8 @@ ghost use Rattle.run_labels.specs.declared.words.Said.TheVariants.{Idle};
 ghost use Rattle.world_core.specs.Settling.{tables_given, settled, looked, without_making_of, CanGive, CanSettle};
 ghost use Rattle.cluster_record.specs.LookUps.{creation_flags_of};
 ghost use Rattle.cluster_record.specs.RecordState.{entry_of};
-ghost use Rattle.ckpt_machine.specs.Driving.{event_refusal};
-ghost use Rattle.world_core.specs.RecordReady.{IsPlain, IsRefusedWith};
+ghost use Rattle.ckpt_machine.specs.Driving.{event_ckpt, event_refusal};
+ghost use Rattle.world_core.specs.RecordReady.{IsGrantedAt, IsPlain, IsRefusedWith};
 ghost use Rattle.world_core.specs.declared.hands.InHand.{InHand};
 ghost use Rattle.world_core.specs.LiveRooms.{room_is_taken};
 ghost use Rattle.world_core.specs.Runs.{step_word};
@@ -28,7 +28,7 @@ ghost use Rattle.ckpt_types.specs.Limits.{client_numbers, nodes_max};
 
 use crate::applying::apply;
 use crate::details::told_details;
-use crate::drivers::{DriverKind, event_ckpt, event_end, event_node, event_refusal};
+use crate::drivers::{DriverKind, event_ckpt, event_end, event_granted, event_node};
 use crate::hands::{Hands, clear, client_by, hand_over, let_go};
 use crate::iterating::{keep_iteration, lend_iteration};
 use crate::lending::lent_by;
@@ -200,7 +200,7 @@ impl World {
         ensures { Adds log.old log.new (IsStep who self.old self.new) }
     {
         match self.tables.take_room(alloc, client_by(who)) {
-            Ok(()) => self.record_step(alloc, who, RecordStep::Enter, log),
+            Ok(()) => self.record_step(alloc, who, RecordStep::Enter, None, log),
             Err(AllocError) => self.refuse_step(
                 who,
                 RecordStep::Enter,
@@ -222,22 +222,22 @@ impl World {
         requires spare { 1 ≤ log.old.spare }
         ensures { Adds log.old log.new (IsStep who self.old self.new) }
     {
-        match self.refusal(who, &step) {
-            Some(end) => self.refuse_step(who, step, StepReply::Refused, end, log),
-            None => self.record_step(alloc, who, step, log),
+        match self.granted(who, &step) {
+            Ok(ckpt) => self.record_step(alloc, who, step, ckpt, log),
+            Err(end) => self.refuse_step(who, step, StepReply::Refused, end, log),
         }
     }
 
-    // How the client's call ends by the step, where the record refuses it.
-    fn refusal(&self, who: Who, step: &RecordStep) -> Option<Outcome>
+    // The checkpoint of the step, where the record does not refuse it; how the client's call ends by it, where it does.
+    fn granted(&self, who: Who, step: &RecordStep) -> Result<Option<CkptId>, Outcome>
         requires next { IsNext self.now who (nexts.Event step.now) }
         requires roomy { HasNumbersLeft self.now }
-        ensures { (hand : InHand) → hand_at self.now.hands who ≡ Some hand → result ≡ event_refusal self.now.cluster step.now hand.driver }
+        ensures { (hand : InHand) → hand_at self.now.hands who ≡ Some hand → IsGrantedAt self.now.cluster hand.driver step.now result }
     {
         let Some(hand) = self.hands.find(who) else {
             unreachable!()
         };
-        event_refusal(&self.cluster, &hand.driver, step)
+        event_granted(&self.cluster, &hand.driver, step)
     }
 
     // A step is refused by the record, or the memory that it takes, and the call ends.
@@ -272,8 +272,16 @@ impl World {
 
     // The call takes a step that the record does not refuse; where its memory is refused, the call ends. A client
     // that becomes live has its room. An open may add a replica.
-    fn record_step(&mut self, alloc: Global, who: Who, step: RecordStep, log: &mut RunLog)
+    fn record_step(
+        &mut self,
+        alloc: Global,
+        who: Who,
+        step: RecordStep,
+        ckpt: Option<CkptId>,
+        log: &mut RunLog,
+    )
         requires next { IsNext self.old who (nexts.Event step) }
+        requires ckpt { (hand : InHand) → hand_at self.old.hands who ≡ Some hand → ckpt ≡ event_ckpt self.old.cluster hand.driver step }
         requires granted { (hand : InHand) → hand_at self.old.hands who ≡ Some hand → event_refusal self.old.cluster step hand.driver ≡ None }
         requires plain { IsPlain step }
         requires has_room { step ≡ events.Enter → room_is_taken (slice_get self.old.tables (client_by who)) ≡ true }
@@ -287,7 +295,6 @@ impl World {
         let Some(hand) = slot else { unreachable!() };
         let call = hand.call;
         let op = hand.word();
-        let ckpt = event_ckpt(&self.cluster, &hand.driver, &step);
         let node = event_node(&hand.driver, &step);
         let verb = step.verb();
         let applied = apply(
@@ -298,6 +305,7 @@ impl World {
             call,
             &hand.driver,
             step,
+            ckpt,
         );
         if applied.is_err() {
             clear(slot);

@@ -1,11 +1,15 @@
 use Rattle.std.proofs.Common.{refl}
 use Rattle.node_msgs.specs.declared.next.Next.TheVariants.{Event}
 use Rattle.node_msgs.specs.declared.next.RecordStep.TheVariants.{Enter}
+use Rattle.world_core.proofs.Granted.{no_ckpt}
 use Rattle.world_core.proofs.TakenRoom.{keeps_taken}
 use Rattle.world_core.proofs.world.World.enter_step.Goals as goal
 
 pub record_step-requires-clause-next : goal.record_step-requires-clause-next
 record_step-requires-clause-next c = (keeps_taken c.args.self.now c.args.who c.client_by.result c.take_room.new.self c.client_by.ensures c.in-Ok.ensures.taken).next (Event Enter) c.requires.next
+
+pub record_step-requires-clause-ckpt : goal.record_step-requires-clause-ckpt
+record_step-requires-clause-ckpt c hand held = no_ckpt c.args.self.now.cluster hand.driver
 
 pub record_step-requires-clause-has_room : goal.record_step-requires-clause-has_room
 record_step-requires-clause-has_room c is = (keeps_taken c.args.self.now c.args.who c.client_by.result c.take_room.new.self c.client_by.ensures c.in-Ok.ensures.taken).has_room

@@ -16,7 +16,7 @@ use Rattle.world_core.specs.Alone.{ended_at}
 use Rattle.world_core.specs.Freeing.{freed_world}
 use Rattle.world_core.proofs.Going.{length-behind}
 use Rattle.world_core.proofs.Held.{next_for}
-use Rattle.world_core.proofs.RecordSteps.{can_add, can_settle, is_ready, when_ok, when_err, event_step, refused_step}
+use Rattle.world_core.proofs.RecordSteps.{can_add, can_settle, is_found, is_ready, when_ok, when_err, event_step, refused_step}
 use Rattle.world_core.proofs.world.World.record_step.Goals as goal
 
 pub apply-applied-requires-clause-ready : goal.apply-applied-requires-clause-ready
@@ -32,6 +32,13 @@ apply-applied-requires-clause-free c =
     let hand = c.in-Some.hand in
     let held : hand_at w.hands c.args.who ≡ Some hand = c.at-slot.ensures.value ∙ c.in-Some.is in
     can_add w c.args.who c.args.step hand held (next_for w c.args.who (Event c.args.step) hand held c.requires.next) c.requires.shown (c.requires.granted hand held)
+
+pub apply-applied-requires-clause-found : goal.apply-applied-requires-clause-found
+apply-applied-requires-clause-found c =
+    let w = c.args.self.now in
+    let hand = c.in-Some.hand in
+    let held : hand_at w.hands c.args.who ≡ Some hand = c.at-slot.ensures.value ∙ c.in-Some.is in
+    is_found w c.args.who c.args.step hand held (next_for w c.args.who (Event c.args.step) hand held c.requires.next) c.requires.shown c.args.ckpt (c.requires.granted hand held) c.requires.roomy (c.requires.ckpt hand held)
 
 pub settle-requires-clause-can : goal.settle-requires-clause-can
 settle-requires-clause-can c =
@@ -52,9 +59,9 @@ returns-then-is_err c =
       label = _;
       labels = c.push.ensures.labels;
       is = subst (λ (label : Label). IsStep c.args.who w c.end_alone.new.self label) (sym c.stepped.ensures)
-          (refused_step w c.args.who c.args.step hand held (next_for w c.args.who (Event c.args.step) hand held c.requires.next) c.requires.shown c.end_alone.new.self c.word-op.result c.verb-verb.result c.event_ckpt-ckpt.result c.event_node-node.result Memory NoMemory c.requires.plain
+          (refused_step w c.args.who c.args.step hand held (next_for w c.args.who (Event c.args.step) hand held c.requires.next) c.requires.shown c.end_alone.new.self c.word-op.result c.verb-verb.result c.args.ckpt c.event_node-node.result Memory NoMemory c.requires.plain
           (subst (λ (o : Option Outcome). IsRefusedWith o c.args.step Memory NoMemory) (sym (c.requires.granted hand held)) (takes, refl))
-          (c.end_alone.ensures ∙ (λ i. ended_at c.args.who (Some NoMemory) (record w { cluster = same.0 i; nodes = same.1 i; snapshots = same.2 i; hands = set_at w.hands c.args.who (c.clear.ensures i) }))) c.event_ckpt-ckpt.ensures c.event_node-node.ensures c.word-op.ensures c.verb-verb.ensures);
+          (c.end_alone.ensures ∙ (λ i. ended_at c.args.who (Some NoMemory) (record w { cluster = same.0 i; nodes = same.1 i; snapshots = same.2 i; hands = set_at w.hands c.args.who (c.clear.ensures i) }))) (c.requires.ckpt hand held) c.event_node-node.ensures c.word-op.ensures c.verb-verb.ensures);
     }
 
 pub returns : goal.returns
@@ -73,6 +80,6 @@ returns c =
       label = _;
       labels = c.push-2.ensures.labels;
       is = subst (λ (label : Label). IsStep c.args.who w c.end_alone-2.new.self label) (sym c.stepped-2.ensures)
-          (event_step w c.args.who c.args.step hand held next c.requires.shown c.end_alone-2.new.self c.apply-applied.new.cluster c.apply-applied.new.nodes c.apply-applied.new.snapshots c.settle.new.tables c.told.new.self c.let_go.new.slot c.client_by-c.result c.handle_closed-closed.result c.word-op.result c.verb-verb.result c.event_ckpt-ckpt.result c.event_node-node.result c.event_end-end.result
-          (c.requires.granted hand held) c.requires.plain c.requires.roomy c.requires.has_room eight record_is c.event_ckpt-ckpt.ensures c.event_node-node.ensures c.event_end-end.ensures c.settle.ensures c.told.ensures c.let_go.ensures nodes_are snapshots_are c.client_by-c.ensures c.handle_closed-closed.ensures new_is c.word-op.ensures c.verb-verb.ensures);
+          (event_step w c.args.who c.args.step hand held next c.requires.shown c.end_alone-2.new.self c.apply-applied.new.cluster c.apply-applied.new.nodes c.apply-applied.new.snapshots c.settle.new.tables c.told.new.self c.let_go.new.slot c.client_by-c.result c.handle_closed-closed.result c.word-op.result c.verb-verb.result c.args.ckpt c.event_node-node.result c.event_end-end.result
+          (c.requires.granted hand held) c.requires.plain c.requires.roomy c.requires.has_room eight record_is (c.requires.ckpt hand held) c.event_node-node.ensures c.event_end-end.ensures c.settle.ensures c.told.ensures c.let_go.ensures nodes_are snapshots_are c.client_by-c.ensures c.handle_closed-closed.ensures new_is c.word-op.ensures c.verb-verb.ensures);
     }
