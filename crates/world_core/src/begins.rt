@@ -27,7 +27,7 @@ ghost use Rattle.world_core.specs.Happenings.{Adds, BringsUp, Begins};
 use crate::beginning::{begin_end, ckpt_of_handle, takes_room};
 use crate::drivers::Driver;
 use crate::hand_rooms::HandRooms;
-use crate::hands::{Hands, InHand};
+use crate::hands::{Hands, InHand, take_place};
 use crate::world::World;
 use ckpt_types::{ActorName, Answer, Apart, CallId, Op, Outcome, Vector, Who};
 use client_handles::HandleView;
@@ -114,7 +114,7 @@ impl World {
         let slot = self.hands.at_client(c);
         let hand = in_hand(call, &op, &handle, &self.cluster, rooms)?;
         self.tables.begin(c, call, &op, &handle, &None);
-        *slot = Some(hand);
+        take_place(slot, hand);
         log.push(Label::Began {
             call,
             op,

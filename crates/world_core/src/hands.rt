@@ -370,6 +370,18 @@ pub fn clear(slot: &mut Option<InHand>)
     *slot = None;
 }
 
+/// A call that begins comes to its place. None is there, so nothing is given back.
+#[inline(always)]
+pub fn take_place(slot: &mut Option<InHand>, hand: InHand)
+    requires { slot.old ≡ None }
+    ensures { slot.new ≡ Some hand }
+{
+    if slot.is_some() {
+        unreachable!()
+    }
+    *slot = Some(hand);
+}
+
 fn new_places(alloc: Global) -> Result<Vec<Option<InHand>>, AllocError>
     ensures { IfOk result (λ places. places.items ≡ replicate client_numbers None) }
 {

@@ -1,9 +1,15 @@
-use Rattle.std.proofs.Common.{subst}
+use Rattle.std.proofs.Common.{sym, subst}
+use Rattle.std.specs.Prelude.{Option, None}
 use Rattle.ckpt_types.specs.declared.identities.ActorName.TheVariants.{Client}
 use Rattle.ckpt_types.specs.declared.identities.CallId.{CallId}
 use Rattle.ckpt_types.specs.declared.identities.Who.TheVariants.{Actor}
 use Rattle.ckpt_types.specs.Asks.{asked}
+use Rattle.node_msgs.specs.declared.details.Details.TheVariants.{Nothing}
+use Rattle.run_labels.specs.declared.labels.Label.TheVariants.{Began}
 use Rattle.ckpt_machine.specs.Steps.{IsBeginEnd, kept_at_beginning}
+use Rattle.world_core.specs.declared.hands.InHand.{InHand}
+use Rattle.world_core.specs.Happenings.{Begins}
+use Rattle.world_core.specs.HandsState.{set_at}
 use Rattle.world_core.proofs.HandPlaces.{left_alone}
 use Rattle.world_core.proofs.Waits.{none_there, next_begun, hand_begun, waits}
 use Rattle.world_core.proofs.world.World.begin_call.Goals as goal
@@ -24,5 +30,6 @@ returns-clause-ok c =
     record {
       label = _;
       labels = c.push.ensures.labels;
-      is = waits w c.args.c c.number.result c.args.op handle hand c.begin.new.self is begun c.at_client-slot.ensures.there c.begin.ensures;
+      is = subst (λ (o : Option InHand). Begins c.args.c c.args.op w (record w { tables = c.begin.new.self; hands = set_at w.hands (Actor (Client c.args.c)) o }) (Began call c.args.op None Nothing)) (sym c.take_place.ensures)
+          (waits w c.args.c c.number.result c.args.op handle hand c.begin.new.self is begun c.at_client-slot.ensures.there c.begin.ensures);
     }
