@@ -10,7 +10,7 @@ use Rattle.node_msgs.specs.declared.steps.Verb.TheVariants as verbs
 use Rattle.run_labels.specs.declared.labels.Label.{Label}
 use Rattle.cluster_record.specs.declared.calls.UpdatePhase.TheVariants.{Committing}
 use Rattle.cluster_record.specs.declared.entries.Entry.{Entry}
-use Rattle.cluster_record.specs.DueUpdate.{UpdateState, update_on, by_phase, commit_at}
+use Rattle.cluster_record.specs.DueUpdate.{UpdateState, update_led, update_on, by_phase, commit_at}
 use Rattle.cluster_record.specs.RecordState.{entry_of}
 use Rattle.cluster_record.specs.StepDone.{first_lacking, last_having}
 use Rattle.ckpt_machine.specs.Drivers as drivers
@@ -91,11 +91,15 @@ commits_or_looks m s u t is phase done = by_entry (entry_of u.ckpt m.cluster.ent
     at None looked = look (ap (λ (t : Told). t.verb) looked)
     at (Some r) served = commit served.verb
 
-    by_entry : (o : Option Entry) → IsDone m s (update_on u m.cluster.moment o) t → CommitsOrLooks t
-    by_entry None looked = look (ap (λ (t : Told). t.verb) looked)
-    by_entry (Some e) step =
+    by_active : (e : Entry) (active : Option ℕ) → IsDone m s (update_led u m.cluster.moment e active) t → CommitsOrLooks t
+    by_active e None looked = look (ap (λ (t : Told). t.verb) looked)
+    by_active e (Some active) step =
         at (last_having 0 e.complete u.owned)
         (subst (λ ph. IsDone m s (by_phase u m.cluster.moment (first_lacking 0 e.complete u.owned) (last_having 0 e.complete u.owned) ph) t) phase step)
+
+    by_entry : (o : Option Entry) → IsDone m s (update_on u m.cluster.moment o) t → CommitsOrLooks t
+    by_entry None looked = look (ap (λ (t : Told). t.verb) looked)
+    by_entry (Some e) step = by_active e e.active step
 
 -- so the replica has no effect of a call that takes another on it
 none_yet : (log : List Label) (m : Machine) (s : CallState) (verb : Verb) (k r : ℕ) (x : ReplicaState) → StepsOn log m s verb k r x → verbs.Commit ≢ verb → verbs.Look ≢ verb → HasEffect s.call x.effects → ⊥

@@ -26,7 +26,7 @@ use Rattle.cluster_record.specs.DueSync.{SyncState, first_unserved, install_next
 use Rattle.cluster_record.specs.declared.calls.SyncKind.{SyncKind}
 use Rattle.cluster_record.specs.declared.calls.SyncKind.TheVariants.{Synchronize, ActiveSet}
 use Rattle.cluster_record.specs.declared.calls.PulledAt.{PulledAt}
-use Rattle.cluster_record.specs.DueUpdate.{UpdateState, by_phase, stage_at, commit_at, update_next, update_on}
+use Rattle.cluster_record.specs.DueUpdate.{UpdateState, by_phase, stage_at, commit_at, commit_first, update_led, update_next, update_on}
 use Rattle.cluster_record.specs.RecordState.{entry_of, named}
 use Rattle.cluster_record.specs.StepDone.{has, first_lacking, last_having}
 use Rattle.ckpt_types.specs.Asks.{asked, update_asked, update_of, IsBuiltAsk, IsBuilt}
@@ -103,17 +103,25 @@ update_due m s u ready = by_entry (entry_of u.ckpt m.cluster.entries) ready
     by_last None ready = tt
     by_last (Some r) ready = (ready.0, ready.1, ready.2, ready.3, tt)
 
+    by_first_commit : (last : Option ℕ) → IsReadyNext m s (commit_first u last) → IsDueReady m s (drivers.Update u) (commit_first u last)
+    by_first_commit None ready = tt
+    by_first_commit (Some r) ready = by_last (Some r) ready
+
     by_first : (first last : Option ℕ) → IsReadyNext m s (stage_at u m.cluster.moment first last) → IsDueReady m s (drivers.Update u) (stage_at u m.cluster.moment first last)
-    by_first None last ready = by_last last ready
+    by_first None last ready = by_first_commit last ready
     by_first (Some r) last ready = (ready.0, ready.1, ready.2, ready.3, tt)
 
     by_phases : (first last : Option ℕ) (ph : UpdatePhase) → IsReadyNext m s (by_phase u m.cluster.moment first last ph) → IsDueReady m s (drivers.Update u) (by_phase u m.cluster.moment first last ph)
     by_phases first last Staging ready = by_first first last ready
     by_phases first last Committing ready = by_last last ready
 
+    by_active : (e : Entry) (active : Option ℕ) → IsReadyNext m s (update_led u m.cluster.moment e active) → IsDueReady m s (drivers.Update u) (update_led u m.cluster.moment e active)
+    by_active e None ready = tt
+    by_active e (Some active) ready = by_phases (first_lacking 0 e.complete u.owned) (last_having 0 e.complete u.owned) u.phase ready
+
     by_entry : (o : Option Entry) → IsReadyNext m s (update_on u m.cluster.moment o) → IsDueReady m s (drivers.Update u) (update_on u m.cluster.moment o)
     by_entry None ready = tt
-    by_entry (Some e) ready = by_phases (first_lacking 0 e.complete u.owned) (last_having 0 e.complete u.owned) u.phase ready
+    by_entry (Some e) ready = by_active e e.active ready
 
 -- ---- a call to the active
 

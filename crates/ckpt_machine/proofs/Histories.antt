@@ -22,7 +22,7 @@ use Rattle.run_labels.specs.declared.labels.Label.TheVariants as labels
 use Rattle.cluster_record.specs.declared.calls.UpdatePhase.TheVariants.{Committing}
 use Rattle.cluster_record.specs.declared.entries.Entry.{Entry}
 use Rattle.cluster_record.specs.Calls.{same_actor, put_actor, left}
-use Rattle.cluster_record.specs.DueUpdate.{UpdateState, update_on, by_phase, commit_at, update_taken, update_taken_by, commit_taken}
+use Rattle.cluster_record.specs.DueUpdate.{UpdateState, update_led, update_on, by_phase, commit_at, update_taken, update_taken_by, commit_taken}
 use Rattle.cluster_record.specs.Places.{put, put2}
 use Rattle.cluster_record.specs.RecordState.{entry_of, moved}
 use Rattle.cluster_record.specs.StepDone.{StepDone, done_of, counting, first_lacking, last_having}
@@ -163,10 +163,11 @@ making_incomplete m inv call k r by =
 
 -- ---- a step of a call that commits
 
--- it is a commit; or a look, where its checkpoint is gone or nothing is left to commit
+-- it is a commit; or a look, where its checkpoint is gone or has no active, or nothing is left to commit
 pub data CommitsBy (m : Machine) (u : UpdateState) (t : Told) : Type 0 where
   commit : t.verb ≡ verbs.Commit → CommitsBy m u t
   gone : entry_of u.ckpt m.cluster.entries ≡ None → t.end ≡ Some (Refused NotExist Plain) → CommitsBy m u t
+  unled : (e : Entry) → entry_of u.ckpt m.cluster.entries ≡ Some e → e.active ≡ None → t.end ≡ Some (Refused NotExist Plain) → CommitsBy m u t
   nothing_left : t.end ≡ Some (Done answers.Nothing) → CommitsBy m u t
 
 pub commits_by : (m : Machine) (s : CallState) (u : UpdateState) (t : Told) → driver_of s ≡ drivers.Update u → u.phase ≡ Committing → IsDone m s (due m s) t → CommitsBy m u t
@@ -176,11 +177,15 @@ commits_by m s u t is phase done = by_entry (entry_of u.ckpt m.cluster.entries) 
     at None looked = nothing_left (ap (λ (t : Told). t.end) looked)
     at (Some r) served = commit served.verb
 
-    by_entry : (o : Option Entry) → entry_of u.ckpt m.cluster.entries ≡ o → IsDone m s (update_on u m.cluster.moment o) t → CommitsBy m u t
-    by_entry None none looked = gone none (ap (λ (t : Told). t.end) looked)
-    by_entry (Some e) found step =
+    by_active : (e : Entry) → entry_of u.ckpt m.cluster.entries ≡ Some e → (active : Option ℕ) → e.active ≡ active → IsDone m s (update_led u m.cluster.moment e active) t → CommitsBy m u t
+    by_active e found None none looked = unled e found none (ap (λ (t : Told). t.end) looked)
+    by_active e found (Some active) led step =
         at (last_having 0 e.complete u.owned)
         (subst (λ ph. IsDone m s (by_phase u m.cluster.moment (first_lacking 0 e.complete u.owned) (last_having 0 e.complete u.owned) ph) t) phase step)
+
+    by_entry : (o : Option Entry) → entry_of u.ckpt m.cluster.entries ≡ o → IsDone m s (update_on u m.cluster.moment o) t → CommitsBy m u t
+    by_entry None none looked = gone none (ap (λ (t : Told). t.end) looked)
+    by_entry (Some e) found step = by_active e found e.active refl step
 
 -- a commit leaves its call committing
 committed_phase : (d : StepDone) (u : UpdateState) (reply : StepReply) → u.phase ≡ Committing → ((commit_taken d u reply).phase ≡ Committing) × ((commit_taken d u reply).ckpt ≡ u.ckpt)
@@ -205,6 +210,7 @@ commits_still m s t d k verb done goes_on at =
     elim (commits_by m s at.update t at.driver_is at.phase done) [
       | commit is ↦ subst (λ x. IsCommittingAt k (driver_taken d x)) (sym at.driver_is) (taken_commit d at.update k (verb ∙ is) at.ckpt (inl at.phase))
       | gone none ends ↦ absurd (let w : None ≡ Some (Refused NotExist Plain) = sym goes_on ∙ ends in cc w)
+      | unled e found none ends ↦ absurd (let w : None ≡ Some (Refused NotExist Plain) = sym goes_on ∙ ends in cc w)
       | nothing_left ends ↦ absurd (let w : None ≡ Some (Done answers.Nothing) = sym goes_on ∙ ends in cc w)
     ]
 

@@ -30,7 +30,7 @@ use Rattle.cluster_record.specs.StepDone.{first_lacking, last_having}
 use Rattle.ckpt_machine.specs.Driving.{driver_next}
 use Rattle.cluster_record.specs.DueOpen.{accepts, create_next, entry_by, entry_next, on_named, reserve_or_finish, targets_of, on_making, by_making}
 use Rattle.ckpt_types.specs.declared.calls.OpenAsk.{OpenAsk}
-use Rattle.cluster_record.specs.DueUpdate.{commit_at, stage_at, by_phase, update_on}
+use Rattle.cluster_record.specs.DueUpdate.{commit_at, commit_first, stage_at, by_phase, update_led, update_on}
 use Rattle.cluster_record.specs.DueActive.{unless_changed, unless_on_hold, is_update, on_active, active_on, active_request, starts_iteration}
 use Rattle.cluster_record.specs.DueOnce.{OneStep, once_next, close_of, unlink_of_making, unlink_of, retain_of}
 use Rattle.cluster_record.specs.DueOnce as once
@@ -91,17 +91,25 @@ module _ (P : Next → Type 0) (ends : (o : Outcome) → P (End o)) (steps : (st
     of_commit None = ends _
     of_commit (Some r) = commits r
 
+    of_first : (last : Option ℕ) → P (commit_first u last)
+    of_first None = ends _
+    of_first (Some r) = commits r
+
     of_stage : (moment : ℤ) (first last : Option ℕ) → P (stage_at u moment first last)
     of_stage moment (Some r) last = stages r _
-    of_stage moment None last = of_commit last
+    of_stage moment None last = of_first last
 
     of_phase : (moment : ℤ) (first last : Option ℕ) (phase : UpdatePhase) → P (by_phase u moment first last phase)
     of_phase moment first last Staging = of_stage moment first last
     of_phase moment first last Committing = of_commit last
 
+    of_led : (moment : ℤ) (e : Entry) (active : Option ℕ) → P (update_led u moment e active)
+    of_led moment e None = ends _
+    of_led moment e (Some active) = of_phase moment (first_lacking 0 e.complete u.owned) (last_having 0 e.complete u.owned) u.phase
+
     of_update : (moment : ℤ) (e : Option Entry) → P (update_on u moment e)
     of_update moment None = ends _
-    of_update moment (Some e) = of_phase moment (first_lacking 0 e.complete u.owned) (last_having 0 e.complete u.owned) u.phase
+    of_update moment (Some e) = of_led moment e e.active
 
   -- ---- a call to the active
 

@@ -1,13 +1,13 @@
 -- What an update in hand knows of its checkpoint.
-use Rattle.std.proofs.Common.{◌≡◌, ◌≢◌, ℕ, Option, Some, None, true, false, refl, sym, ap, subst, ◌∙◌}
-use Rattle.std.specs.Prelude.{IfSome, slice_index}
+use Rattle.std.proofs.Common.{◌≡◌, ◌≢◌, ℕ, Option, Some, None, Bool, true, false, refl, sym, ap, subst, ◌∙◌}
+use Rattle.std.specs.Prelude.{IfSome, IsSome, slice_index}
 use Rattle.ckpt_types.specs.declared.identities.CallId.{CallId}
 use Rattle.cluster_record.specs.declared.entries.Entry.{Entry}
 use Rattle.cluster_record.specs.declared.calls.UpdatePhase.{UpdatePhase}
 use Rattle.cluster_record.specs.declared.calls.UpdatePhase.TheVariants.{Staging, Committing}
 use Rattle.cluster_record.specs.DueUpdate.{UpdateState}
 use Rattle.cluster_record.specs.Places.{put}
-use Rattle.cluster_record.specs.RecordState.{entry_of}
+use Rattle.cluster_record.specs.RecordState.{entry_of, first_complete}
 use Rattle.cluster_record.specs.StepDone.{has}
 use Rattle.ckpt_machine.specs.Drivers as drivers
 use Rattle.ckpt_machine.specs.Machine.{Machine, ReplicaState, CallState, who}
@@ -16,7 +16,7 @@ use Rattle.ckpt_machine.specs.Steps.{driver_of, seen, seen_at, seen_by}
 use Rattle.ckpt_machine.specs.Guards.{OnReplica, OnAll}
 use Rattle.ckpt_machine.specs.Options.{is_all}
 use Rattle.ckpt_machine.proofs.OnAll.{shaped_replicas}
-use Rattle.ckpt_machine.specs.Shape.{Shape, IsCompleteOn, IsShaped, is_owner, IsOwner, IsSpread, PhaseFits}
+use Rattle.ckpt_machine.specs.Shape.{Shape, IsActiveBy, IsCompleteOn, IsShaped, is_owner, IsOwner, IsSpread, PhaseFits}
 use Rattle.ckpt_machine.specs.InHand.{IsInPlace, IsUpdateIn}
 use Rattle.ckpt_machine.specs.Invariant.{IsGoodIn, InvariantIn, Invariant}
 use Rattle.ckpt_machine.proofs.Joining.{all_apart}
@@ -103,6 +103,15 @@ module _ (m : Machine) (shapes : ℕ → Shape) (inv : InvariantIn shapes m) (s 
     -- updates of its checkpoint are on all replicas
     pub all_is : is_all e.attributes ≡ true
     all_is = subst (λ o. IfSome o (λ e. is_all e.attributes ≡ true)) found at.all
+
+    -- so it has an active
+    pub is_led : IsSome e.active
+    is_led =
+        let lowest : e.active ≡ first_complete 0 e.complete = subst (λ (z : Bool × Bool). IsActiveBy z.0 z.1 e.complete e.active) (λ i. (all_apart e.attributes all_is i, all_is i)) (spread e found).active in
+        subst (λ (o : Option ℕ). IsSome o) (sym lowest) (spread e found).some
+
+    pub never_unled : e.active ≡ None → ⊥
+    never_unled none = let w : false ≡ true = subst (λ (o : Option ℕ). IsSome o) none is_led in cc w
 
     -- so no call holds it
     pub never_held : (d : CallId) → e.hold ≡ Some d → ⊥

@@ -28,7 +28,8 @@ use Rattle.ckpt_machine.proofs.Copying.{IsSource}
 use Rattle.ckpt_machine.proofs.EachReplica.{run_copies}
 use Rattle.ckpt_machine.proofs.OwnMaking.{making_there}
 use Rattle.ckpt_machine.proofs.Follows.{IsIncomplete, IsBare, Has}
-use Rattle.ckpt_machine.proofs.Histories.{HasHistory, commits_by, commit, gone, nothing_left, Commits, Applies, slot_owned, marks_owned, making_incomplete, follows, had, keeps_history, run_history}
+use Rattle.ckpt_machine.proofs.Owning.{never_unled}
+use Rattle.ckpt_machine.proofs.Histories.{HasHistory, commits_by, commit, gone, unled, nothing_left, Commits, Applies, slot_owned, marks_owned, making_incomplete, follows, had, keeps_history, run_history}
 use Rattle.ckpt_machine.proofs.Lawful.{lawful}
 use Rattle.ckpt_machine.proofs.EntryLists.{find_key-without, AllStay-filter, swept-all}
 use Rattle.ckpt_machine.proofs.Refusing.{at_node, commit_ends, left_none, none_begun, refusal_leaves}
@@ -98,6 +99,7 @@ module _ (m : Machine) (inv : Invariant m) (history : HasHistory m) (s : CallSta
         | gone none ends ↦ (
             let (e, found, there) = IsSomeAnd-at (entry_of k m.cluster.entries) (λ e. IsCompleteOn e r) (history.bare.complete k r has.replica has.there) in
             let w : None ≡ Some e = sym none ∙ ap (λ k. entry_of k m.cluster.entries) at.ckpt ∙ found in cc w)
+        | unled e found none ends ↦ absurd (never_unled m inv.shapes inv.holds s at.update held at.driver_is e found none)
         | nothing_left ends ↦ subst IsRefused ends refused
       ]
 

@@ -12,7 +12,7 @@ use Rattle.ckpt_types.specs.Updates.{Refusal, outcome}
 use Rattle.cluster_record.specs.declared.entries.Entry.{Entry}
 use Rattle.cluster_record.specs.declared.calls.UpdatePhase.{UpdatePhase}
 use Rattle.cluster_record.specs.declared.calls.UpdatePhase.TheVariants.{Staging, Committing}
-use Rattle.cluster_record.specs.DueUpdate.{UpdateState, kept_moment, done_if_none, by_phase, update_on, update_next, commit_end}
+use Rattle.cluster_record.specs.DueUpdate.{UpdateState, kept_moment, done_if_none, by_phase, update_led, update_on, update_next, commit_end}
 use Rattle.cluster_record.specs.Calls.{same_call}
 use Rattle.cluster_record.specs.Places.{put2}
 use Rattle.cluster_record.specs.RecordState.{entry_of, complete_of, is_live}
@@ -41,7 +41,7 @@ use Rattle.ckpt_machine.proofs.StepsLeft.{update_nearer}
 use Rattle.ckpt_machine.specs.Shape.{Shape, IsCompleteOn, IsShaped, is_owner, IsOwner, IsSpread, IsStaging, IsCommitting, PhaseFits, slot_by, sections_by, effects_by}
 use Rattle.ckpt_machine.proofs.NodeLists.{first_lacking-is, first_lacking-None, last_having-is, last_having-None, first_complete-some, not-lacked, lacked-has, had-there}
 use Rattle.ckpt_machine.proofs.ReplicaSteps.{KeepsOthers}
-use Rattle.ckpt_machine.proofs.Owning.{never_held, is_owner-here, owner_alone, at, spread, owner_of, own_phase, owns_had, replica_at, seen_is, on_all, ended_keeps, all_is}
+use Rattle.ckpt_machine.proofs.Owning.{never_held, never_unled, is_owner-here, owner_alone, at, spread, owner_of, own_phase, owns_had, replica_at, seen_is, on_all, ended_keeps, all_is}
 use Rattle.ckpt_machine.proofs.OnAll.{shaped_replicas, by_shape}
 use Rattle.ckpt_machine.proofs.StagedMoment.{none_owned, moment_first, moment_later}
 use Rattle.ckpt_machine.proofs.Stage.{Stages, IfSome-more, on_complete, sections-undone, stage_row, stage_leads}
@@ -387,8 +387,9 @@ module _ (m : Machine) (shapes : ℕ → Shape) (inv : InvariantIn shapes m) (s 
         let some : HasSome u e Committing = subst (HasSome u e) committing ((at m shapes inv s u held is).some e found) in
         absurd (let w : false ≡ true = sym (ap is_some having) ∙ some in cc w)
 
-    there_moves : (t : Told) → IsDone m s (update_on u m.cluster.moment (Some e)) t → Goes m s (drivers.Update u) t
-    there_moves t done = by_next u.phase refl (first_lacking 0 e.complete u.owned) last refl refl t done
+    there_moves : (active : Option ℕ) → e.active ≡ active → (t : Told) → IsDone m s (update_led u m.cluster.moment e active) t → Goes m s (drivers.Update u) t
+    there_moves None none t done = absurd (never_unled m shapes inv s u held is e found none)
+    there_moves (Some active) led t done = by_next u.phase refl (first_lacking 0 e.complete u.owned) last refl refl t done
 
   -- the next step of an update
   pub update_goes : (t : Told) → IsDone m s (update_next m.cluster u) t → Goes m s (drivers.Update u) t
@@ -396,4 +397,4 @@ module _ (m : Machine) (shapes : ℕ → Shape) (inv : InvariantIn shapes m) (s 
     where
       by_entry : (o : Option Entry) → entry_of u.ckpt m.cluster.entries ≡ o → IsDone m s (update_on u m.cluster.moment o) t → Goes m s (drivers.Update u) t
       by_entry None gone done = gone_moves t gone done
-      by_entry (Some e) found done = there_moves e found t done
+      by_entry (Some e) found done = there_moves e found e.active refl t done

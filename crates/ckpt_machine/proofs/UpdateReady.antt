@@ -6,7 +6,7 @@ use Rattle.ckpt_types.specs.declared.identities.CallId.{CallId}
 use Rattle.cluster_record.specs.declared.calls.UpdatePhase.{UpdatePhase}
 use Rattle.cluster_record.specs.declared.calls.UpdatePhase.TheVariants.{Staging, Committing}
 use Rattle.cluster_record.specs.declared.entries.Entry.{Entry}
-use Rattle.cluster_record.specs.DueUpdate.{UpdateState, update_on, update_next, by_phase, kept_moment}
+use Rattle.cluster_record.specs.DueUpdate.{UpdateState, update_led, update_on, update_next, by_phase, kept_moment}
 use Rattle.cluster_record.specs.RecordState.{entry_of}
 use Rattle.cluster_record.specs.StepDone.{has, lacks, first_lacking, last_having}
 use Rattle.node_msgs.specs.declared.next.Next.{Next}
@@ -118,6 +118,10 @@ module _ (m : Machine) (shapes : ℕ → Shape) (inv : InvariantIn shapes m) (s 
   pub update_ready : IsReadyNext m s (update_next m.cluster u)
   update_ready = by_entry (entry_of u.ckpt m.cluster.entries) refl
     where
+      by_active : (e : Entry) → entry_of u.ckpt m.cluster.entries ≡ Some e → (active : Option ℕ) → IsReadyNext m s (update_led u m.cluster.moment e active)
+      by_active e found None = tt
+      by_active e found (Some active) = by_next e found u.phase refl (first_lacking 0 e.complete u.owned) (last_having 0 e.complete u.owned) refl refl
+
       by_entry : (o : Option Entry) → entry_of u.ckpt m.cluster.entries ≡ o → IsReadyNext m s (update_on u m.cluster.moment o)
       by_entry None gone = tt
-      by_entry (Some e) found = by_next e found u.phase refl (first_lacking 0 e.complete u.owned) (last_having 0 e.complete u.owned) refl refl
+      by_entry (Some e) found = by_active e found e.active

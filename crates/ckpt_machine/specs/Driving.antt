@@ -1,12 +1,11 @@
 -- What a call does next, by its own steps and the record: the steps of each call, decision by decision.
 use Rattle.std.specs.Option.{option_map}
-use Rattle.std.specs.Prelude.{ℕ, ◌+◌, List, [], ◌∷◌, length, Option, Some, None, Bool, true, false, if◌then◌else◌, ℤ}
+use Rattle.std.specs.Prelude.{ℕ, ◌+◌, List, [], ◌∷◌, length, Option, Some, None, Bool, true, false, ℤ}
 use Rattle.moment_rules.specs.Times.{sum_until_end}
-use Rattle.ckpt_types.specs.declared.ais_error.AisError.TheVariants.{NotExist, TryAgain}
 use Rattle.ckpt_types.specs.declared.answers.Answer.{Answer}
 use Rattle.ckpt_types.specs.declared.answers.Answer.TheVariants as answers
 use Rattle.ckpt_types.specs.declared.answers.Cause.{Cause}
-use Rattle.ckpt_types.specs.declared.answers.Cause.TheVariants.{Plain, Index, Holder, Generations}
+use Rattle.ckpt_types.specs.declared.answers.Cause.TheVariants.{Plain, Index}
 use Rattle.ckpt_types.specs.declared.answers.Outcome.{Outcome}
 use Rattle.ckpt_types.specs.declared.answers.Outcome.TheVariants.{Done, Refused, NoMemory}
 use Rattle.ckpt_types.specs.declared.identities.CallId.{CallId}
@@ -42,6 +41,7 @@ use Rattle.cluster_record.specs.Opening.{open_answer}
 use Rattle.cluster_record.specs.DueOpen.{open_begun, open_next, open_taken, making_ckpt}
 use Rattle.cluster_record.specs.DueUpdate.{update_begun, update_next, update_taken, done_end_by}
 use Rattle.cluster_record.specs.DueActive.{active_begun, active_next, active_taken, active_end}
+use Rattle.cluster_record.specs.Ends.{refused_end}
 use Rattle.cluster_record.specs.DueOnce.{Enter, Leave, Close, Unlink, Retain, once_next}
 
 -- a refusal of a vector tells the index of its first refused element
@@ -49,6 +49,11 @@ abbrev pub refused_cause : Op → ℕ → Cause
 refused_cause (ops.Write place update) index = Index index
 refused_cause (ops.Read place elements) index = Index index
 refused_cause op index = Plain
+
+-- how a call of an operation ends where its driver, which knows no operation, ends so: the index of a vector is told alone
+abbrev pub index_told : Op → Outcome → Outcome
+index_told op (Refused error (Index index)) = Refused error (refused_cause op index)
+index_told op outcome = outcome
 
 -- by the record, and by what the client's own tables have a free place for
 abbrev pub driver_next : RecordState → Rooms → Driver → Next
@@ -82,12 +87,9 @@ older_end d x = None
 -- how a call of an operation ends by a node's reply; where nothing comes of it, the call goes on
 abbrev pub driver_end : Op → StepDone → Reply → Driver → Option Outcome
 driver_end op d (replies.Done answer) x = done_end d answer x
-driver_end op d (replies.Held by) x = if d.live then Some (Refused TryAgain (Holder by)) else None
-driver_end op d (replies.Refused error index) x = Some (Refused error (refused_cause op index))
-driver_end op d replies.NoReplica x = Some (Refused NotExist Plain)
 driver_end op d (replies.Older generation count) x = older_end d x
-driver_end op d (replies.Stale old present) x = Some (Refused TryAgain (Generations old present))
-driver_end op d _ x = None
+driver_end op d (replies.Refused error index) x = Some (Refused error (refused_cause op index))
+driver_end op d reply x = refused_end d.live reply
 
 -- the checkpoint of a step of the record, which was as R before it
 abbrev pub event_ckpt : RecordState → Driver → RecordStep → Option ℕ

@@ -44,20 +44,30 @@ abbrev pub commit_at : UpdateState → Option ℕ → Next
 commit_at u None = End (Done answers.Nothing)
 commit_at u (Some r) = Serve r (requests.Commit u.call u.ckpt)
 
+-- its first commit, where it lacks no node; where it has none either, it is refused with NOT_EXIST
+abbrev pub commit_first : UpdateState → Option ℕ → Next
+commit_first u None = End (Refused NotExist Plain)
+commit_first u (Some r) = commit_at u (Some r)
+
 -- it stages at the lowest complete node that it lacks, at the record's moment where it has staged nowhere
 abbrev pub stage_at : UpdateState → ℤ → Option ℕ → Option ℕ → Next
 stage_at u now (Some r) last = Serve r (requests.Stage u.call u.ckpt (kept_moment last now u.moment))
-stage_at u now None last = commit_at u last
+stage_at u now None last = commit_first u last
 
 -- first: the lowest complete node without a slot of the call; last: the highest with one
 abbrev pub by_phase : UpdateState → ℤ → Option ℕ → Option ℕ → UpdatePhase → Next
 by_phase u now first last Staging = stage_at u now first last
 by_phase u now first last Committing = commit_at u last
 
+-- what is next of an update on a checkpoint that is there; without an active replica it is refused with NOT_EXIST
+abbrev pub update_led : UpdateState → ℤ → Entry → Option ℕ → Next
+update_led u now e None = End (Refused NotExist Plain)
+update_led u now e (Some active) = by_phase u now (first_lacking 0 e.complete u.owned) (last_having 0 e.complete u.owned) u.phase
+
 -- what is next by the checkpoint's entry; a checkpoint that is gone is refused with NOT_EXIST
 abbrev pub update_on : UpdateState → ℤ → Option Entry → Next
 update_on u now None = End (Refused NotExist Plain)
-update_on u now (Some e) = by_phase u now (first_lacking 0 e.complete u.owned) (last_having 0 e.complete u.owned) u.phase
+update_on u now (Some e) = update_led u now e e.active
 
 -- what is next of an all-replicas update, by the record
 abbrev pub update_next : RecordState → UpdateState → Next

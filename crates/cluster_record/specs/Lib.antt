@@ -19,3 +19,4 @@ pub mod Refusals
 pub mod NamesOf
 pub mod Changes
 pub mod Opening
+pub mod Ends

@@ -23,7 +23,8 @@ pub fn first_lacking(nodes: &[u32; NODES_MAX], own: &[u32; NODES_MAX]) -> Option
 pub fn last_having(nodes: &[u32; NODES_MAX], own: &[u32; NODES_MAX], top: NodeId) -> Option<NodeId>
     requires top { top < nodes_max }
     requires none { HasNoneAbove top own.now }
-    ensures { result ≡ last_having 0 nodes.now own.now }
+    ensures value { result ≡ last_having 0 nodes.now own.now }
+    ensures within { IfSome result (λ r. r < nodes_max) }
 {
     for r in (0..top + 1).rev() {
         if has(nodes[r as usize], own[r as usize]) {

@@ -1,6 +1,7 @@
 //! What a call does whose deadline may be reached.
 ghost use Rattle.std.specs.Prelude.{◌≡◌};
 ghost use Rattle.cluster_record.specs.DueOpen.{in_time};
+ghost use Rattle.cluster_record.specs.Ends.{IsAtANode};
 
 use ckpt_types::{AisError, Cause, Moment, Outcome};
 use moment_rules::reached;
@@ -8,7 +9,8 @@ use node_msgs::Next;
 
 /// What is next where the deadline, if there is one, is not reached at the moment; where it is, TIMEOUT with both.
 pub fn in_time(deadline: Option<Moment>, moment: Moment, next: Next) -> Next
-    ensures { result ≡ in_time deadline moment next }
+    ensures next { result ≡ in_time deadline moment next }
+    ensures at { IsAtANode next → IsAtANode result }
 {
     match deadline {
         None => next,

@@ -1,14 +1,15 @@
 //! The driver of the calls to the active replica alone.
-ghost use Rattle.std.specs.Prelude.{◌≡◌, ℕ, IfOk, Some};
+ghost use Rattle.std.specs.Prelude.{◌≡◌, IfOk, Some, None};
 ghost use Rattle.node_msgs.specs.Requests.{ckpt_of};
 ghost use Rattle.node_msgs.specs.Steps.{verb_of};
-ghost use Rattle.cluster_record.specs.DueActive.{active_begun, on_active, active_next, active_request, starts_iteration, is_update, unless_on_hold, unless_changed, weak_request, elements_of_kind, element_taken, active_taken};
+ghost use Rattle.cluster_record.specs.DueActive.{active_begun, on_active, active_next, active_request, starts_iteration, is_update, unless_on_hold, unless_changed, weak_request, elements_of_kind, element_taken, active_taken, active_end};
+ghost use Rattle.cluster_record.specs.Ends.{active_outcome, active_told};
 ghost use Rattle.cluster_record.specs.RecordState.{entry_of};
 ghost use Rattle.cluster_record.specs.StepDone.{done_of, generation_in};
 
-use ckpt_types::{AisError, CallId, Cause, CkptId, ITERATIONS_MAX, NodeId, Outcome};
-use cluster_record::{ActiveKind, MarksMade, Record};
-use node_msgs::{Next, Request, StepReply};
+use ckpt_types::{AisError, Answer, CallId, Cause, CkptId, ITERATIONS_MAX, NodeId, Outcome};
+use cluster_record::{ActiveKind, MarksMade, Record, refused_end};
+use node_msgs::{Next, Reply, Request, StepReply};
 use std::alloc::{AllocError, Global};
 use std::marker::Model;
 
@@ -149,10 +150,25 @@ impl ActiveCall {
         }
     }
 
-    /// It takes a node's answer: where its marks are made, it keeps them, and of them one element less is left
-    /// behind each that is done.
-    pub fn take(&mut self, cluster: &Record, request: &Request, word: StepReply)
-        ensures { (r : ℕ) → self.new ≡ active_taken (done_of cluster.now (verb_of request.now) (Some (ckpt_of request.now)) (Some r) word) self.old }
+    /// It takes the active's reply to what it asks for: where its marks are made, it keeps them, and of them one
+    /// element less is left behind each that is done. How that ends it, if it does.
+    #[inline(always)]
+    pub fn take(&mut self, cluster: &Record, reply: &Reply) -> Option<Outcome>
+        ensures new { self.new ≡ active_told cluster.now reply.now self.old }
+        ensures outcome { result ≡ active_outcome cluster.now reply.now self.old }
+    {
+        let request = self.request();
+        self.keep(cluster, &request, reply.word());
+        match reply {
+            Reply::Done(answer) => end_of_done(&request, *answer),
+            _ => refused_end(cluster, reply),
+        }
+    }
+
+    // It keeps what a request has done that is told by this word.
+    #[inline(always)]
+    fn keep(&mut self, cluster: &Record, request: &Request, word: StepReply)
+        ensures { self.new ≡ active_taken (done_of cluster.now (verb_of request.now) (Some (ckpt_of request.now)) None word) self.old }
     {
         let StepReply::Ok = word else {
             return;
@@ -176,6 +192,17 @@ impl ActiveCall {
             ActiveKind::Weak(elements) => elements,
             _ => 0,
         }
+    }
+}
+
+// How it ends by a reply that was done: a weak write goes on behind its marks and its elements.
+#[inline(always)]
+fn end_of_done(request: &Request, answer: Answer) -> Option<Outcome>
+    ensures { result ≡ active_end answer (verb_of request.now) }
+{
+    match request {
+        Request::Mark(_, _) | Request::Element(_, _) => None,
+        _ => Some(Outcome::Done(answer)),
     }
 }
 

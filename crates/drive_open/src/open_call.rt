@@ -5,15 +5,18 @@ ghost use Rattle.cluster_record.specs.RecordState.{named};
 ghost use Rattle.node_msgs.specs.Requests.{ckpt_of};
 ghost use Rattle.node_msgs.specs.Steps.{verb_of, event_verb};
 ghost use Rattle.cluster_record.specs.DueOpen.{open_begun, making_ckpt, in_time, create_next, entry_next, on_free_name, on_named, on_making, made_of, create_taken, open_next, open_taken};
+ghost use Rattle.cluster_record.specs.Ends.{IsAtANode, made_in, making_step_end, named_outcome, named_told, open_outcome, open_told, opened_in};
 ghost use Rattle.cluster_record.specs.Opening.{open_answer};
 ghost use Rattle.cluster_record.specs.StepDone.{done_of};
 
 use ckpt_types::{
-    AisError, Bytes, CHECKPOINTS_MAX, CallId, Cause, CkptId, CreationAttributes, HANDLES_MAX,
-    Moment, NODES_MAX, NodeId, OpenAsk, Outcome, SharedAttributes, SharedName,
+    AisError, Answer, Bytes, CHECKPOINTS_MAX, CallId, Cause, CkptId, CreationAttributes,
+    HANDLES_MAX, Moment, NODES_MAX, NodeId, OpenAsk, Outcome, SharedAttributes, SharedName,
 };
-use cluster_record::{Entry, Making, OpenAnswer, Record, accepts, first_lacking, in_time};
-use node_msgs::{Next, RecordStep, Request, StepReply};
+use cluster_record::{
+    Entry, Making, OpenAnswer, Record, accepts, first_lacking, in_time, is_own, refused_end,
+};
+use node_msgs::{Next, RecordStep, Reply, Request, StepReply};
 use std::alloc::{AllocError, Global};
 use std::marker::Model;
 
@@ -175,7 +178,8 @@ impl OpenCall {
 
     // The next step of a making before its deadline.
     fn making_next(&self, making: &Making, cluster: &Record) -> Next
-        ensures { result ≡ on_making cluster.now self.now.ask making.now }
+        ensures next { result ≡ on_making cluster.now self.now.ask making.now }
+        ensures at { IsAtANode result }
     {
         if making.refused {
             return Next::Event(RecordStep::Undo);
@@ -199,8 +203,57 @@ impl OpenCall {
         }
     }
 
-    /// It takes a node's answer.
-    pub fn take(&mut self, cluster: &Record, r: NodeId, request: &Request, word: StepReply)
+    /// It takes a reply: of a node to what is next, or of the record to a step, with the record behind that. How it
+    /// ends it, if it does; what the record alone decides ends it so.
+    pub fn take(&mut self, cluster: &Record, reply: &Reply) -> Option<Outcome>
+        ensures new { self.new ≡ open_told cluster.now reply.now self.old }
+        ensures outcome { result ≡ open_outcome cluster.now reply.now self.old }
+    {
+        let Some(making) = self.making else {
+            return self.take_named(cluster, reply);
+        };
+        match in_time(
+            self.deadline,
+            cluster.now(),
+            self.making_next(&making, cluster),
+        ) {
+            Next::Serve(r, request) => {
+                self.keep(cluster, r, &request, reply.word());
+                refused_end(cluster, reply)
+            }
+            Next::Event(step) => making_step_end(cluster, reply, &making, step),
+            Next::End(outcome) => Some(outcome),
+        }
+    }
+
+    // While it makes nothing: it keeps what it is making then, or has opened what has its name.
+    fn take_named(&mut self, cluster: &Record, reply: &Reply) -> Option<Outcome>
+        ensures new { self.new ≡ named_told cluster.now reply.now self.old }
+        ensures outcome { result ≡ named_outcome cluster.now reply.now self.old }
+    {
+        match reply {
+            Reply::Done(_) => self.take_done(cluster),
+            Reply::NoMemory => Some(Outcome::NoMemory),
+            _ => refused_end(cluster, reply),
+        }
+    }
+
+    // The record has made its checkpoint, or opened what has its name.
+    fn take_done(&mut self, cluster: &Record) -> Option<Outcome>
+        ensures new { self.new ≡ record self.old { making = made_in self.old.call (named self.old.ask.name cluster.now.entries) } }
+        ensures outcome { result ≡ opened_in self.old.call (named self.old.ask.name cluster.now.entries) }
+    {
+        self.making = None;
+        let entry = cluster.named(self.ask.name())?;
+        if !is_own(self.call, entry.making) {
+            return Some(Outcome::Done(Answer::Opened(entry.identity)));
+        }
+        self.making = made_of(Some(entry.identity));
+        None
+    }
+
+    // It keeps what a node has answered to a reservation.
+    fn keep(&mut self, cluster: &Record, r: NodeId, request: &Request, word: StepReply)
         requires { r < nodes_max }
         ensures { self.new ≡ open_taken (done_of cluster.now (verb_of request.now) (Some (ckpt_of request.now)) (Some r) word) self.old }
     {
@@ -234,6 +287,26 @@ impl OpenCall {
         if let (RecordStep::Create, StepReply::Ok) = (step, word) {
             self.making = made_of(ckpt);
         }
+    }
+}
+
+// How a making ends by what the record answers to its step: opened where it is finished, and with NO_MEMORY where it is
+// undone.
+fn making_step_end(
+    cluster: &Record,
+    reply: &Reply,
+    making: &Making,
+    step: RecordStep,
+) -> Option<Outcome>
+    ensures { result ≡ making_step_end cluster.now reply.now making.now step }
+{
+    let Reply::Done(_) = reply else {
+        return refused_end(cluster, reply);
+    };
+    match step {
+        RecordStep::Finish => Some(Outcome::Done(Answer::Opened(making.ckpt))),
+        RecordStep::Undo => Some(Outcome::NoMemory),
+        _ => None,
     }
 }
 

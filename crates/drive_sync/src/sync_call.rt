@@ -9,13 +9,14 @@ ghost use Rattle.node_msgs.specs.Requests.{ckpt_of};
 ghost use Rattle.node_msgs.specs.Steps.{verb_of};
 ghost use Rattle.cluster_record.specs.DueSync.{first_unserved, is_unserved, kind_next, lead_next, sync_begun, sync_ended, sync_next, sync_taken, unless_held, unless_stale};
 ghost use Rattle.cluster_record.specs.RecordState.{complete_of, entry_of};
-ghost use Rattle.cluster_record.specs.StepDone.{counting, done_of, generation_in};
+ghost use Rattle.cluster_record.specs.Ends.{IsAtANode, hold_in, served_done, setting_end, sync_end, sync_outcome, sync_told};
+ghost use Rattle.cluster_record.specs.StepDone.{count_told, counting, done_of, generation_in};
 
 use ckpt_types::{
     AisError, Answer, CallId, Cause, CkptId, Incarnation, NODES_MAX, NodeId, Outcome,
 };
-use cluster_record::{Entry, PulledAt, Record, SyncKind, in_time};
-use node_msgs::{Next, RecordStep, Request, StepReply};
+use cluster_record::{Entry, PulledAt, Record, SyncKind, in_time, is_own, refused_end};
+use node_msgs::{Next, RecordStep, Reply, Request, StepReply};
 use std::alloc::{AllocError, Global};
 use std::marker::Model;
 
@@ -77,7 +78,8 @@ impl SyncCall {
 
     /// What it does next.
     pub fn next(&self, cluster: &Record) -> Next
-        ensures { result ≡ sync_next cluster.now self.now }
+        ensures next { result ≡ sync_next cluster.now self.now }
+        ensures at { IsAtANode result }
     {
         match cluster.entry(self.ckpt) {
             None => not_exist(),
@@ -86,7 +88,9 @@ impl SyncCall {
     }
 
     fn kind_next(&self, cluster: &Record, entry: &Entry) -> Next
-        ensures { result ≡ kind_next cluster.now self.now entry.now self.now.kind }
+        requires active { IfSome entry.now.active (λ r. r < nodes_max) }
+        ensures next { result ≡ kind_next cluster.now self.now entry.now self.now.kind }
+        ensures at { IsAtANode result }
     {
         match self.kind {
             SyncKind::Synchronize(deadline) => {
@@ -101,7 +105,9 @@ impl SyncCall {
 
     // The active is pulled first, and then what it had is installed at one node after the other.
     fn unless_stale(&self, entry: &Entry, r: NodeId) -> Next
-        ensures { result ≡ unless_stale self.now entry.now r self.now.pulled }
+        requires { r < nodes_max }
+        ensures next { result ≡ unless_stale self.now entry.now r self.now.pulled }
+        ensures at { IsAtANode result }
     {
         let Some(pulled) = self.pulled else {
             return Next::Serve(r, Request::Pull(self.call, self.ckpt));
@@ -118,7 +124,8 @@ impl SyncCall {
 
     // The hold of another call has it try again; behind its own it sets the active.
     fn unless_held(&self, local: NodeId, active: Option<NodeId>, hold: Option<CallId>) -> Next
-        ensures { result ≡ unless_held self.now.call local active hold }
+        ensures next { result ≡ unless_held self.now.call local active hold }
+        ensures at { IsAtANode result }
     {
         let Some(holder) = hold else {
             return lead_next(local, active);
@@ -129,16 +136,44 @@ impl SyncCall {
         Next::Event(RecordStep::Activate(local))
     }
 
-    /// It takes a node's answer, which told this count where it was pulled: it keeps what it has pulled, and which
-    /// nodes are served.
-    pub fn take(
+    /// It takes a reply: of a node to what is next, and it keeps what it has pulled, and which nodes are served; or of
+    /// the record to a step, with the record behind that. How it ends it, if it does; what the record alone decides
+    /// ends it so.
+    pub fn take(&mut self, cluster: &Record, reply: &Reply) -> Option<Outcome>
+        ensures new { self.new ≡ sync_told cluster.now reply.now self.old }
+        ensures outcome { result ≡ sync_outcome cluster.now reply.now self.old }
+    {
+        match self.next(cluster) {
+            Next::Serve(r, request) => self.take_served(cluster, r, &request, reply),
+            Next::Event(_) => self.setting_end(cluster, reply),
+            Next::End(outcome) => Some(outcome),
+        }
+    }
+
+    // It takes what a node has answered to a request.
+    fn take_served(
         &mut self,
         cluster: &Record,
         r: NodeId,
         request: &Request,
-        word: StepReply,
-        count: u64,
-    )
+        reply: &Reply,
+    ) -> Option<Outcome>
+        requires { r < nodes_max }
+        ensures new { self.new ≡ sync_taken (served_done cluster.now request.now r reply.now) self.old }
+        ensures end { result ≡ sync_end (served_done cluster.now request.now r reply.now) reply.now self.new }
+    {
+        self.keep(cluster, r, request, reply.word(), count_told(reply));
+        match reply {
+            Reply::Done(_) | Reply::Older(_, _) => self.end(cluster, request),
+            Reply::Held(_) | Reply::Refused(_, _) | Reply::NoReplica | Reply::Stale(_, _) => {
+                refused_end(cluster, reply)
+            }
+            Reply::Claimed(_) | Reply::Free(_) | Reply::NoMemory => None,
+        }
+    }
+
+    // It keeps what a request has done that is told by this word, with this count where it was pulled.
+    fn keep(&mut self, cluster: &Record, r: NodeId, request: &Request, word: StepReply, count: u64)
         requires { r < nodes_max }
         ensures { self.new ≡ sync_taken (counting count (done_of cluster.now (verb_of request.now) (Some (ckpt_of request.now)) (Some r) word)) self.old }
     {
@@ -155,9 +190,9 @@ impl SyncCall {
         }
     }
 
-    /// How it ends behind a node's answer to a request about its checkpoint: with the count that was pulled, where no
-    /// node is left.
-    pub fn end(&self, cluster: &Record, request: &Request) -> Option<Outcome>
+    // How it ends behind a node's answer to a request about its checkpoint: with the count that was pulled, where no
+    // node is left.
+    fn end(&self, cluster: &Record, request: &Request) -> Option<Outcome>
         ensures { result ≡ sync_ended (complete_of (entry_of (ckpt_of request.now) cluster.now.entries)) self.now.served self.now.pulled }
     {
         let pulled = self.pulled?;
@@ -166,10 +201,46 @@ impl SyncCall {
             Some(_) => None,
         }
     }
+
+    // How it ends by what the record answers to its step: where that is done, unless its own hold stands, behind which
+    // it goes on.
+    fn setting_end(&self, cluster: &Record, reply: &Reply) -> Option<Outcome>
+        ensures { result ≡ setting_end cluster.now reply.now self.now }
+    {
+        let Reply::Done(_) = reply else {
+            return refused_end(cluster, reply);
+        };
+        if is_own(self.call, hold_of(cluster, self.ckpt)) {
+            None
+        } else {
+            Some(Outcome::Done(Answer::Nothing))
+        }
+    }
+}
+
+// The count that a reply tells; 0 where it tells none.
+fn count_told(reply: &Reply) -> u64
+    ensures { result ≡ count_told reply.now }
+{
+    match reply {
+        Reply::Claimed(count) | Reply::Done(Answer::Pulled(count)) => *count,
+        _ => 0,
+    }
+}
+
+// The call that holds a checkpoint.
+fn hold_of(cluster: &Record, ckpt: CkptId) -> Option<CallId>
+    ensures { result ≡ hold_in (entry_of ckpt cluster.now.entries) }
+{
+    match cluster.entry(ckpt) {
+        None => None,
+        Some(entry) => entry.hold,
+    }
 }
 
 fn not_exist() -> Next
-    ensures { result ≡ End (Refused NotExist Plain) }
+    ensures next { result ≡ End (Refused NotExist Plain) }
+    ensures at { IsAtANode result }
 {
     Next::End(Outcome::Refused(AisError::NotExist, Cause::Plain))
 }
@@ -195,7 +266,8 @@ fn is_unserved(incarnation: Incarnation, served: bool) -> bool
 
 // A node that is the active's already, or where there is none, leads at once; else what the active has is held first.
 fn lead_next(local: NodeId, active: Option<NodeId>) -> Next
-    ensures { result ≡ lead_next local active }
+    ensures next { result ≡ lead_next local active }
+    ensures at { IsAtANode result }
 {
     match active {
         None => Next::Event(RecordStep::Activate(local)),

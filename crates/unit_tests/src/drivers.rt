@@ -1,12 +1,12 @@
 //! The drivers of calls where memory is there: a copy of one goes on where that is.
 use crate::cluster::{ATTRIBUTES, open_as};
-use ckpt_types::{ActorName, Bytes, CallId, NodeId, Shared};
+use ckpt_types::{ActorName, Answer, Bytes, CallId, NodeId, Shared};
 use cluster_record::{ActiveKind, Record, SyncKind};
 use drive_active::ActiveCall;
 use drive_open::{OpenCall, SharedAsk};
 use drive_sync::SyncCall;
 use drive_update::UpdateCall;
-use node_msgs::{Next, RecordStep, Request, StepReply, Verb};
+use node_msgs::{Next, RecordStep, Reply, StepReply, Verb};
 use std::alloc::{AllocError, Global};
 use std::process::Abort;
 use std::test::Fail;
@@ -36,7 +36,7 @@ fn update_goes_on(rt: &impl Abort, alloc: Global, seen: &Record) -> Result<(), A
 /// A weak write that has made its marks is to do an element, and so is a copy of it.
 fn weak_write_goes_on(rt: &impl Abort, alloc: Global, seen: &Record) -> Result<(), AllocError> {
     let mut call = ActiveCall::begin(FIRST, 1, ActiveKind::Weak(2));
-    call.take(seen, &Request::Mark(FIRST, 1), StepReply::Ok);
+    assert!(rt; call.take(seen, &Reply::Done(Answer::Nothing)).is_none());
     let copy = call.copy(alloc)?;
     assert!(rt; asks(copy.next(seen, true), 0, Verb::Element));
     Ok(())
@@ -49,7 +49,7 @@ fn synchronisation_goes_on(
     seen: &Record,
 ) -> Result<(), AllocError> {
     let mut call = SyncCall::begin(FIRST, 1, SyncKind::Synchronize(None));
-    call.take(seen, 0, &Request::Pull(FIRST, 1), StepReply::Ok, 4);
+    assert!(rt; call.take(seen, &Reply::Done(Answer::Pulled(4))).is_none());
     let copy = call.copy(alloc)?;
     assert!(rt; asks(copy.next(seen), 1, Verb::Install));
     Ok(())

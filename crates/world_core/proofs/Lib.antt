@@ -38,7 +38,6 @@ pub mod RecordSteps
 pub mod Recording
 pub mod RequestRows
 mod CopySteps
-mod Counted
 pub mod Reserve
 pub mod Rows
 pub mod Running
@@ -51,6 +50,7 @@ pub mod TableFields
 pub mod TablePlaces
 pub mod Taken
 pub mod TakenRoom
+pub mod Taking
 pub mod Told
 pub mod Waits
 pub mod WaitedFor

@@ -32,7 +32,8 @@ use Rattle.node_core.specs.Fitting.{IsReadyFor}
 use Rattle.world_core.specs.Nodes.{node_at, nodes_after, replica_in}
 use Rattle.world_core.specs.Holding.{HoldsOnlyWhatStands}
 use Rattle.world_core.specs.Lending.{IsValidFor, iteration_lent, tables_lending, tables_keeping}
-use Rattle.world_core.specs.HandSteps.{end_by, served_done}
+use Rattle.cluster_record.specs.Ends.{served_done}
+use Rattle.world_core.specs.HandSteps.{end_by}
 use Rattle.world_core.specs.Happenings.{rooms_at}
 use Rattle.world_core.specs.TableState.{kept_by}
 use Rattle.ckpt_machine.specs.Driving.{driver_next, driver_taken, driver_end}

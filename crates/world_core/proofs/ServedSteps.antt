@@ -1,6 +1,7 @@
 -- The step that a node serves, with the parts as the code names them.
 use Rattle.std.proofs.Common.{◌≡◌, ℕ, ◌<◌, List, length, refl, sym, ap, subst, ◌∙◌}
 use Rattle.std.specs.Prelude.{Option, Some, None}
+use Rattle.std.proofs.lemmas.Option.{same_Some}
 use Rattle.ckpt_types.specs.declared.answers.Answer.TheVariants as answers
 use Rattle.ckpt_types.specs.declared.answers.Outcome.{Outcome}
 use Rattle.ckpt_types.specs.declared.operation.Op.{Op}
@@ -29,14 +30,16 @@ use Rattle.node_core.specs.Nodes.{MayReply, replica_served}
 use Rattle.node_core.specs.Payloads.{Payload, payload_of}
 use Rattle.node_core.specs.Seen.{record_seen}
 use Rattle.node_core.specs.Serving.{details_at, iteration_behind, snapshot_behind}
+use Rattle.ckpt_machine.specs.Driving.{driver_next}
 use Rattle.ckpt_machine.specs.Steps.{ended_details}
 use Rattle.world_core.specs.declared.hands.InHand.{InHand}
 use Rattle.world_core.specs.declared.world.World.{World}
 use Rattle.world_core.specs.Alone.{ended_at}
 use Rattle.world_core.specs.Nodes.{node_at, nodes_after}
 use Rattle.world_core.specs.Lending.{IsLentBy, IsValidFor, CanKeep, hand_lending, iteration_lent, tables_lending, tables_keeping}
-use Rattle.world_core.specs.HandSteps.{hand_taken, hand_end, served_done}
-use Rattle.world_core.specs.Happenings.{IsNext, IsStep}
+use Rattle.cluster_record.specs.Ends.{served_done}
+use Rattle.world_core.specs.HandSteps.{AsksNode, hand_taken, hand_end}
+use Rattle.world_core.specs.Happenings.{IsNext, IsStep, rooms_at}
 use Rattle.world_core.specs.TableState.{TableState, kept_by}
 use Rattle.world_core.specs.Shows.{IsShown, HasNumbersLeft}
 use Rattle.world_core.proofs.Carrying.{lent_carries}
@@ -64,6 +67,21 @@ pub record ServedAs (w : World) (r : ℕ) (request : Request) (lent back : Lent)
   pub details : details_told reply back ≡ details_at request (payload_of lent) (record_seen w.cluster (ckpt_of request) r) (replica_served (record_seen w.cluster (ckpt_of request) r) (node_at w.nodes r) (ckpt_of request))
   pub iteration : back.iteration ≡ iteration_behind request (record_seen w.cluster (ckpt_of request) r) (replica_served (record_seen w.cluster (ckpt_of request) r) (node_at w.nodes r) (ckpt_of request)) lent.iteration
   pub snapshot : back.snap ≡ snapshot_behind request (replica_served (record_seen w.cluster (ckpt_of request) r) (node_at w.nodes r) (ckpt_of request)) lent.snap
+
+-- what is next for the call in hand is asked of a node
+pub asks_of : (w : World) (v : Who) (r : ℕ) (request : Request) (hand : InHand) → hand_at w.hands v ≡ Some hand → IsNext w v (Serve r request) → AsksNode w.cluster hand.driver r request
+asks_of w v r request hand held next = record {
+  rooms = rooms_at w (client_by v);
+  next_is = ap (λ (h : InHand). driver_next w.cluster (rooms_at w (client_by v)) h.driver) (same_Some hand next.hand (sym held ∙ next.held)) ∙ next.next_is;
+}
+
+lent_driver : (request : Request) (hand : InHand) → (hand_lending request hand).driver ≡ hand.driver
+lent_driver (requests.Iterate call k choice) hand = refl
+lent_driver request hand = refl
+
+-- also while its iteration is lent
+pub asks_lent : (w : World) (v : Who) (r : ℕ) (request : Request) (hand : InHand) → hand_at w.hands v ≡ Some hand → IsNext w v (Serve r request) → (hand1 : InHand) → hand1 ≡ hand_lending request hand → AsksNode w.cluster hand1.driver r request
+asks_lent w v r request hand held next hand1 is = subst (λ x. AsksNode w.cluster x r request) (sym (ap (λ (h : InHand). h.driver) is ∙ lent_driver request hand)) (asks_of w v r request hand held next)
 
 -- the copy is in a hand that lends its iteration as in one that does not
 lent_copy : (request : Request) (hand : InHand) (copy : Option Snapshot) → with_copy (hand_lending request hand) copy ≡ hand_lending request (with_copy hand copy)

@@ -46,10 +46,11 @@ use Rattle.world_core.specs.declared.world.World.{World}
 use Rattle.world_core.specs.Nodes.{node_at, nodes_after, replica_in, with_changed}
 use Rattle.world_core.specs.Lending.{IsValidFor, tables_lending, tables_keeping}
 use Rattle.world_core.specs.Happenings.{IsNext, IsStep}
-use Rattle.world_core.specs.HandSteps.{hand_taken, hand_end, end_by, served_done}
+use Rattle.cluster_record.specs.Ends.{ended_unless, served_done}
+use Rattle.world_core.specs.HandSteps.{hand_taken, hand_end, end_by}
 use Rattle.world_core.specs.Shows.{IsShown, HasNumbersLeft}
 use Rattle.world_core.specs.TableState.{kept_by}
-use Rattle.world_core.specs.UpdateSteps.{IsUpdate, is_creation, ended_unless}
+use Rattle.world_core.specs.UpdateSteps.{IsUpdate, is_creation}
 use Rattle.world_core.proofs.Carrying.{GoesToReplica, Carries, payload_with}
 use Rattle.world_core.proofs.Serve.{its_copy, its_end, its_details, its_iteration, served_world}
 use Rattle.world_core.proofs.Held.{with_copy}

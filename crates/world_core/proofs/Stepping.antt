@@ -38,7 +38,8 @@ use Rattle.ckpt_machine.specs.Machine.{Machine, CallState}
 use Rattle.ckpt_machine.specs.Steps.{due, driver_of, ended_details}
 use Rattle.world_core.specs.Nodes.{node_at, nodes_after, replica_in, with_changed}
 use Rattle.world_core.specs.Lending.{IsLentBy, IsValidFor, CanLend, CanKeep, tables_lending}
-use Rattle.world_core.specs.HandSteps.{hand_taken, served_done}
+use Rattle.cluster_record.specs.Ends.{served_done}
+use Rattle.world_core.specs.HandSteps.{hand_taken}
 use Rattle.world_core.specs.TableState.{kept_by}
 use Rattle.world_core.specs.Shows.{Does, IsShown, HasNumbersLeft, History, HistoryFits, machine_of}
 use Rattle.world_core.specs.Happenings.{rooms_at, IsNext, IsStep}

@@ -1,16 +1,15 @@
 //! What drives a call: what it does next, and how it ends.
 ghost use Rattle.cluster_record.specs.Makings.{makings_of};
 ghost use Rattle.std.specs.Prelude.{◌≡◌, ℕ, ◌-◌, ◌^◌, ◌<◌, Some, IfOk, IsSome};
+ghost use Rattle.std.specs.Option.{option_map};
 ghost use Rattle.ckpt_types.specs.Limits.{client_numbers, nodes_max};
-ghost use Rattle.node_msgs.specs.Requests.{ckpt_of};
-ghost use Rattle.node_msgs.specs.Steps.{verb_of, word_of, event_verb};
-ghost use Rattle.ckpt_machine.specs.Driving.{driver_next, driver_taken, driver_end, driver_start, on_kept, kind_of_change, change_start, active_start, sync_start, done_end, event_ckpt, event_node, event_end, making_in, opened_end, takes_memory, refused_cause};
-ghost use Rattle.cluster_record.specs.StepDone.{done_of, names_live, count_told};
-ghost use Rattle.cluster_record.specs.DueSync.{sync_taken};
+ghost use Rattle.node_msgs.specs.declared.requests.Request.{Request};
+ghost use Rattle.node_msgs.specs.Steps.{event_verb};
+ghost use Rattle.ckpt_machine.specs.Driving.{driver_next, driver_taken, driver_end, driver_start, on_kept, kind_of_change, change_start, active_start, sync_start, done_end, event_ckpt, event_node, event_end, making_in, opened_end, takes_memory, refused_cause, index_told};
+ghost use Rattle.cluster_record.specs.StepDone.{done_of};
+ghost use Rattle.cluster_record.specs.Ends.{ended_unless, served_done};
+ghost use Rattle.world_core.specs.HandSteps.{AsksNode};
 ghost use Rattle.world_core.specs.Leading.{synchronized_by};
-ghost use Rattle.world_core.specs.HandSteps.{served_done};
-ghost use Rattle.cluster_record.specs.DueActive.{active_taken, active_end};
-ghost use Rattle.cluster_record.specs.DueUpdate.{update_taken};
 ghost use Rattle.cluster_record.specs.Calls.{client_of};
 ghost use Rattle.cluster_record.specs.RecordState.{home_of};
 ghost use Rattle.ckpt_types.specs.Asks.{asked};
@@ -21,11 +20,10 @@ ghost use Rattle.world_core.specs.CallStates.{driver_in, step_in};
 ghost use Rattle.node_msgs.specs.declared.steps.StepReply.TheVariants as words;
 ghost use Rattle.node_msgs.specs.declared.steps.Verb.TheVariants as verbs;
 ghost use Rattle.ckpt_types.specs.declared.answers.Answer.TheVariants as answers;
-ghost use Rattle.world_core.specs.UpdateSteps.{IsUpdate, end_of_refused, ended_unless};
+ghost use Rattle.world_core.specs.UpdateSteps.{IsUpdate};
 ghost use Rattle.world_core.specs.RecordReady.{IsGrantedAt, granted_in};
 ghost use Rattle.world_core.specs.TableState.{kept_by};
 ghost use Rattle.ckpt_machine.specs.Drivers.{Once};
-ghost use Rattle.ckpt_machine.specs.Drivers as kinds;
 ghost use Rattle.cluster_record.specs.DueOnce.{Close, Retain};
 
 use crate::beginning::{choice_of, ckpt_of_handle};
@@ -42,7 +40,7 @@ use drive_active::ActiveCall;
 use drive_open::{OpenCall, SharedAsk};
 use drive_sync::SyncCall;
 use drive_update::UpdateCall;
-use node_msgs::{Next, RecordStep, Reply, Request, StepReply};
+use node_msgs::{Next, RecordStep, Reply, StepReply};
 use std::alloc::AllocError;
 use std::marker::Model;
 
@@ -187,29 +185,21 @@ impl Driver {
         }
     }
 
-    /// The call takes a node's answer. What its operation ends with, if it ends.
-    pub fn take(
-        &mut self,
-        op: &Op,
-        cluster: &Record,
-        r: NodeId,
-        request: &Request,
-        reply: &Reply,
-    ) -> Option<Outcome>
-        requires { r < nodes_max }
-        ensures new { self.new ≡ driver_taken (served_done cluster.now request.now r reply.now) self.old }
-        ensures end { result ≡ driver_end op.now (served_done cluster.now request.now r reply.now) reply.now self.new }
+    /// The call takes a node's reply to what is next. What its operation ends with, if it ends.
+    #[inline(always)]
+    pub fn take(&mut self, op: &Op, cluster: &Record, reply: &Reply) -> Option<Outcome>
+        ensures new { (r : ℕ) (request : Request) → AsksNode cluster.now self.old r request → self.new ≡ driver_taken (served_done cluster.now request r reply.now) self.old }
+        ensures end { (r : ℕ) (request : Request) → AsksNode cluster.now self.old r request → result ≡ driver_end op.now (served_done cluster.now request r reply.now) reply.now self.new }
     {
-        match &mut self.kind {
-            DriverKind::Update(update) => take_update(update, op, cluster, r, request, reply),
-            DriverKind::Active(active) => take_active(active, op, cluster, request, reply),
-            DriverKind::Sync(sync) => take_sync(sync, op, cluster, r, request, reply),
-            DriverKind::Open(open_call) => {
-                open_call.take(cluster, r, request, reply.word());
-                end_of_refused(op, cluster, reply)
-            }
-            DriverKind::Once(_) => end_of_refused(op, cluster, reply),
-        }
+        let outcome = match &mut self.kind {
+            DriverKind::Update(update) => update.take(cluster, reply),
+            DriverKind::Active(active) => active.take(cluster, reply),
+            DriverKind::Sync(sync) => sync.take(cluster, reply),
+            DriverKind::Open(open_call) => open_call.take(cluster, reply),
+            // No node is asked by a call of one step.
+            DriverKind::Once(_) => None,
+        };
+        index_told(op, outcome)
     }
 
     /// The update takes that a node has staged it.
@@ -273,114 +263,6 @@ fn open_ask(
     })
 }
 
-// An update takes a node's answer. What its operation ends with, if it ends.
-fn take_update(
-    update: &mut UpdateCall,
-    op: &Op,
-    cluster: &Record,
-    r: NodeId,
-    request: &Request,
-    reply: &Reply,
-) -> Option<Outcome>
-    requires { r < nodes_max }
-    ensures new { update.new ≡ update_taken (served_done cluster.now request.now r reply.now) update.old }
-    ensures end { result ≡ driver_end op.now (served_done cluster.now request.now r reply.now) reply.now (kinds.Update update.new) }
-{
-    match reply {
-        Reply::Done(answer) => update.take(cluster, r, request, *answer),
-        // Its word is that of a reply that was done, and nothing comes of it.
-        Reply::Claimed(_) => {
-            update.take(cluster, r, request, Answer::Nothing);
-            None
-        }
-        _ => end_of_refused(op, cluster, reply),
-    }
-}
-
-// A call to the active takes a node's answer. What its operation ends with, if it ends.
-fn take_active(
-    active: &mut ActiveCall,
-    op: &Op,
-    cluster: &Record,
-    request: &Request,
-    reply: &Reply,
-) -> Option<Outcome>
-    ensures new { (r : ℕ) → active.new ≡ active_taken (served_done cluster.now request.now r reply.now) active.old }
-    ensures end { (r : ℕ) → result ≡ driver_end op.now (served_done cluster.now request.now r reply.now) reply.now (kinds.Active active.new) }
-{
-    active.take(cluster, request, reply.word());
-    match reply {
-        Reply::Done(answer) => end_of_done(request, *answer),
-        _ => end_of_refused(op, cluster, reply),
-    }
-}
-
-// A call that brings what the active has to other replicas takes a node's answer. What its operation ends with, if it
-// ends.
-fn take_sync(
-    sync: &mut SyncCall,
-    op: &Op,
-    cluster: &Record,
-    r: NodeId,
-    request: &Request,
-    reply: &Reply,
-) -> Option<Outcome>
-    requires { r < nodes_max }
-    ensures new { sync.new ≡ sync_taken (served_done cluster.now request.now r reply.now) sync.old }
-    ensures end { result ≡ driver_end op.now (served_done cluster.now request.now r reply.now) reply.now (kinds.Sync sync.new) }
-{
-    sync.take(cluster, r, request, reply.word(), count_told(reply));
-    match reply {
-        Reply::Done(_) | Reply::Older(_, _) => sync.end(cluster, request),
-        Reply::Held(_) | Reply::Refused(_, _) | Reply::NoReplica | Reply::Stale(_, _) => {
-            end_of_refused(op, cluster, reply)
-        }
-        Reply::Claimed(_) | Reply::Free(_) | Reply::NoMemory => None,
-    }
-}
-
-// The count that a reply tells; 0 where it tells none.
-fn count_told(reply: &Reply) -> u64
-    ensures { result ≡ count_told reply.now }
-{
-    match reply {
-        Reply::Claimed(count) | Reply::Done(Answer::Pulled(count)) => *count,
-        _ => 0,
-    }
-}
-
-// How a call to the active ends by a reply that was done: a weak write goes on behind its marks and its elements.
-fn end_of_done(request: &Request, answer: Answer) -> Option<Outcome>
-    ensures { result ≡ active_end answer (verb_of request.now) }
-{
-    match request {
-        Request::Mark(_, _) | Request::Element(_, _) => None,
-        _ => Some(Outcome::Done(answer)),
-    }
-}
-
-// How a call ends by a reply that was not done.
-fn end_of_refused(op: &Op, cluster: &Record, reply: &Reply) -> Option<Outcome>
-    ensures { result ≡ end_of_refused op.now (names_live cluster.now (word_of reply.now)) reply.now }
-{
-    match reply {
-        Reply::Held(by) => {
-            if cluster.live(*by) {
-                Some(Outcome::Refused(AisError::TryAgain, Cause::Holder(*by)))
-            } else {
-                None
-            }
-        }
-        Reply::Refused(error, index) => Some(Outcome::Refused(*error, refused_cause(op, *index))),
-        Reply::NoReplica => Some(Outcome::Refused(AisError::NotExist, Cause::Plain)),
-        Reply::Stale(old, present) => {
-            let generations = Cause::Generations(*old, *present);
-            Some(Outcome::Refused(AisError::TryAgain, generations))
-        }
-        _ => None,
-    }
-}
-
 // The node of a client; 0 where it is not live, and then its open ends at once.
 fn node_of(cluster: &Record, client: u8) -> NodeId
     ensures { result ≡ home_of client cluster.now }
@@ -388,6 +270,19 @@ fn node_of(cluster: &Record, client: u8) -> NodeId
     match cluster.node_of(client) {
         None => 0,
         Some(node) => node,
+    }
+}
+
+// A refusal of a vector tells the index of its first refused element, and any other tells none.
+#[inline(always)]
+fn index_told(op: &Op, outcome: Option<Outcome>) -> Option<Outcome>
+    ensures { result ≡ option_map (index_told op.now) outcome }
+{
+    match outcome {
+        Some(Outcome::Refused(error, Cause::Index(index))) => {
+            Some(Outcome::Refused(error, refused_cause(op, index)))
+        }
+        _ => outcome,
     }
 }
 

@@ -1,5 +1,5 @@
 //! The calls in hand.
-ghost use Rattle.std.specs.Prelude.{◌≡◌, ◌<◌, length, replicate, Some, None, is_some, [], IfNone, IfOk, IfSome, OnOk, OnErr, slice_get, IsSome, IsSomeAnd, MatchOption};
+ghost use Rattle.std.specs.Prelude.{◌≡◌, ℕ, ◌<◌, length, replicate, Some, None, is_some, [], IfNone, IfOk, IfSome, OnOk, OnErr, slice_get, IsSome, IsSomeAnd, MatchOption};
 ghost use Rattle.std.specs.Borrow.{sem};
 ghost use Rattle.std.specs.Option.{option_and_then, option_map};
 ghost use Rattle.ckpt_types.specs.OpWord.{word_of_op};
@@ -7,12 +7,14 @@ ghost use Rattle.ckpt_types.specs.declared.answers.Answer.TheVariants as answers
 ghost use Rattle.node_msgs.specs.declared.replies.Reply.TheVariants as replies;
 ghost use Rattle.node_msgs.specs.declared.steps.StepReply.TheVariants as words;
 ghost use Rattle.node_msgs.specs.declared.steps.Verb.TheVariants as verbs;
-ghost use Rattle.world_core.specs.UpdateSteps.{IsUpdate, ended_unless};
+ghost use Rattle.world_core.specs.UpdateSteps.{IsUpdate};
+ghost use Rattle.cluster_record.specs.Ends.{ended_unless, served_done};
+ghost use Rattle.node_msgs.specs.declared.requests.Request.{Request};
 ghost use Rattle.ckpt_types.specs.Limits.{client_numbers, nodes_max};
 ghost use Rattle.node_msgs.specs.Steps.{event_verb};
 ghost use Rattle.cluster_record.specs.Calls.{left};
 ghost use Rattle.cluster_record.specs.StepDone.{done_of};
-ghost use Rattle.world_core.specs.HandSteps.{hand_taken, hand_end, served_done};
+ghost use Rattle.world_core.specs.HandSteps.{AsksNode, hand_taken, hand_end};
 ghost use Rattle.replica.specs.Replicas.{pull_result, pulled_unless};
 ghost use Rattle.weak_marks.specs.Marks.{call_of};
 ghost use Rattle.world_core.specs.HandLending.{LendsHand};
@@ -34,7 +36,7 @@ use ckpt_types::{
     ActorName, AsyncKind, CLIENT_NUMBERS, CallId, CkptId, Held, NodeId, Op, Outcome, Who,
 };
 use cluster_record::{Record, number_of};
-use node_msgs::{RecordStep, Reply, Request, StepReply};
+use node_msgs::{RecordStep, Reply, StepReply};
 use run_labels::OpWord;
 use section_iter::Iteration;
 use snap_copy::Snap;
@@ -85,19 +87,13 @@ impl InHand {
         OpWord::of(&self.op)
     }
 
-    /// It takes a node's answer. What it ends with, if it ends.
-    pub fn take(
-        &mut self,
-        cluster: &Record,
-        r: NodeId,
-        request: &Request,
-        reply: &Reply,
-    ) -> Option<Outcome>
-        requires { r < nodes_max }
-        ensures new { self.new ≡ hand_taken (served_done cluster.now request.now r reply.now) self.old }
-        ensures end { result ≡ hand_end (served_done cluster.now request.now r reply.now) reply.now self.new }
+    /// It takes a node's reply to what is next. What it ends with, if it ends.
+    #[inline(always)]
+    pub fn take(&mut self, cluster: &Record, reply: &Reply) -> Option<Outcome>
+        ensures new { (r : ℕ) (request : Request) → AsksNode cluster.now self.old.driver r request → self.new ≡ hand_taken (served_done cluster.now request r reply.now) self.old }
+        ensures end { (r : ℕ) (request : Request) → AsksNode cluster.now self.old.driver r request → result ≡ hand_end (served_done cluster.now request r reply.now) reply.now self.new }
     {
-        self.driver.take(&self.op, cluster, r, request, reply)
+        self.driver.take(&self.op, cluster, reply)
     }
 
     /// The update takes that a node has staged it.

@@ -165,7 +165,7 @@ impl World {
             lent.iteration.take(),
         );
         hand_over(&mut lent.snap, &mut hand.snapshot);
-        let end = hand.take(&self.cluster, r, request, &reply);
+        let end = hand.take(&self.cluster, &reply);
         let_go(slot, &end);
         self.end_alone(who, &end);
         let details = told_details(&end, &reply, lent);

@@ -11,7 +11,8 @@ ghost use Rattle.cluster_record.specs.Calls.{left};
 ghost use Rattle.drive_update.specs.UpdateStates.{IsOfUpdate};
 ghost use Rattle.ckpt_types.specs.OpWord.{word_of_op};
 ghost use Rattle.node_core.specs.StageReplies.{reply_refused};
-ghost use Rattle.world_core.specs.HandSteps.{end_by, hand_taken, served_done};
+ghost use Rattle.cluster_record.specs.Ends.{served_done};
+ghost use Rattle.world_core.specs.HandSteps.{AsksNode, end_by, hand_taken};
 ghost use Rattle.world_core.specs.Happenings.{Adds, IsNext, IsStep};
 ghost use Rattle.ckpt_types.specs.declared.identities.ActorName.TheVariants.{Client};
 ghost use Rattle.ckpt_types.specs.declared.identities.Who.TheVariants.{Actor};
@@ -157,6 +158,7 @@ fn refuse_stage(
     log: &mut RunLog,
 )
     requires held { slot.old ≢ None }
+    requires next { (h : InHand) → slot.old ≡ Some h → AsksNode cluster.now h.driver r request.now }
     requires node { r < nodes_max }
     requires spare { 1 ≤ log.old.spare }
     ensures slot { (h : InHand) → slot.old ≡ Some h → slot.new ≡ left (end_by (served_done cluster.now request.now r (reply_refused refused)) (reply_refused refused) h) (hand_taken (served_done cluster.now request.now r (reply_refused refused)) h) }
@@ -166,7 +168,7 @@ fn refuse_stage(
     let call = hand.call;
     let op = hand.word();
     let reply = reply_refused(refused);
-    let end = hand.take(cluster, r, request, &reply);
+    let end = hand.take(cluster, &reply);
     let_go(slot, &end);
     log.push(served(call, op, request, r, &reply, end, Details::Nothing));
 }

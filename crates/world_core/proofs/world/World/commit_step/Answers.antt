@@ -10,7 +10,7 @@ use Rattle.cluster_record.specs.Calls.{left}
 use Rattle.world_core.specs.declared.world.World.{World}
 use Rattle.world_core.specs.Happenings.{Adds, IsStep}
 use Rattle.world_core.specs.Shows.{IsShown}
-use Rattle.world_core.specs.UpdateSteps.{ended_unless}
+use Rattle.cluster_record.specs.Ends.{ended_unless}
 use Rattle.world_core.proofs.HandPlaces.{same_world}
 use Rattle.world_core.proofs.Staging.{owns, commit_is}
 use Rattle.world_core.proofs.Stepping.{node_there}

@@ -8,7 +8,7 @@ use Rattle.world_core.specs.declared.world.World.{World}
 use Rattle.world_core.specs.Lending.{CanLend}
 use Rattle.world_core.specs.TableState.{kept_by}
 use Rattle.world_core.proofs.HandPlaces.{left_alone}
-use Rattle.world_core.proofs.ServedSteps.{fits_at, keeps_at, step_is, told_still}
+use Rattle.world_core.proofs.ServedSteps.{asks_lent, fits_at, keeps_at, step_is, told_still}
 use Rattle.world_core.proofs.Stepping.{lends, node_there}
 use Rattle.world_core.proofs.world.World.serve_step.Goals as goal
 
@@ -29,14 +29,12 @@ pub keep_iteration-requires-clause-can : goal.keep_iteration-requires-clause-can
 keep_iteration-requires-clause-can c = keeps_at c.args.self.now c.args.who c.args.r c.args.request.now c.in-Some.hand (c.at-slot.ensures.value ∙ c.in-Some.is) c.requires.next c.requires.shown c.requires.roomy c.in_ok-lent.lent c.in_ok-lent.ensures.lent c.client_by-c.result c.client_by-c.ensures
     c.lend_iteration.new.hand (record c.lend_iteration.new.hand { snapshot = c.hand_over.new.from }) c.lend_iteration.result c.hand_over.new.to c.lend_iteration.new.tables c.lend_iteration.ensures.hand (ap (λ copy. record c.lend_iteration.new.hand { snapshot = copy }) c.hand_over.ensures.from) c.lend_iteration.ensures.lent c.hand_over.ensures.to c.lend_iteration.ensures.tables
 
-pub take-end-requires : goal.take-end-requires
-take-end-requires c = node_there c.args.self.now c.args.who c.args.r c.args.request.now c.in-Some.hand (c.at-slot.ensures.value ∙ c.in-Some.is) c.requires.next c.requires.shown
-
 pub returns-clause-ok : goal.returns-clause-ok
 returns-clause-ok c =
     let w = c.args.self.now in
     let hand = c.in-Some.hand in
     let request = c.args.request.now in
+    let asks = asks_lent w c.args.who c.args.r request hand (c.at-slot.ensures.value ∙ c.in-Some.is) c.requires.next c.lend_iteration.new.hand c.lend_iteration.ensures.hand in
     record {
       label = _;
       labels = c.push.ensures.labels;
@@ -45,6 +43,6 @@ returns-clause-ok c =
           c.lend_iteration.new.hand (record c.lend_iteration.new.hand { snapshot = c.hand_over.new.from }) c.lend_iteration.result c.hand_over.new.to c.lend_iteration.new.tables c.lend_iteration.ensures.hand (ap (λ copy. record c.lend_iteration.new.hand { snapshot = copy }) c.hand_over.ensures.from) c.lend_iteration.ensures.lent c.hand_over.ensures.to c.lend_iteration.ensures.tables
           c.serve-reply.result c.serve-reply.new.self c.serve-reply.new.lent c.take.result c.hand_over-2.new.to c.keep_iteration.new.tables c.take-end.new.self c.let_go.new.slot c.take-end.result c.word-op.result (verb_of request) (ckpt_of request) (word_of c.serve-reply.result) c.told_details-details.result
           c.lend_iteration.ensures.valid (record { there = c.serve-reply.ensures.there; may = c.serve-reply.ensures.reply; nodes_are = c.serve-reply.ensures.new; details = c.serve-reply.ensures.details; iteration = c.serve-reply.ensures.iteration; snapshot = c.serve-reply.ensures.snapshot }) c.take.ensures.value c.hand_over-2.ensures.to
-          c.keep_iteration.ensures c.take-end.ensures.new c.take-end.ensures.end c.let_go.ensures c.word-op.ensures refl refl refl
+          c.keep_iteration.ensures (c.take-end.ensures.new c.args.r request asks) (c.take-end.ensures.end c.args.r request asks) c.let_go.ensures c.word-op.ensures refl refl refl
           (c.told_details-details.ensures ∙ ap (ended_details c.take-end.result) (told_still c.serve-reply.result c.serve-reply.new.lent c.take.new.self c.hand_over-2.new.from)));
     }

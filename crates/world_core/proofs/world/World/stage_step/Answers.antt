@@ -1,15 +1,18 @@
-use Rattle.std.proofs.Common.{◌≡◌, ℤ, Some, w64, to_z, of_z, refl, ap, subst, ◌∙◌}
+use Rattle.std.proofs.Common.{◌≡◌, ℤ, Some, w64, to_z, of_z, refl, sym, ap, subst, ◌∙◌}
 use Rattle.std.proofs.lemmas.Int.{to_z-of_z}
 use Rattle.std.specs.Prelude.{IfSome}
 use Rattle.ckpt_types.specs.declared.answers.Answer.TheVariants as answers
 use Rattle.ckpt_types.specs.declared.identities.ActorName.TheVariants.{Client}
 use Rattle.ckpt_types.specs.declared.identities.Who.TheVariants.{Actor}
 use Rattle.node_core.specs.StageReplies.{reply_told}
+use Rattle.node_msgs.specs.declared.requests.Request.TheVariants.{Stage}
 use Rattle.replica.specs.Replicas.{answer_unless, outcome_on, staged}
 use Rattle.stage_slot.specs.Slots.{owner_of}
 use Rattle.ckpt_types.specs.OpWord.{word_of_op}
+use Rattle.world_core.specs.HandSteps.{AsksNode}
 use Rattle.world_core.specs.Nodes.{replica_in, with_changed}
 use Rattle.world_core.proofs.HandPlaces.{left_alone}
+use Rattle.world_core.proofs.ServedSteps.{asks_of}
 use Rattle.world_core.proofs.Staging.{takes, stage_is, stage_refused}
 use Rattle.world_core.proofs.Stepping.{node_there}
 use Rattle.world_core.proofs.world.World.stage_step.Goals as goal
@@ -25,6 +28,12 @@ stage-requires-clause-there c = takes c.args.self.now c.args.c c.args.r c.args.a
 
 pub refuse_stage-requires-clause-node : goal.refuse_stage-requires-clause-node
 refuse_stage-requires-clause-node c = node_there c.args.self.now (Actor (Client c.args.c)) c.args.r _ c.in-Some.hand (c.at_client-slot.ensures.value ∙ c.in-Some.is) c.requires.next c.requires.shown
+
+pub refuse_stage-requires-clause-next : goal.refuse_stage-requires-clause-next
+refuse_stage-requires-clause-next c h is =
+    let moment : to_z w64 (of_z w64 c.args.moment) ≡ c.args.moment = to_z-of_z w64 c.args.moment (record { sfits = c.ranges.moment.sfits }) in
+    subst (λ (t : ℤ). AsksNode c.args.self.now.cluster h.driver c.args.r (Stage c.args.asked c.args.ckpt t)) (sym moment)
+    (asks_of c.args.self.now (Actor (Client c.args.c)) c.args.r (Stage c.args.asked c.args.ckpt c.args.moment) h (c.at_client-slot.ensures.value ∙ c.in-Some.is ∙ is) c.requires.next)
 
 pub staged-requires-clause-node : goal.staged-requires-clause-node
 staged-requires-clause-node c = node_there c.args.self.now (Actor (Client c.args.c)) c.args.r _ c.in-Some.hand (c.at_client-slot.ensures.value ∙ c.in-Some.is) c.requires.next c.requires.shown

@@ -1,5 +1,5 @@
 use Rattle.std.proofs.Common.{rules}
-use Rattle.drive_sync.proofs.sync_call.SyncCall.take.Goals as goal
+use Rattle.drive_sync.proofs.sync_call.SyncCall.keep.Goals as goal
 
 pub returns-2 : goal.returns-2
 returns-2 c = search rules
