@@ -40,6 +40,14 @@ impl Keyed {
         Keyed { id, key }
     }
 
+    /// It becomes another identifier, which is copied to where it stays.
+    pub fn set(&mut self, id: &SectionId)
+        ensures { self.new ≡ id.now }
+    {
+        self.key = key_of(id.as_slice());
+        self.id = *id;
+    }
+
     /// The identifier.
     pub fn id(&self) -> &SectionId
         ensures { result.now ≡ self.now }

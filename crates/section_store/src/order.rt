@@ -179,7 +179,7 @@ fn fill(stored: &mut Stored, section: &SectionRef<'_>)
     ensures room { vec_capacity stored.old.bytes ≤ vec_capacity stored.new.bytes }
 {
     put_all(&mut stored.bytes, section.bytes);
-    stored.id = Keyed::new(*section.id);
+    stored.id.set(section.id);
     stored.expiration = section.expiration;
     stored.state = section.state;
     stored.last_update = section.last_update;
