@@ -23,7 +23,7 @@ use Rattle.cluster_record.proofs.Places.{there_is}
 use Rattle.snap_copy.specs.Snapshots.{Snapshot}
 use Rattle.ckpt_machine.specs.Beginning.{begin_end, callbacks_told}
 use Rattle.ckpt_machine.specs.Drivers.{Driver}
-use Rattle.ckpt_machine.specs.Driving.{Kept, driver_start}
+use Rattle.ckpt_machine.specs.Driving.{Kept}
 use Rattle.ckpt_machine.specs.Facts.{Facts}
 use Rattle.ckpt_machine.specs.Machine.{Effect}
 use Rattle.ckpt_machine.specs.Steps.{IsDue, IsBegun, IsBeginEnd, MayBegin, after, call_begun, goes_on, kept_at_beginning, pending_begun}

@@ -55,7 +55,6 @@ use Rattle.node_core.specs.Serving.{reply_at, details_at, replica_after}
 use Rattle.replica.specs.Replicas.{opened_replica}
 use Rattle.ckpt_machine.specs.Steps.{Told, IsDue, after, driver_of, due, kept_at_beginning, asked_handle, seen_at, with_tables}
 use Rattle.std.proofs.lemmas.Option.{same_Some}
-use Rattle.ckpt_machine.proofs.NodeLists.{is_up-none}
 
 -- ---- the words of the examples
 

@@ -29,7 +29,7 @@ use Rattle.ckpt_machine.proofs.Whose.{stepped_as-plain, stepped_as-async}
 use Rattle.world_core.specs.declared.hands.InHand.{InHand}
 use Rattle.world_core.specs.declared.world.World.{World}
 use Rattle.world_core.specs.Answering.{IsAnsweredAtOnce}
-use Rattle.world_core.specs.Begun.{IsHandBegun, IsPutAlone}
+use Rattle.world_core.specs.Begun.{IsHandBegun}
 use Rattle.world_core.specs.HandRooms.{room_for, copy_room_for}
 use Rattle.world_core.specs.HandsState.{HandsState, hand_at, set_at, with_alone}
 use Rattle.world_core.specs.Happenings.{Begins}

@@ -1,5 +1,4 @@
 use Rattle.std.proofs.Common.{◌≡◌, true, false, sym, ap, subst, ◌∙◌}
-use Rattle.std.specs.Prelude.{Some}
 use Rattle.std.proofs.lemmas.Result.{on_ok_weaker}
 use Rattle.cluster_record.specs.LookUps.{adds_in}
 use Rattle.cluster_record.specs.Placement.{adds}
