@@ -10,7 +10,6 @@ pub mod FirstWord
 pub mod Limits
 pub mod OpWord
 pub mod PieceRoom
-pub mod ReadBuf
 pub mod Reads
 pub mod SectionId
 pub mod Sections

@@ -9,8 +9,7 @@ use std::marker::Model;
 /// Where a read puts its pieces: strings of bytes, in room that was taken before. It is moved as a pointer.
 #[derive(Drop)]
 pub struct ReadBuf {
-    /// The pieces with their room, in a block of their own; nothing where there is room for none.
-    room: Option<Box<PieceRoom>>,
+    room: Box<PieceRoom>,
 }
 
 impl Model for ReadBuf {
@@ -18,22 +17,18 @@ impl Model for ReadBuf {
 
     ghost Value = { Buffer };
 
-    ghost use Rattle.ckpt_types.specs.ReadBuf.{buffer_in};
-
-    ghost view = { λ buf. buffer_in buf.room };
+    ghost view = { λ buf. buf.room.value };
 }
 
 impl ReadBuf {
-    /// An empty buffer with room for so many pieces and so many bytes in all. One for none of either takes no memory.
+    /// An empty buffer with room for so many pieces and so many bytes in all.
     pub fn reserve(alloc: Global, pieces: usize, bytes: usize) -> Result<ReadBuf, AllocError>
         ensures { IfOk result (λ b. b ≡ record { pieces = []; spare_pieces = pieces; spare_bytes = bytes }) }
     {
-        if pieces == 0 && bytes == 0 {
-            return Ok(ReadBuf { room: None });
-        }
         let room = PieceRoom::reserve(alloc, pieces, bytes)?;
-        let block = Box::new(alloc, room)?;
-        Ok(ReadBuf { room: Some(block) })
+        Ok(ReadBuf {
+            room: Box::new(alloc, room)?,
+        })
     }
 
     /// For how many more pieces, and bytes, there is room.
@@ -41,10 +36,7 @@ impl ReadBuf {
         ensures pieces { result.0 ≡ self.now.spare_pieces }
         ensures bytes { result.1 ≡ self.now.spare_bytes }
     {
-        match &self.room {
-            None => (0, 0),
-            Some(room) => room.spare(),
-        }
+        self.room.spare()
     }
 
     /// Adds a piece behind the others. It takes no memory.
@@ -53,20 +45,14 @@ impl ReadBuf {
         requires room { length piece.now ≤ self.old.spare_bytes }
         ensures { self.new ≡ with_piece piece.now self.old }
     {
-        let Some(room) = &mut self.room else {
-            unreachable!()
-        };
-        room.push(piece);
+        self.room.push(piece);
     }
 
     /// How many pieces there are.
     pub fn len(&self) -> usize
         ensures { result ≡ length self.now.pieces }
     {
-        match &self.room {
-            None => 0,
-            Some(room) => room.len(),
-        }
+        self.room.len()
     }
 
     /// The piece at a place, counted from 0.
@@ -74,18 +60,15 @@ impl ReadBuf {
         requires { place < length self.now.pieces }
         ensures { slice_get self.now.pieces place ≡ Some result.now }
     {
-        let Some(room) = &self.room else {
-            unreachable!()
-        };
-        room.piece(place)
+        self.room.piece(place)
     }
 }
 
 /// The pieces that a read gave, as the log keeps them. It is moved as a pointer.
 #[derive(Drop)]
 pub struct Pieces {
-    /// The pieces with the room that they had; nothing where it was for none.
-    room: Option<Box<PieceRoom>>,
+    /// The pieces with the room that they had.
+    room: Box<PieceRoom>,
 }
 
 impl Model for Pieces {
@@ -93,9 +76,7 @@ impl Model for Pieces {
 
     ghost Value = { List (List ℕ) };
 
-    ghost use Rattle.ckpt_types.specs.ReadBuf.{buffer_in};
-
-    ghost view = { λ p. (buffer_in p.room).pieces };
+    ghost view = { λ p. p.room.value.pieces };
 }
 
 impl Pieces {
@@ -110,10 +91,7 @@ impl Pieces {
     pub fn len(&self) -> usize
         ensures { result ≡ length self.now }
     {
-        match &self.room {
-            None => 0,
-            Some(room) => room.len(),
-        }
+        self.room.len()
     }
 
     /// The piece at a place, counted from 0.
@@ -121,9 +99,6 @@ impl Pieces {
         requires { place < length self.now }
         ensures { slice_get self.now place ≡ Some result.now }
     {
-        let Some(room) = &self.room else {
-            unreachable!()
-        };
-        room.piece(place)
+        self.room.piece(place)
     }
 }

@@ -1,5 +1,6 @@
 -- What comes beside the reply of a node, in what was lent.
 use Rattle.std.specs.Prelude.{Option, Some, None}
+use Rattle.ckpt_types.specs.Buffer.{Buffer}
 use Rattle.ckpt_types.specs.declared.answers.Answer.TheVariants as answers
 use Rattle.ckpt_types.specs.declared.sections.CheckpointDescriptor.{CheckpointDescriptor}
 use Rattle.ckpt_types.specs.declared.sections.SectionDescriptor.{SectionDescriptor}
@@ -8,6 +9,11 @@ use Rattle.node_msgs.specs.declared.details.Details.TheVariants as beside
 use Rattle.node_msgs.specs.declared.replies.Reply.{Reply}
 use Rattle.node_msgs.specs.declared.replies.Reply.TheVariants as replies
 use Rattle.node_core.specs.declared.lent.Lent.{Lent}
+
+-- the pieces in a buffer
+abbrev pub pieces_told : Option Buffer → Details
+pieces_told None = beside.Nothing
+pieces_told (Some read) = beside.Pieces read.pieces
 
 -- a status, in the place for it
 abbrev pub status_told : Option CheckpointDescriptor → Details
@@ -21,8 +27,8 @@ section_told (Some section) = beside.Section section
 
 -- what comes beside a reply, in what was lent
 abbrev pub details_told : Reply → Lent → Details
-details_told (replies.Done answers.Pieces) lent = beside.Pieces lent.read.pieces
-details_told (replies.Done answers.Created) lent = beside.Pieces lent.read.pieces
+details_told (replies.Done answers.Pieces) lent = pieces_told lent.read
+details_told (replies.Done answers.Created) lent = pieces_told lent.read
 details_told (replies.Done answers.Status) lent = status_told lent.status
 details_told (replies.Done answers.Section) lent = section_told lent.section
 details_told reply lent = beside.Nothing

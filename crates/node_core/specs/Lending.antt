@@ -15,10 +15,10 @@ use Rattle.stage_slot.specs.Slots.{Slot}
 use Rattle.replica.specs.Replicas.{Replica, IsWrite}
 use Rattle.node_core.specs.declared.lent.Lent.{Lent}
 
--- nothing is lent: all places are empty, and the buffer has no room
+-- nothing is lent: all places are empty
 abbrev pub nothing_lent : Lent
 nothing_lent = record {
-  read = record { pieces = []; spare_pieces = 0; spare_bytes = 0 };
+  read = None;
   vector = None;
   update = None;
   iteration = None;
@@ -53,13 +53,13 @@ pub record HasRoomForId (new : NewId) (read : Buffer) : Type 0 where
   pub places : 1 ≤ read.spare_pieces
   pub bytes : id_length new ≤ read.spare_bytes
 
--- a creation tells an identifier, and has room for it; any other update tells none
-abbrev pub HasRoomToTell : Update → Buffer → Type 0
-HasRoomToTell (updates.Create new expiration bytes) read = HasRoomForId new read
+-- a creation tells an identifier, and a buffer with room for it is lent; any other update tells none
+abbrev pub HasRoomToTell : Update → Option Buffer → Type 0
+HasRoomToTell (updates.Create new expiration bytes) read = IsSomeAnd read (HasRoomForId new)
 HasRoomToTell update read = Unit {0}
 
 -- the commit of what is staged has it
-abbrev pub HasRoomToCommit : Option Slot → Buffer → Type 0
+abbrev pub HasRoomToCommit : Option Slot → Option Buffer → Type 0
 HasRoomToCommit None read = Unit {0}
 HasRoomToCommit (Some slot) read = HasRoomToTell slot.update read
 
@@ -69,7 +69,7 @@ HasLent (requests.Stage call k t) lent x = IsSome lent.update
 HasLent (requests.Commit call k) lent x = HasRoomToCommit x.slot lent.read
 HasLent (requests.Apply call k) lent x = IsSomeAnd lent.update (λ update. HasRoomToTell update lent.read)
 HasLent (requests.Mark call k) lent x = IsSomeAnd lent.update IsWrite
-HasLent (requests.Read k) lent x = IsSomeAnd lent.vector (λ elements. HasRoomToRead elements lent.read)
+HasLent (requests.Read k) lent x = IsSomeAnd lent.vector (λ elements. IsSomeAnd lent.read (HasRoomToRead elements))
 HasLent (requests.Status k) lent x = IsSome lent.status
 HasLent (requests.Iterate call k choice) lent x = IsSomeAnd lent.iteration (λ kept. IsRoomFor x.attributes kept.room)
 HasLent (requests.Next call k) lent x = IsSome lent.iteration × IsSome lent.section

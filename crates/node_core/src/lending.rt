@@ -63,7 +63,7 @@ fn is_write(update: &Update) -> bool
 
 // ---- the identifier that an update tells
 
-fn has_room_to_commit(slot: &Slot, read: &ReadBuf) -> bool
+fn has_room_to_commit(slot: &Slot, read: &Option<ReadBuf>) -> bool
     ensures { Decides result (HasRoomToCommit slot.now read.now) }
 {
     match slot.kept() {
@@ -72,12 +72,21 @@ fn has_room_to_commit(slot: &Slot, read: &ReadBuf) -> bool
     }
 }
 
-fn has_room_to_tell(update: &Update, read: &ReadBuf) -> bool
+fn has_room_to_tell(update: &Update, read: &Option<ReadBuf>) -> bool
     ensures { Decides result (HasRoomToTell update.now read.now) }
 {
     match update {
-        Update::Create(new, _, _) => has_room(read, 1, id_length(new)),
+        Update::Create(new, _, _) => has_room_for_id(new, read),
         _ => true,
+    }
+}
+
+fn has_room_for_id(new: &NewId, read: &Option<ReadBuf>) -> bool
+    ensures { Decides result (IsSomeAnd read.now (HasRoomForId new.now)) }
+{
+    match read {
+        None => false,
+        Some(read) => has_room(read, 1, id_length(new)),
     }
 }
 
@@ -107,11 +116,20 @@ fn has_room(read: &ReadBuf, pieces: usize, bytes: usize) -> bool
 // ---- the elements and the buffer of a read
 
 fn has_read(lent: &Lent) -> bool
-    ensures { Decides result (IsSomeAnd lent.now.vector (λ elements. HasRoomToRead elements lent.now.read)) }
+    ensures { Decides result (IsSomeAnd lent.now.vector (λ elements. IsSomeAnd lent.now.read (HasRoomToRead elements))) }
 {
     match &lent.vector {
         None => false,
-        Some(vector) => has_room_for(vector.value().as_slice(), &lent.read),
+        Some(vector) => has_room_to_read(vector.value().as_slice(), &lent.read),
+    }
+}
+
+fn has_room_to_read(elements: &[ReadElement], read: &Option<ReadBuf>) -> bool
+    ensures { Decides result (IsSomeAnd read.now (HasRoomToRead elements.now)) }
+{
+    match read {
+        None => false,
+        Some(read) => has_room_for(elements, read),
     }
 }
 

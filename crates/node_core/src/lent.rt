@@ -1,5 +1,5 @@
 //! What a caller lends to a step, so that the step takes no memory.
-ghost use Rattle.std.specs.Prelude.{◌≡◌, IfOk};
+ghost use Rattle.std.specs.Prelude.{◌≡◌};
 ghost use Rattle.node_core.specs.Lending.{nothing_lent};
 
 use ckpt_types::{
@@ -7,13 +7,12 @@ use ckpt_types::{
 };
 use section_iter::Iteration;
 use snap_copy::Snap;
-use std::alloc::{AllocError, Global};
 
 /// What travels beside a request, and what comes beside its reply.
 #[derive(Drop)]
 pub struct Lent {
     /// Where a read puts its pieces, and an update the identifier of a new section.
-    pub read: ReadBuf,
+    pub read: Option<ReadBuf>,
     /// The elements of a read.
     pub vector: Option<SharedReads>,
     /// The update of a stage, of an update in one step or of a weak write, each of which uses it up.
@@ -29,18 +28,18 @@ pub struct Lent {
 }
 
 impl Lent {
-    /// Nothing is lent, and the buffer has no room.
-    pub fn nothing(alloc: Global) -> Result<Lent, AllocError>
-        ensures { IfOk result (λ lent. lent ≡ nothing_lent) }
+    /// Nothing is lent.
+    pub fn nothing() -> Lent
+        ensures { result ≡ nothing_lent }
     {
-        Ok(Lent {
-            read: ReadBuf::reserve(alloc, 0, 0)?,
+        Lent {
+            read: None,
             vector: None,
             update: None,
             iteration: None,
             snap: None,
             status: None,
             section: None,
-        })
+        }
     }
 }

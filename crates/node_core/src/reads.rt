@@ -1,5 +1,5 @@
 //! What a replica tells: reads, a status, and iterations.
-ghost use Rattle.std.specs.Prelude.{◌≡◌, ◌^◌, ◌<◌, ◌≤◌, ℕ, [], None, Some, IsSome, IsSomeAnd, MatchOption, length};
+ghost use Rattle.std.specs.Prelude.{◌≡◌, ◌^◌, ◌<◌, ◌≤◌, ℕ, None, Some, IsOk, IsSome, IsSomeAnd, MatchOption, length};
 ghost use Rattle.ckpt_types.specs.declared.answers.Answer.TheVariants as answers;
 ghost use Rattle.ckpt_types.specs.Reads.{read, status, chosen, given};
 ghost use Rattle.section_iter.specs.Next.{kept_after};
@@ -9,15 +9,17 @@ ghost use Rattle.cluster_record.specs.RecordState.{entry_of};
 ghost use Rattle.node_msgs.specs.declared.replies.Reply.TheVariants as replies;
 ghost use Rattle.node_msgs.specs.declared.details.Details.TheVariants as beside;
 ghost use Rattle.node_core.specs.Behind.{section_in_place, with_told};
-ghost use Rattle.node_core.specs.Details.{details_told, section_put};
-ghost use Rattle.node_core.specs.Lending.{bytes_asked, HasRoomToRead};
+ghost use Rattle.node_core.specs.Details.{details_told, pieces_told, section_put};
+ghost use Rattle.node_core.specs.Lending.{HasRoomToRead};
 ghost use Rattle.node_core.specs.Payloads.{elements_or, ids_or};
 ghost use Rattle.node_core.specs.Seen.{entry_seen};
 ghost use Rattle.node_core.specs.Serving.{done_or_refused, read_details, attributes_seen, next_reply, next_details};
 
 use crate::lent::Lent;
 use crate::seen::attributes_seen;
-use ckpt_types::{AisError, Answer, Apart, Choice, CkptId, Moment, ReadElement, SectionDescriptor};
+use ckpt_types::{
+    AisError, Answer, Apart, Choice, CkptId, Moment, ReadBuf, ReadElement, SectionDescriptor,
+};
 use cluster_record::Record;
 use node_msgs::Reply;
 use replica::Replica;
@@ -26,7 +28,7 @@ use section_store::Store;
 use update_rules::Refused;
 
 pub(crate) fn read_lent(replica: &Replica, seen: &Record, lent: &mut Lent) -> Reply
-    requires { IsSomeAnd lent.old.vector (λ elements. HasRoomToRead elements lent.old.read) }
+    requires { IsSomeAnd lent.old.vector (λ elements. IsSomeAnd lent.old.read (HasRoomToRead elements)) }
     ensures reply { result ≡ done_or_refused (replies.Done answers.Pieces) (read (elements_or lent.old.vector) seen.now.moment replica.now.sections) }
     ensures details { details_told result lent.new ≡ read_details (read (elements_or lent.old.vector) seen.now.moment replica.now.sections) }
     ensures lent { lent.new ≡ with_told result lent.new (record lent.old { vector = None }) }
@@ -40,9 +42,7 @@ pub(crate) fn read_lent(replica: &Replica, seen: &Record, lent: &mut Lent) -> Re
 // Puts the pieces of a read into the empty buffer, or refuses it.
 fn read(store: &Store, elements: &[ReadElement], now: Moment, lent: &mut Lent) -> Reply
     requires few { length elements.now < 2 ^ 32 }
-    requires empty { lent.old.read.pieces ≡ [] }
-    requires places { length elements.now ≤ lent.old.read.spare_pieces }
-    requires bytes { bytes_asked elements.now ≤ lent.old.read.spare_bytes }
+    requires room { IsSomeAnd lent.old.read (HasRoomToRead elements.now) }
     ensures reply { result ≡ done_or_refused (replies.Done answers.Pieces) (read elements.now now store.now.sections) }
     ensures details { details_told result lent.new ≡ read_details (read elements.now now store.now.sections) }
     ensures lent { lent.new ≡ with_told result lent.new lent.old }
@@ -50,8 +50,18 @@ fn read(store: &Store, elements: &[ReadElement], now: Moment, lent: &mut Lent) -
     if let Err(refused) = check_read(store, elements, now) {
         return Reply::Refused(refused.error, refused.index);
     }
-    store.read_into(elements, now, &mut lent.read);
+    read_into(store, elements, now, &mut lent.read);
     Reply::Done(Answer::Pieces)
+}
+
+// Puts the pieces of a read that is not refused into the empty buffer that is lent.
+fn read_into(store: &Store, elements: &[ReadElement], now: Moment, lent: &mut Option<ReadBuf>)
+    requires readable { IsOk (read elements.now now store.now.sections) }
+    requires room { IsSomeAnd lent.old (HasRoomToRead elements.now) }
+    ensures { pieces_told lent.new ≡ read_details (read elements.now now store.now.sections) }
+{
+    let Some(read) = lent else { unreachable!() };
+    store.read_into(elements, now, read);
 }
 
 fn check_read(store: &Store, elements: &[ReadElement], now: Moment) -> Result<(), Refused>

@@ -1,11 +1,12 @@
 //! What a replica makes of an update: stages, claims, commits and withdrawals, and updates in one step.
 ghost use Rattle.std.specs.Prelude.{◌≡◌, ◌-◌, ◌^◌, ◌<◌, ◌≤◌, [], None, Some, IsSome, IsSomeAnd, length};
 ghost use Rattle.ckpt_types.specs.declared.answers.Answer.TheVariants as answers;
+ghost use Rattle.ckpt_types.specs.declared.update.NewId.TheVariants.{Given};
 ghost use Rattle.node_msgs.specs.declared.replies.Reply.TheVariants as replies;
 ghost use Rattle.stage_slot.specs.Slots.{IsOwnedBy};
 ghost use Rattle.replica.specs.Replicas.{outcome_on, staged, committed, applied};
 ghost use Rattle.node_core.specs.Behind.{with_told};
-ghost use Rattle.node_core.specs.Details.{details_told};
+ghost use Rattle.node_core.specs.Details.{details_told, pieces_told};
 ghost use Rattle.node_core.specs.Fitting.{TakesUpdate};
 ghost use Rattle.node_core.specs.Lending.{Creates, HasRoomForId, HasRoomToTell, HasRoomToCommit};
 ghost use Rattle.node_core.specs.Payloads.{update_or};
@@ -13,7 +14,7 @@ ghost use Rattle.node_core.specs.Serving.{stage_reply, claim_reply, claimed_by, 
 ghost use Rattle.node_core.specs.StageReplies.{reply_refused, reply_told};
 
 use crate::lent::Lent;
-use ckpt_types::{Answer, CallId, Moment, NewId, Update};
+use ckpt_types::{Answer, CallId, Moment, NewId, ReadBuf, Update};
 use node_msgs::Reply;
 use replica::{Replica, StageRefused};
 use section_store::Store;
@@ -101,7 +102,7 @@ fn create(
     requires creation { Creates new.now update.now }
     requires room { replica.old.count < 2 ^ 64 - 1 }
     requires free { replica.old.slot ≡ None }
-    requires lent { HasRoomForId new.now lent.old.read }
+    requires lent { IsSomeAnd lent.old.read (HasRoomForId new.now) }
     ensures reply { result ≡ apply_reply update.now (outcome_on replica.old update.now moment) replica.old.marks }
     ensures new { replica.new ≡ applied update.now moment replica.old }
     ensures details { details_told result lent.new ≡ applied_id replica.old.marks (outcome_on replica.old update.now moment) (told_id update.now moment replica.old.sections) }
@@ -128,9 +129,7 @@ fn create_named(
     requires id { told_id update.now moment replica.old.sections ≡ id_told (Some id.now) }
     requires room { replica.old.count < 2 ^ 64 - 1 }
     requires free { replica.old.slot ≡ None }
-    requires empty { lent.old.read.pieces ≡ [] }
-    requires places { 1 ≤ lent.old.read.spare_pieces }
-    requires bytes { length id.now ≤ lent.old.read.spare_bytes }
+    requires lent { IsSomeAnd lent.old.read (HasRoomForId (Given id.now)) }
     ensures reply { result ≡ apply_reply update.now (outcome_on replica.old update.now moment) replica.old.marks }
     ensures new { replica.new ≡ applied update.now moment replica.old }
     ensures details { details_told result lent.new ≡ applied_id replica.old.marks (outcome_on replica.old update.now moment) (told_id update.now moment replica.old.sections) }
@@ -138,7 +137,7 @@ fn create_named(
 {
     match replica.apply_now(update, moment) {
         Ok(()) => {
-            lent.read.push(id);
+            tell(id, &mut lent.read);
             Reply::Done(Answer::Created)
         }
         Err(refused) => reply_refused(refused),
@@ -209,12 +208,21 @@ fn tell_id(store: &Store, update: &Update, moment: Moment, lent: &mut Lent)
     ensures lent { lent.new ≡ with_told (replies.Done (update_answer update.now)) lent.new lent.old }
 {
     match update {
-        Update::Create(NewId::Given(id), _, _) => lent.read.push(id.as_slice()),
+        Update::Create(NewId::Given(id), _, _) => tell(id.as_slice(), &mut lent.read),
         Update::Create(NewId::Generated, _, _) => {
-            lent.read.push(store.generated(moment).as_slice());
+            tell(store.generated(moment).as_slice(), &mut lent.read);
         }
         _ => {}
     }
+}
+
+// Puts the identifier of a new section into the empty buffer that is lent.
+fn tell(id: &[u8], lent: &mut Option<ReadBuf>)
+    requires { IsSomeAnd lent.old (HasRoomForId (Given id.now)) }
+    ensures { pieces_told lent.new ≡ id_told (Some id.now) }
+{
+    let Some(read) = lent else { unreachable!() };
+    read.push(id);
 }
 
 pub(crate) fn withdraw(replica: &mut Replica, call: CallId) -> Reply

@@ -245,7 +245,7 @@ fn a_snapshot_brings_a_replica_what_another_had(rt: HostRuntime) -> Result<(), F
 
 /// Adds a replica of the first checkpoint, of the first generation, where that may come. Whether it is added.
 fn adds(node: &mut Node, alloc: Global, seen: &Record) -> Result<bool, AllocError> {
-    let mut lent = Lent::nothing(alloc)?;
+    let mut lent = Lent::nothing();
     let change = NodeChange::Add(1, 1);
     if !node.change_fits(seen, &change, &lent) {
         return Ok(false);
@@ -256,7 +256,7 @@ fn adds(node: &mut Node, alloc: Global, seen: &Record) -> Result<bool, AllocErro
 
 /// Reserves a replica of the first checkpoint, where that may come. Whether it is reserved.
 fn reserves(node: &mut Node, alloc: Global, seen: &Record) -> Result<bool, AllocError> {
-    let mut lent = Lent::nothing(alloc)?;
+    let mut lent = Lent::nothing();
     let request = Request::Reserve(1);
     if !node.fits(seen, &request, &lent) {
         return Ok(false);

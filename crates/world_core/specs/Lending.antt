@@ -1,5 +1,5 @@
 -- What a call lends to a request, and what becomes of the iteration that travels beside it.
-use Rattle.std.specs.Prelude.{◌≡◌, ℕ, ◌-◌, ◌^◌, ◌<◌, List, Option, Some, None, IsSome, true}
+use Rattle.std.specs.Prelude.{◌≡◌, ℕ, ◌-◌, ◌^◌, ◌<◌, List, Option, Some, None, IsSome, IsSomeAnd, true}
 use Rattle.ckpt_types.specs.Limits.{places_max}
 use Rattle.ckpt_types.specs.declared.operation.Op.{Op}
 use Rattle.ckpt_types.specs.Asks.{Ask, asked, update_of, elements_of, IsBuilt}
@@ -26,7 +26,7 @@ pub record IsLentUpdate (op : Op) (lent : Lent) : Type 0 where
 -- the elements of a read, with an empty buffer that has room for what they may give
 pub record IsLentRead (op : Op) (lent : Lent) : Type 0 where
   pub vector : lent.vector ≡ Some (elements_of op)
-  pub room : HasRoomToRead (elements_of op) lent.read
+  pub room : IsSomeAnd lent.read (HasRoomToRead (elements_of op))
 
 -- a share of the call's update, room for the identifier that its commit tells, both where it is made at once, what a read wants, a place for a status, or one for a section
 abbrev pub IsLentBy : Op → Request → Lent → Type 0

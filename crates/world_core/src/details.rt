@@ -1,9 +1,11 @@
 //! What the label of a step tells beside the end of its call.
 ghost use Rattle.std.specs.Prelude.{◌≡◌};
 ghost use Rattle.ckpt_machine.specs.Steps.{ended_details};
-ghost use Rattle.node_core.specs.Details.{details_told, section_told, status_told};
+ghost use Rattle.node_core.specs.Details.{details_told, pieces_told, section_told, status_told};
 
-use ckpt_types::{Answer, Apart, CheckpointDescriptor, Outcome, Pieces, SectionDescriptor};
+use ckpt_types::{
+    Answer, Apart, CheckpointDescriptor, Outcome, Pieces, ReadBuf, SectionDescriptor,
+};
 use node_core::Lent;
 use node_msgs::{Details, Reply};
 
@@ -13,12 +15,19 @@ pub fn told_details(end: &Option<Outcome>, reply: &Reply, lent: Lent) -> Details
     ensures { result ≡ ended_details end.now (details_told reply.now lent) }
 {
     match (end, reply) {
-        (Some(_), Reply::Done(Answer::Pieces | Answer::Created)) => {
-            Details::Pieces(Pieces::from_buf(lent.read))
-        }
+        (Some(_), Reply::Done(Answer::Pieces | Answer::Created)) => { told_pieces(lent.read) }
         (Some(_), Reply::Done(Answer::Status)) => told_status(lent.status),
         (Some(_), Reply::Done(Answer::Section)) => told_section(lent.section),
         _ => Details::Nothing,
+    }
+}
+
+fn told_pieces(read: Option<ReadBuf>) -> Details
+    ensures { result ≡ pieces_told read }
+{
+    match read {
+        None => Details::Nothing,
+        Some(read) => Details::Pieces(Pieces::from_buf(read)),
     }
 }
 

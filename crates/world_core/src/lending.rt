@@ -29,7 +29,7 @@ pub fn lent_by(alloc: Global, op: &Op, request: &Request) -> Result<Lent, AllocE
     ensures lent { IfOk result (IsLentBy op.now request.now) }
     ensures iteration { IfOk result (λ lent. lent.iteration ≡ None) }
 {
-    let mut lent = Lent::nothing(alloc)?;
+    let mut lent = Lent::nothing();
     lend(alloc, op, request, &mut lent)?;
     Ok(lent)
 }
@@ -77,16 +77,16 @@ fn lend_change(alloc: Global, op: &Op, lent: &mut Lent) -> Result<(), AllocError
     lend_update(alloc, op, lent)
 }
 
-fn reserve_id(alloc: Global, update: &Update, read: &mut ReadBuf) -> Result<(), AllocError>
+fn reserve_id(alloc: Global, update: &Update, read: &mut Option<ReadBuf>) -> Result<(), AllocError>
     ensures { OnOk result (HasRoomToTell update.now read.new) }
 {
     match update {
         Update::Create(NewId::Given(id), _, _) => {
-            *read = ReadBuf::reserve(alloc, 1, id.as_slice().len())?;
+            *read = Some(ReadBuf::reserve(alloc, 1, id.as_slice().len())?);
             Ok(())
         }
         Update::Create(NewId::Generated, _, _) => {
-            *read = ReadBuf::reserve(alloc, 1, GENERATED_ID_BYTES as usize)?;
+            *read = Some(ReadBuf::reserve(alloc, 1, GENERATED_ID_BYTES as usize)?);
             Ok(())
         }
         _ => Ok(()),
@@ -123,7 +123,7 @@ fn lend_read(alloc: Global, op: &Op, lent: &mut Lent) -> Result<(), AllocError>
     ensures iteration { OnOk result (lent.new.iteration ≡ lent.old.iteration) }
 {
     let vector = share_elements(alloc, op)?;
-    lent.read = reserve_for(alloc, vector.value().as_slice())?;
+    lent.read = Some(reserve_for(alloc, vector.value().as_slice())?);
     lent.vector = Some(vector);
     Ok(())
 }
