@@ -1,2 +1,3 @@
+pub mod Arguments
 pub mod Headline
 pub mod Reading

@@ -2,6 +2,7 @@
 //! every result to standard output. `ckptsim run --steps` prints each step of a call and each moment too.
 #![tactic(auto)]
 
+mod arguments;
 mod reading;
 mod running;
 #[cfg(test)]
@@ -9,6 +10,7 @@ mod tests;
 mod words;
 mod writing;
 
+use arguments::StdArguments;
 use outside_io::{OpenGate, StdSink, StdSource};
 use run_labels::RunLog;
 use running::{Status, ckpt_run};
@@ -22,7 +24,7 @@ use words::words;
 use world_core::World;
 
 fn main(rt: HostRuntime) -> ExitCode {
-    let status = match words(&rt, rt.alloc()) {
+    let status = match words(&StdArguments::new(&rt), rt.alloc()) {
         Ok(words) => {
             let mut source = StdSource::new(rt.stdin());
             let mut sink = StdSink::new(rt.stdout());

@@ -1,40 +1,46 @@
 //! The words of the command line are read.
+ghost use Rattle.std.specs.Prelude.{◌≡◌, ◌≤◌, Some, length, map, take};
+
+use crate::arguments::Arguments;
 use crate::running::Status;
 use crate::words::words;
 use std::alloc::Global;
-use std::env::{Env, FillError};
+use std::env::FillError;
 use std::string::String;
 
-/// The arguments with which a program was called, its name in front.
+/// The words with which a program was called, its name in front.
 #[derive(Drop)]
 struct Called<'a> {
-    args: &'a [&'a [u8]],
+    words: &'a [&'a [u8]],
 }
 
-impl Env for Called<'_> {
-    fn arg(&self, i: usize, buf: &mut [u8]) -> Result<usize, FillError> {
-        let Some(arg) = self.args.get(i) else {
+impl Arguments for Called<'_> {
+    ghost called = { λ c. Some (map (λ word. word.now) c.words.now) };
+
+    fn word(&self, number: usize, place: &mut [u8]) -> Result<usize, FillError> {
+        let Some(word) = self.words.get(number) else {
             return Err(FillError::NotPresent);
         };
-        if arg.len() > buf.len() {
+        if word.len() > place.len() {
             return Err(FillError::TooLong);
         }
-        buf[..arg.len()].copy_from_slice(arg);
-        Ok(arg.len())
+        Ok(put(word, place))
     }
+}
 
-    fn var(&self, _name: &str, _buf: &mut [u8]) -> Result<usize, FillError> {
-        Err(FillError::NotPresent)
-    }
-
-    fn var_at(&self, _i: usize, _buf: &mut [u8]) -> Result<usize, FillError> {
-        Err(FillError::NotPresent)
-    }
+// Copies a word to the front of a place that has room for it, and returns its length.
+fn put(word: &[u8], place: &mut [u8]) -> usize
+    requires { length word.now ≤ length place.old }
+    ensures within { result ≤ length place.new }
+    ensures put { take result place.new ≡ word.now }
+{
+    place[..word.len()].copy_from_slice(word);
+    word.len()
 }
 
 /// Whether just these words are read behind the name.
-fn are_read(alloc: Global, args: &[&[u8]], wanted: &[&str]) -> bool {
-    let Ok(read) = words(&Called { args }, alloc) else {
+fn are_read(alloc: Global, called: &[&[u8]], wanted: &[&str]) -> bool {
+    let Ok(read) = words(&Called { words: called }, alloc) else {
         return false;
     };
     if read.len() != wanted.len() {
@@ -83,8 +89,8 @@ fn the_words_behind_the_name_are_read(rt: HostRuntime) {
 }
 
 /// Whether the program ends with the usage.
-fn is_usage(alloc: Global, args: &[&[u8]]) -> bool {
-    match words(&Called { args }, alloc) {
+fn is_usage(alloc: Global, called: &[&[u8]]) -> bool {
+    match words(&Called { words: called }, alloc) {
         Err(Status::Usage) => true,
         _ => false,
     }
