@@ -38,6 +38,31 @@ pub struct SectionRef<'a> {
     pub last_update: Moment,
 }
 
+impl SectionRef<'_> {
+    ghost use Rattle.ckpt_types.specs.Reads.{description};
+    ghost use Rattle.ckpt_types.specs.Sections.{section_of, is_present};
+
+    /// Whether the section is present at the moment, which it is while its expiration is above it.
+    pub fn is_present(&self, now: Moment) -> bool
+        ensures { result ≡ is_present now (section_of self.now) }
+    {
+        now < self.expiration
+    }
+
+    /// What an iteration or a show tells of the section.
+    pub fn describe(&self) -> SectionDescriptor
+        ensures { result ≡ description (section_of self.now) }
+    {
+        SectionDescriptor {
+            id: *self.id,
+            expiration: self.expiration,
+            size: self.bytes.len() as u64,
+            state: self.state,
+            last_update: self.last_update,
+        }
+    }
+}
+
 /// What an iteration tells of a section.
 #[derive(Clone, Copy, Debug, PartialEq, Eq)]
 pub struct SectionDescriptor {

@@ -5,7 +5,6 @@ ghost use Rattle.ckpt_types.specs.Sections.{section_of, is_present};
 ghost use Rattle.section_iter.specs.Ids.{ids_in, AreIds};
 
 use crate::ids::push_id;
-use crate::present::is_present;
 use crate::room::Room;
 use ckpt_types::{
     Choice, Moment, NEVER, SECTIONS_ANY, SECTIONS_CORRUPTED, SECTIONS_FOREVER,
@@ -45,7 +44,7 @@ pub(crate) fn keep_chosen<S: Sections>(
 fn is_chosen(choice: &Choice, section: &SectionRef<'_>, now: Moment) -> bool
     ensures { result ≡ (is_present now (section_of section.now) && chooses choice.now (section_of section.now)) }
 {
-    is_present(section, now) && chooses(choice, section)
+    section.is_present(now) && chooses(choice, section)
 }
 
 /// Whether the choice takes the section.

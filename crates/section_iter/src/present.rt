@@ -2,12 +2,11 @@
 ghost use Rattle.std.specs.Prelude.{◌≡◌, ◌+◌, ◌<◌, ◌≤◌, length, drop, IfSome};
 ghost use Rattle.std.specs.Option.{option_map};
 ghost use Rattle.ckpt_types.specs.Reads.{given, description};
-ghost use Rattle.ckpt_types.specs.Sections.{section_of, section_at, is_present, present};
+ghost use Rattle.ckpt_types.specs.Sections.{section_at, present};
 ghost use Rattle.section_iter.specs.Ids.{ids_in, AreIds};
 
 use crate::ids::id_at;
-use ckpt_types::{Moment, SectionDescriptor, SectionRef, Sections};
-use moment_rules::expired;
+use ckpt_types::{Moment, SectionDescriptor, Sections};
 
 /// A section that is present, and the place of its identifier.
 #[derive(Clone, Copy)]
@@ -47,29 +46,9 @@ fn describe_present<S: Sections>(sections: &S, id: &[u8], now: Moment) -> Option
     let _count = sections.len();
     let place = sections.find(id)?;
     let section = sections.at(place);
-    if is_present(&section, now) {
-        Some(describe(&section))
+    if section.is_present(now) {
+        Some(section.describe())
     } else {
         None
     }
-}
-
-/// What is told of a section.
-fn describe(section: &SectionRef<'_>) -> SectionDescriptor
-    ensures { result ≡ description (section_of section.now) }
-{
-    SectionDescriptor {
-        id: *section.id,
-        expiration: section.expiration,
-        size: section.bytes.len() as u64,
-        state: section.state,
-        last_update: section.last_update,
-    }
-}
-
-/// Whether the section is present.
-pub(crate) fn is_present(section: &SectionRef<'_>, now: Moment) -> bool
-    ensures { result ≡ is_present now (section_of section.now) }
-{
-    !expired(section.expiration, now)
 }

@@ -1,6 +1,6 @@
 //! Sections whose bytes stand one behind another in one buffer, with a head for each.
 ghost use Rattle.std.specs.Prelude.{◌≡◌, ◌+◌, ◌≤◌, ◌<◌, ◌^◌, ℕ, List, [], ◌∷◌, ◌++◌, length, vec_capacity};
-ghost use Rattle.ckpt_types.specs.Sections.{Rises, place_of, is_present, present, memory_used, section_of};
+ghost use Rattle.ckpt_types.specs.Sections.{Rises, place_of, present, memory_used, section_of};
 ghost use Rattle.snap_copy.specs.Heads.{section_in, sections_in, IsWithin, AreWithin};
 
 use ckpt_types::{Moment, SectionId, SectionRef, SectionState, Sections, Totals};
@@ -116,17 +116,10 @@ pub(crate) fn totals(bytes: &[u8], heads: &[Head], now: Moment) -> Totals
     let mut used: u128 = 0;
     for head in heads {
         let section = section_in(bytes, head);
-        if is_present(&section, now) {
+        if section.is_present(now) {
             count += 1;
             used += section.bytes.len() as u128;
         }
     }
     Totals { count, bytes: used }
-}
-
-/// Whether the section is present.
-fn is_present(section: &SectionRef<'_>, now: Moment) -> bool
-    ensures { result ≡ is_present now (section_of section.now) }
-{
-    now < section.expiration
 }

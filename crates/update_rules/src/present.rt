@@ -1,10 +1,9 @@
 //! The sections that a rule sees: those that are present at the moment.
 ghost use Rattle.std.specs.Prelude.{◌≡◌};
-ghost use Rattle.ckpt_types.specs.Sections.{Rises, section_of, is_present, present};
+ghost use Rattle.ckpt_types.specs.Sections.{Rises, present};
 ghost use Rattle.update_rules.specs.Present.{size_at};
 
-use ckpt_types::{Moment, SectionRef, Sections};
-use moment_rules::expired;
+use ckpt_types::{Moment, Sections};
 
 /// How many bytes the section of that identifier has, where it is present.
 pub(crate) fn size_present<S: Sections>(sections: &S, id: &[u8], now: Moment) -> Option<u64>
@@ -13,16 +12,9 @@ pub(crate) fn size_present<S: Sections>(sections: &S, id: &[u8], now: Moment) ->
 {
     let place = sections.find(id)?;
     let section = sections.at(place);
-    if is_present(&section, now) {
+    if section.is_present(now) {
         Some(section.bytes.len() as u64)
     } else {
         None
     }
-}
-
-/// Whether the section is present.
-fn is_present(section: &SectionRef<'_>, now: Moment) -> bool
-    ensures { result ≡ is_present now (section_of section.now) }
-{
-    !expired(section.expiration, now)
 }

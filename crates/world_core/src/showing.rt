@@ -1,6 +1,5 @@
 //! What a `show` line lists: the replicas that the nodes keep of a checkpoint.
 ghost use Rattle.std.specs.Prelude.{◌≡◌, ◌<◌, ◌≤◌, ◌+◌, ◌++◌, ◌∷◌, [], IfOk, OnOk, OnErr, length, map, take};
-ghost use Rattle.ckpt_types.specs.Reads.{description};
 ghost use Rattle.ckpt_types.specs.Sections.{section_of, present};
 ghost use Rattle.ckpt_types.specs.Limits.{listed_bytes_max, nodes_max};
 ghost use Rattle.ckpt_machine.specs.Listing.{is_active, section_listed};
@@ -10,11 +9,9 @@ ghost use Rattle.world_core.specs.Happenings.{Adds, TellsReplicas};
 use crate::nodes::Nodes;
 use crate::world::World;
 use ckpt_types::{
-    Bytes, CkptId, LISTED_BYTES_MAX, Moment, NODES_MAX, NodeId, SectionDescriptor, SectionRef,
-    Sections, Vector,
+    Bytes, CkptId, LISTED_BYTES_MAX, Moment, NODES_MAX, NodeId, SectionRef, Sections, Vector,
 };
 use cluster_record::Entry;
-use moment_rules::expired;
 use replica::Replica;
 use run_labels::{
     Label, RunLog, ShownReplica, ShownReplicas, ShownSection, ShownSections, ShownSlot,
@@ -179,7 +176,7 @@ fn add_section(
 ) -> Result<(), AllocError>
     ensures { OnOk result (sections.new.items ≡ sections.old.items ++ map section_listed (present now (section_of section.now ∷ []))) }
 {
-    if expired(section.expiration, now) {
+    if !section.is_present(now) {
         return Ok(());
     }
     let shown = list_section(alloc, section)?;
@@ -192,7 +189,7 @@ fn list_section(alloc: Global, section: &SectionRef<'_>) -> Result<ShownSection,
 {
     let first = Bytes::from_slice(alloc, front(section.bytes))?;
     Ok(ShownSection {
-        descriptor: describe(section),
+        descriptor: section.describe(),
         first,
     })
 }
@@ -205,16 +202,4 @@ fn front(bytes: &[u8]) -> &[u8]
         return bytes;
     }
     &bytes[..LISTED_BYTES_MAX]
-}
-
-fn describe(section: &SectionRef<'_>) -> SectionDescriptor
-    ensures { result ≡ description (section_of section.now) }
-{
-    SectionDescriptor {
-        id: *section.id,
-        expiration: section.expiration,
-        size: section.bytes.len() as u64,
-        state: section.state,
-        last_update: section.last_update,
-    }
 }

@@ -1,5 +1,5 @@
 use Rattle.std.proofs.Common.{rules}
-use Rattle.snap_copy.proofs.heads.is_present.Goals as goal
+use Rattle.ckpt_types.proofs.sections.SectionRef.is_present.Goals as goal
 
 pub returns : goal.returns
 returns c = search rules
