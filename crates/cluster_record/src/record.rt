@@ -10,6 +10,7 @@ ghost use Rattle.cluster_record.specs.Makings.{making_call, making_finished, mak
 ghost use Rattle.cluster_record.specs.Numbers.{numbers_left};
 ghost use Rattle.cluster_record.specs.Opening.{answer_free, answer_named, open_answer, after_open};
 ghost use Rattle.cluster_record.specs.Refusals.{enter_answer, all_taken, plainly, held_by, unlinkable, unlink_answer, retain_answer, unless_another_holds, hold_answer};
+ghost use Rattle.cluster_record.specs.StepDone.{generation_in};
 ghost use Rattle.ckpt_types.specs.Limits.{nodes_max, client_numbers, clients_max, checkpoints_max};
 ghost use Rattle.cluster_record.specs.Places.{find_key};
 ghost use Rattle.cluster_record.specs.RecordReady.{CanBecomeLive, CanOpen, CanCreate, CanRefer, CanReferAt, CanSetActive};
@@ -191,6 +192,16 @@ impl Record {
         ensures kept { IfSome result (λ entry. IsKeptEntry self.now.moment entry.now) }
     {
         find_entry(self.entries.as_slice(), identity)
+    }
+
+    /// The generation of the checkpoint of an identity; 0 where it is gone.
+    pub fn generation_of(&self, identity: CkptId) -> u64
+        ensures { result ≡ generation_in (entry_of identity self.now.entries) }
+    {
+        match self.entry(identity) {
+            None => 0,
+            Some(entry) => entry.generation,
+        }
     }
 
     /// The checkpoint of a name.

@@ -4,8 +4,7 @@ ghost use Rattle.node_msgs.specs.Requests.{ckpt_of};
 ghost use Rattle.node_msgs.specs.Steps.{verb_of};
 ghost use Rattle.cluster_record.specs.DueActive.{active_begun, on_active, active_next, active_request, starts_iteration, is_update, unless_on_hold, unless_changed, weak_request, elements_of_kind, element_taken, active_taken, active_end};
 ghost use Rattle.cluster_record.specs.Ends.{active_outcome, active_told};
-ghost use Rattle.cluster_record.specs.RecordState.{entry_of};
-ghost use Rattle.cluster_record.specs.StepDone.{done_of, generation_in};
+ghost use Rattle.cluster_record.specs.StepDone.{done_of};
 
 use ckpt_types::{AisError, Answer, CallId, Cause, CkptId, ITERATIONS_MAX, NodeId, Outcome};
 use cluster_record::{ActiveKind, MarksMade, Record, refused_end};
@@ -175,7 +174,7 @@ impl ActiveCall {
         };
         match request {
             Request::Mark(_, ckpt) => {
-                let generation = generation_of(cluster, *ckpt);
+                let generation = cluster.generation_of(*ckpt);
                 let left = self.elements();
                 self.marks = Some(MarksMade { generation, left });
             }
@@ -222,16 +221,6 @@ fn unless_changed(marks: &Option<MarksMade>, generation: u64, next: Next) -> Nex
                 ))
             }
         }
-    }
-}
-
-// The generation of a checkpoint; 0 where it is gone.
-fn generation_of(cluster: &Record, ckpt: CkptId) -> u64
-    ensures { result ≡ generation_in (entry_of ckpt cluster.now.entries) }
-{
-    match cluster.entry(ckpt) {
-        None => 0,
-        Some(entry) => entry.generation,
     }
 }
 

@@ -10,7 +10,7 @@ ghost use Rattle.node_msgs.specs.Steps.{verb_of};
 ghost use Rattle.cluster_record.specs.DueSync.{first_unserved, is_unserved, kind_next, lead_next, sync_begun, sync_ended, sync_next, sync_taken, unless_held, unless_stale};
 ghost use Rattle.cluster_record.specs.RecordState.{complete_of, entry_of};
 ghost use Rattle.cluster_record.specs.Ends.{IsAtANode, hold_in, served_done, setting_end, sync_end, sync_outcome, sync_told};
-ghost use Rattle.cluster_record.specs.StepDone.{count_told, counting, done_of, generation_in};
+ghost use Rattle.cluster_record.specs.StepDone.{count_told, counting, done_of};
 
 use ckpt_types::{
     AisError, Answer, CallId, Cause, CkptId, Incarnation, NODES_MAX, NodeId, Outcome,
@@ -179,7 +179,7 @@ impl SyncCall {
     {
         match (request, word) {
             (Request::Pull(_, ckpt), StepReply::Ok) => {
-                let generation = generation_of(cluster, *ckpt);
+                let generation = cluster.generation_of(*ckpt);
                 self.pulled = Some(PulledAt { generation, count });
                 self.served[r as usize] = true;
             }
@@ -278,15 +278,5 @@ fn lead_next(local: NodeId, active: Option<NodeId>) -> Next
                 Next::Event(RecordStep::Hold(r))
             }
         }
-    }
-}
-
-// The generation of a checkpoint; 0 where it is gone.
-fn generation_of(cluster: &Record, ckpt: CkptId) -> u64
-    ensures { result ≡ generation_in (entry_of ckpt cluster.now.entries) }
-{
-    match cluster.entry(ckpt) {
-        None => 0,
-        Some(entry) => entry.generation,
     }
 }

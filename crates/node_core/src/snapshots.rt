@@ -94,7 +94,7 @@ pub(crate) fn install_lent(replica: &mut Replica, ckpt: CkptId, seen: &Record, l
     let Some(snap) = &lent.snap else {
         unreachable!()
     };
-    let present = generation_of(seen, ckpt);
+    let present = seen.generation_of(ckpt);
     if snap.generation() != present {
         return Reply::Stale(snap.generation(), present);
     }
@@ -108,15 +108,5 @@ fn older_reply(told: Result<(), Older>) -> Reply
     match told {
         Ok(()) => Reply::Done(Answer::Nothing),
         Err(older) => Reply::Older(older.generation, older.count),
-    }
-}
-
-// The generation of a checkpoint; 0 where it is gone.
-fn generation_of(seen: &Record, ckpt: CkptId) -> u64
-    ensures { result ≡ generation_in (entry_of ckpt seen.now.entries) }
-{
-    match seen.entry(ckpt) {
-        None => 0,
-        Some(entry) => entry.generation,
     }
 }
