@@ -73,8 +73,8 @@ impl CreationAttributes {
     }
 }
 
-/// Whether the flag is among the flags.
-pub(crate) fn has_flag(flags: u32, flag: u32) -> bool
+/// Whether the flag, one bit, is among the flags.
+pub fn has_flag(flags: u32, flag: u32) -> bool
     ensures { result ≡ has_flag flags flag }
 {
     flags & flag != 0

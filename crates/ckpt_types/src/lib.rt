@@ -25,7 +25,7 @@ mod words;
 pub use ais_error::AisError;
 pub use answers::{Answer, Cause, Given, Outcome};
 pub use apart::Apart;
-pub use attributes::{CreationAttributes, SharedAttributes};
+pub use attributes::{CreationAttributes, SharedAttributes, has_flag};
 pub use bytes::{Bytes, SharedName, name_fits};
 pub use calls::{
     AsyncKind, Callback, CallbackSet, Count, Held, OpenAsk, RaceBlock, RaceLine, Version,

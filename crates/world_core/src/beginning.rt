@@ -1,7 +1,7 @@
 //! What a call answers at its beginning.
 ghost use Rattle.std.specs.Prelude.{◌≡◌, ℕ, ◌<◌, Bool, None, false, not, if◌then◌else◌, pos, int_lt};
 ghost use Rattle.ckpt_types.specs.declared.ais_error.AisError.TheVariants as errors;
-ghost use Rattle.ckpt_types.specs.Attributes.{has_flag, has_bad_open_flags, is_malformed};
+ghost use Rattle.ckpt_types.specs.Attributes.{has_bad_open_flags, is_malformed};
 ghost use Rattle.ckpt_types.specs.Asks.{asked, takes_room};
 ghost use Rattle.ckpt_machine.specs.Beginning.{refused, if_live, version_is_bad, name_is_bad, attributes_are_bad, open_begin, vector_is_bad, update_is_bad, on_handle, may_write, may_read, may_always, choice_is_bad, end_iteration, update_begin, are_of_all, are_not_collocated, timeout_is_bad, if_registered, goes_on_alone, sync_alone, dispatch_begin, sync_begin, begin_end};
 ghost use Rattle.std.specs.Option.{option_or};
@@ -15,7 +15,8 @@ use crate::tables::Tables;
 use ckpt_types::{
     AisError, Answer, Bytes, CHECKPOINT_COLLOCATED, CHECKPOINT_CREATE, Cause, Choice, CkptId,
     CreationAttributes, Given, MAJOR_MAX, MAJOR_MIN, Moment, OPEN_FLAGS_ALL, Op, Outcome,
-    PENDING_MAX, RELEASE, SECTIONS_ANY, Update, VECTOR_MAX, Version, WR_ALL_REPLICAS, name_fits,
+    PENDING_MAX, RELEASE, SECTIONS_ANY, Update, VECTOR_MAX, Version, WR_ALL_REPLICAS, has_flag,
+    name_fits,
 };
 use client_handles::HandleView;
 
@@ -216,12 +217,6 @@ fn has_bad_open_flags(flags: u32) -> bool
     ensures { result ≡ has_bad_open_flags flags }
 {
     flags == 0 || flags > OPEN_FLAGS_ALL
-}
-
-fn has_flag(flags: u32, flag: u32) -> bool
-    ensures { result ≡ has_flag flags flag }
-{
-    flags & flag != 0
 }
 
 fn name_is_bad(name: &Bytes) -> bool
