@@ -239,7 +239,7 @@ OneMore-held call e = elim (can_be_held e) as (λ b. OneMore e (cond b (record e
 
 OneMore-led : (r : ℕ) (e : Entry) → OneMore e (with_active r e)
 OneMore-led r e = elim (can_lead r e) as (λ b. OneMore e (cond b (record e { active = Some r; generation = generation_under r e; hold = None }) e)) [
-  | true ↦ record { few = λ n few c. let a = few c in omega (arith, a); low = elim (is_active r e.active) as (λ b. cond b e.generation (e.generation + 1) ≤ e.generation + 1) [ true ↦ omega arith | false ↦ omega arith ] }
+  | true ↦ record { few = λ n few c. let a = few c in omega (arith, a); low = elim (is_active e.active r) as (λ b. cond b e.generation (e.generation + 1) ≤ e.generation + 1) [ true ↦ omega arith | false ↦ omega arith ] }
   | false ↦ OneMore-same e
 ]
 

@@ -69,22 +69,22 @@ with_active-identity r e = elim (can_lead r e) as (λ b. (cond b (record e { act
 
 -- the generation rises where the active changes, and only there
 pub generation_under-rises : (r : ℕ) (e : Entry) → e.generation ≤ generation_under r e
-generation_under-rises r e = elim (is_active r e.active) as (λ b. e.generation ≤ cond b e.generation (e.generation + 1)) [ true ↦ omega arith | false ↦ omega arith ]
+generation_under-rises r e = elim (is_active e.active r) as (λ b. e.generation ≤ cond b e.generation (e.generation + 1)) [ true ↦ omega arith | false ↦ omega arith ]
 
 -- a node that is told to be the active is
-is_active-true : (r : ℕ) (active : Option ℕ) → is_active r active ≡ true → active ≡ Some r
+is_active-true : (r : ℕ) (active : Option ℕ) → is_active active r ≡ true → active ≡ Some r
 is_active-true r None is = absurd (cc is)
 is_active-true r (Some q) is = ap Some (eqb-true q r is)
 
 pub generation_under-same : (r : ℕ) (e : Entry) → generation_under r e ≡ e.generation → e.active ≡ Some r
-generation_under-same r e same = by_test (is_active r e.active) refl same
+generation_under-same r e same = by_test (is_active e.active r) refl same
   where
-    by_test : (b : Bool) → is_active r e.active ≡ b → cond b e.generation (e.generation + 1) ≡ e.generation → e.active ≡ Some r
+    by_test : (b : Bool) → is_active e.active r ≡ b → cond b e.generation (e.generation + 1) ≡ e.generation → e.active ≡ Some r
     by_test true is same = is_active-true r e.active is
     by_test false other same = absurd (omega (arith, same))
 
 pub generation_under-stays : (r : ℕ) (e : Entry) → e.active ≡ Some r → generation_under r e ≡ e.generation
-generation_under-stays r e active = ap (λ b. cond b e.generation (e.generation + 1)) (ap (is_active r) active ∙ eq-eqb r r refl)
+generation_under-stays r e active = ap (λ b. cond b e.generation (e.generation + 1)) (ap (λ o. is_active o r) active ∙ eq-eqb r r refl)
 
 module _ (m : Machine) (shapes : ℕ → Shape) (inv : InvariantIn shapes m) (s : CallState) (u : SyncState) (held : m.in_hand (who s) ≡ Some s) (is : driver_of s ≡ drivers.Sync u) (local : ℕ) (kind : u.kind ≡ ActiveSet local) where
   -- where its steps have led it

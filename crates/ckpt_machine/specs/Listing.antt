@@ -1,5 +1,5 @@
 -- What a `show` line lists: the replicas of a checkpoint that is made, on its complete nodes.
-use Rattle.std.specs.Prelude.{ℕ, List, Option, Some, None, Bool, false, ◌==◌, ℤ, length, map, take}
+use Rattle.std.specs.Prelude.{ℕ, List, Option, Some, None, ℤ, length, map, take}
 use Rattle.ckpt_types.specs.declared.identities.CallId.{CallId}
 use Rattle.ckpt_types.specs.Limits.{listed_bytes_max}
 use Rattle.ckpt_types.specs.Sections.{Section, present}
@@ -10,14 +10,10 @@ use Rattle.run_labels.specs.declared.shown.ShownSlot.{ShownSlot}
 use Rattle.run_labels.specs.declared.shown.ShownSlot.TheVariants as slots
 use Rattle.cluster_record.specs.declared.entries.Entry.{Entry}
 use Rattle.cluster_record.specs.RecordState.{entry_of}
+pub use Rattle.cluster_record.specs.RecordState.{is_active}
 use Rattle.ckpt_machine.specs.Complete.{complete_replicas}
 use Rattle.weak_marks.specs.Marks.{Marked}
 use Rattle.ckpt_machine.specs.Machine.{Machine, Staged, ReplicaState}
-
--- this node has the active replica
-abbrev pub is_active : Option ℕ → ℕ → Bool
-is_active None r = false
-is_active (Some active) r = active == r
 
 -- the call that owns the slot, or whose marks stand
 abbrev pub slot_listed : Option Staged → Option Marked → ShownSlot

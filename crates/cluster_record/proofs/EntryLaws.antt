@@ -241,7 +241,7 @@ module _ (t : ℤ) (e : Entry) (kept : IsKeptEntry t e) where
           complete = kept.complete;
           references = kept.references;
           active = record { node = omega (arith, within, kept.complete); incarnation = some };
-          generation = let least = kept.generation in elim (is_active r e.active) as (λ b. 1 ≤ cond b e.generation (e.generation + 1)) [ true ↦ least | false ↦ omega arith ];
+          generation = let least = kept.generation in elim (is_active e.active r) as (λ b. 1 ≤ cond b e.generation (e.generation + 1)) [ true ↦ least | false ↦ omega arith ];
           making = unless_none e.making _ (incomplete e r kept.making some);
         }
       where

@@ -275,13 +275,13 @@ abbrev pub can_lead : ℕ → Entry → Bool
 can_lead r e = is_collocated e.attributes && not (slice_index e.complete r == 0)
 
 -- there is an active, and the node is it
-abbrev pub is_active : ℕ → Option ℕ → Bool
-is_active r None = false
-is_active r (Some q) = q == r
+abbrev pub is_active : Option ℕ → ℕ → Bool
+is_active None r = false
+is_active (Some q) r = q == r
 
 -- its generation under this node as active: one more where another was the active before, or none
 abbrev pub generation_under : ℕ → Entry → ℕ
-generation_under r e = if is_active r e.active then e.generation else e.generation + 1
+generation_under r e = if is_active e.active r then e.generation else e.generation + 1
 
 -- a node is its active, and the hold on it ends; nothing changes where the node can't be that
 abbrev pub with_active : ℕ → Entry → Entry

@@ -152,7 +152,7 @@ impl Entry {
         if !self.can_lead(node) {
             return;
         }
-        if !is_active(node, &self.active) {
+        if !is_active(self.active, node) {
             self.generation += 1;
         }
         self.active = Some(node);
@@ -334,13 +334,13 @@ fn first_active(attributes: &CreationAttributes, complete: &[u32; NODES_MAX]) ->
     }
 }
 
-// Whether there is an active, and the node is it.
-fn is_active(node: NodeId, active: &Option<NodeId>) -> bool
-    ensures { result ≡ is_active node active.now }
+/// Whether there is an active, and the node is it.
+pub fn is_active(active: Option<NodeId>, node: NodeId) -> bool
+    ensures { result ≡ is_active active node }
 {
     match active {
         None => false,
-        Some(active) => *active == node,
+        Some(active) => active == node,
     }
 }
 

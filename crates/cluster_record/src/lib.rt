@@ -16,7 +16,7 @@ pub use calls::{ActiveKind, Making, MarksMade, PulledAt, SyncKind, UpdatePhase};
 pub use clients::{LiveClient, number_of};
 pub use deadlines::in_time;
 pub use ends::{is_own, refused_end};
-pub use entries::{Entry, KeptName};
+pub use entries::{Entry, KeptName, is_active};
 pub use opening::{OpenAnswer, accepts};
 pub use placement::is_collocated;
 pub use record::{Record, RecordRefused};

@@ -8,9 +8,9 @@ ghost use Rattle.world_core.specs.declared.world.Event.TheVariants as happenings
 ghost use Rattle.world_core.specs.Runs.{Happens, IsRunTo};
 ghost use Rattle.session_run.specs.Growing.{GrowsBy, GrowsTowards, GrowsToPuts};
 ghost use Rattle.session_run.specs.Puts.{active_in, ArePuts, is_pulled, IsPropagation, other_nodes, takes_put, tells_pulled};
-ghost use Rattle.ckpt_machine.specs.Listing.{is_active};
 
 use ckpt_types::{CkptId, Incarnation, NODES_MAX, NodeId};
+use cluster_record::is_active;
 use run_labels::{Label, PullReply, RunLog};
 use std::alloc::{AllocError, Global};
 use world_core::{Event, World};
@@ -117,15 +117,6 @@ fn takes_put(complete: &[Incarnation; NODES_MAX], active: Option<NodeId>, r: Nod
     ensures { result ≡ takes_put complete.now active r }
 {
     complete[r as usize] != 0 && !is_active(active, r)
-}
-
-fn is_active(active: Option<NodeId>, r: NodeId) -> bool
-    ensures { result ≡ is_active active r }
-{
-    match active {
-        None => false,
-        Some(active) => active == r,
-    }
 }
 
 // A put at the node, where it takes one.

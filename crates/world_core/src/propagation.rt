@@ -13,11 +13,10 @@ ghost use Rattle.world_core.specs.Shows.{IsShown};
 
 use crate::nodes::Nodes;
 use crate::options::is_all;
-use crate::showing::is_active;
 use crate::snapshots::Snapshots;
 use crate::world::World;
 use ckpt_types::{CkptId, NodeId};
-use cluster_record::{Entry, Record};
+use cluster_record::{Entry, Record, is_active};
 use replica::Replica;
 use run_labels::{Label, PullReply, PutReply, RunLog};
 

@@ -2,7 +2,7 @@
 ghost use Rattle.std.specs.Prelude.{◌≡◌, ◌<◌, ◌≤◌, ◌+◌, ◌++◌, ◌∷◌, [], IfOk, OnOk, OnErr, length, map, take};
 ghost use Rattle.ckpt_types.specs.Sections.{section_of, present};
 ghost use Rattle.ckpt_types.specs.Limits.{listed_bytes_max, nodes_max};
-ghost use Rattle.ckpt_machine.specs.Listing.{is_active, section_listed};
+ghost use Rattle.ckpt_machine.specs.Listing.{section_listed};
 ghost use Rattle.world_core.specs.Listing.{kept_slot_listed, kept_replica_listed, node_listed, nodes_listed, made_listed, world_listing};
 ghost use Rattle.world_core.specs.Happenings.{Adds, TellsReplicas};
 
@@ -11,7 +11,7 @@ use crate::world::World;
 use ckpt_types::{
     Bytes, CkptId, LISTED_BYTES_MAX, Moment, NODES_MAX, NodeId, SectionRef, Sections, Vector,
 };
-use cluster_record::Entry;
+use cluster_record::{Entry, is_active};
 use replica::Replica;
 use run_labels::{
     Label, RunLog, ShownReplica, ShownReplicas, ShownSection, ShownSections, ShownSlot,
@@ -125,15 +125,6 @@ fn list_replica(
         slot: list_slot(replica.slot(), replica.marks()),
         sections,
     })
-}
-
-pub(crate) fn is_active(active: Option<NodeId>, r: NodeId) -> bool
-    ensures { result ≡ is_active active r }
-{
-    match active {
-        None => false,
-        Some(active) => active == r,
-    }
 }
 
 fn list_slot(slot: &Slot, marks: &Marks) -> ShownSlot
