@@ -102,8 +102,8 @@ fn put_at(bytes: &mut [u8], from: usize, other: &[u8])
     bytes[from..from + other.len()].copy_from_slice(other);
 }
 
-/// Adds bytes within the room that was taken.
-fn extend_reserved(bytes: &mut Vec<u8>, more: &[u8])
+/// Adds bytes behind the others, within the room that was taken. It takes no memory.
+pub fn extend_reserved(bytes: &mut Vec<u8>, more: &[u8])
     requires { length bytes.old.items + length more.now ≤ vec_capacity bytes.old }
     ensures items { bytes.new.items ≡ bytes.old.items ++ more.now }
     ensures capacity { vec_capacity bytes.old ≤ vec_capacity bytes.new }

@@ -26,6 +26,7 @@ pub use ais_error::AisError;
 pub use answers::{Answer, Cause, Given, Outcome};
 pub use apart::Apart;
 pub use attributes::{CreationAttributes, SharedAttributes, has_flag};
+pub use byte_room::extend_reserved;
 pub use bytes::{Bytes, SharedName, name_fits};
 pub use calls::{
     AsyncKind, Callback, CallbackSet, Count, Held, OpenAsk, RaceBlock, RaceLine, Version,

@@ -5,7 +5,7 @@ ghost use Rattle.ckpt_types.specs.Limits.{section_id_max};
 ghost use Rattle.section_iter.specs.Ids.{ids_in, AreIds};
 
 use crate::room::Room;
-use ckpt_types::SectionId;
+use ckpt_types::{SectionId, extend_reserved};
 use std::alloc::{AllocError, Global};
 
 /// An empty list of bytes, with room for all that so many identifiers of so many bytes have.
@@ -45,17 +45,6 @@ pub(crate) fn push_id(bytes: &mut Vec<u8>, ends: &mut Vec<u32>, id: SectionId)
     extend_reserved(bytes, id.as_slice());
     let end = bytes.as_slice().len();
     ends.push_reserved(end as u32);
-}
-
-/// Adds bytes within the room that was taken.
-fn extend_reserved(bytes: &mut Vec<u8>, more: &[u8])
-    requires { length bytes.old.items + length more.now ≤ vec_capacity bytes.old }
-    ensures items { bytes.new.items ≡ bytes.old.items ++ more.now }
-    ensures capacity { vec_capacity bytes.old ≤ vec_capacity bytes.new }
-{
-    let Ok(()) = bytes.extend_from_slice(more) else {
-        unreachable!()
-    };
 }
 
 /// The identifier at a place.

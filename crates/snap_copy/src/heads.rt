@@ -3,7 +3,7 @@ ghost use Rattle.std.specs.Prelude.{◌≡◌, ◌+◌, ◌≤◌, ◌<◌, ◌^
 ghost use Rattle.ckpt_types.specs.Sections.{Rises, place_of, present, memory_used, section_of};
 ghost use Rattle.snap_copy.specs.Heads.{section_in, sections_in, IsWithin, AreWithin};
 
-use ckpt_types::{Moment, SectionId, SectionRef, SectionState, Sections, Totals};
+use ckpt_types::{Moment, SectionId, SectionRef, SectionState, Sections, Totals, extend_reserved};
 
 /// What is kept of a section beside its bytes, and where these stand.
 #[derive(Debug, Drop)]
@@ -80,17 +80,6 @@ fn head_of(section: &SectionRef<'_>, start: usize, end: usize) -> Head
         state: section.state,
         last_update: section.last_update,
     }
-}
-
-/// Adds bytes within the room that was taken.
-fn extend_reserved(bytes: &mut Vec<u8>, more: &[u8])
-    requires { length bytes.old.items + length more.now ≤ vec_capacity bytes.old }
-    ensures items { bytes.new.items ≡ bytes.old.items ++ more.now }
-    ensures capacity { vec_capacity bytes.old ≤ vec_capacity bytes.new }
-{
-    let Ok(()) = bytes.extend_from_slice(more) else {
-        unreachable!()
-    };
 }
 
 /// The place of the section of that identifier, whatever the bytes are.
