@@ -13,8 +13,6 @@ mod std_sink;
 mod std_source;
 mod sure_sink;
 mod sure_source;
-#[cfg(test)]
-mod tests;
 
 pub use failed::Failed;
 pub use gate::{Gate, OpenGate};

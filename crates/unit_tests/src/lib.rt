@@ -20,6 +20,8 @@ mod scripts;
 #[cfg(test)]
 mod store;
 #[cfg(test)]
+mod streams;
+#[cfg(test)]
 mod types;
 #[cfg(test)]
 mod words;

@@ -1,19 +1,9 @@
-//! Sources, sinks and gates at work, and streams that fail.
-use super::*;
-use crate::counted::{read_counted, write_counted};
-use std::io;
-use std::io::{ErrorKind, Read};
+//! Sources, sinks and gates at work, and those in memory where they fail.
+use outside_io::{
+    Failed, Gate, MemSink, MemSource, OpenGate, Sink, Source, StdSink, StdSource, SureSink,
+    SureSource,
+};
 use std::test::Fail;
-
-// A reader of std whose every read fails.
-#[derive(Drop)]
-struct Broken;
-
-impl Read for Broken {
-    fn read(&mut self, _buf: &mut [u8]) -> io::Result<usize> {
-        Err(io::Error::from(ErrorKind::Other))
-    }
-}
 
 // Reads once and writes what came, at any source and sink.
 fn pass_on<S: Source, K: Sink>(source: &mut S, sink: &mut K) -> Result<usize, Failed> {
@@ -104,26 +94,4 @@ fn standard_output_takes_an_empty_piece_and_a_line(rt: HostRuntime) {
     let mut sink = StdSink::new(rt.stdout());
     assert_eq!(rt; sink.write(b""), Ok(0));
     assert_eq!(rt; sink.write(b"\n"), Ok(1));
-}
-
-#[test]
-fn each_failure_of_a_stream_is_counted_until_the_count_stands_still(rt: HostRuntime) {
-    let mut faults = 0;
-    assert_eq!(rt;
-        read_counted(&mut Broken, &mut [0; 2], &mut faults),
-        Err(Failed)
-    );
-    assert_eq!(rt; faults, 1, "a read that failed");
-    let mut place = [0; 1];
-    let mut room: &mut [u8] = &mut place;
-    assert_eq!(rt; write_counted(&mut room, b"ab", &mut faults), Ok(1));
-    assert_eq!(rt; faults, 1, "a short write");
-    assert_eq!(rt; write_counted(&mut room, b"b", &mut faults), Err(Failed));
-    assert_eq!(rt; faults, 2, "a write that took nothing");
-    let mut most = u64::MAX;
-    assert_eq!(rt;
-        read_counted(&mut Broken, &mut [0; 2], &mut most),
-        Err(Failed)
-    );
-    assert_eq!(rt; most, u64::MAX, "the last value");
 }
