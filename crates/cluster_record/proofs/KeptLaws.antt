@@ -2,6 +2,7 @@
 use Rattle.std.proofs.Common.{◌≡◌, ◌≢◌, ℕ, ◌+◌, ◌<◌, ◌≤◌, ◌-◌, List, [], ◌∷◌, ◌++◌, length, filter, map, All, Some, None, Bool, true, false, cond, ◌==◌, refl, sym, ap, subst, ◌∙◌, arith, length-append, Bor}
 use Rattle.std.specs.Prelude.{Option, IfSome, MatchOption, ℤ, ◌≤ℤ◌, slice_set, slice_index, vec_capacity}
 use Rattle.std.proofs.lemmas.Bool.{eqb-true}
+use Rattle.std.proofs.lemmas.Int.{ints}
 use Rattle.std.proofs.lemmas.List.{length-map}
 use Rattle.std.proofs.lemmas.List.Elements.{All-cons, All-head, All-tail, All-filter, All-map, All-push, All-weaker}
 use Rattle.std.proofs.lemmas.List.Kept.{AllPairs-filter}
@@ -12,7 +13,7 @@ use Rattle.name_table.proofs.TableLemmas.{EachOnce-filter}
 use Rattle.cluster_record.specs.declared.entries.Entry.{Entry}
 use Rattle.cluster_record.specs.declared.clients.LiveClient.{LiveClient}
 use Rattle.cluster_record.specs.declared.record.Record.TheInside.{Inside}
-use Rattle.cluster_record.specs.Kept.{IsKeptEntry, IsKeptClient, AreKeptClients}
+use Rattle.cluster_record.specs.Kept.{IsKeptEntry, IsKeptClient, AreKeptClients, HasTimes}
 use Rattle.cluster_record.specs.NamesOf.{names_of, without_gone}
 use Rattle.cluster_record.specs.Places.{find_key, change_key}
 use Rattle.cluster_record.specs.LookUps.{identity_in}
@@ -155,6 +156,12 @@ kept-changed old new f k kept name identity go items capacity same = subst IsKep
   entries = subst (AreKeptEntries old.moment old.last_identity) (sym items) (entries-changed old.moment old.last_identity old.entries.items kept.entries f k name identity go);
   names = kept.names ∙ changed-is f name identity k old.entries.items new.entries.items items;
 })
+
+-- the times by which the retentions go
+pub kept-times : (r : Inside) → IsKept r → All HasTimes r.entries.items
+kept-times r kept = All-weaker (IsKeptEntry r.moment) HasTimes each r.entries.items kept.entries.each where
+  each : (e : Entry) → IsKeptEntry r.moment e → HasTimes e
+  each e is = record { made = is.made; idle = let a = is.made in let b = is.idle in omega (arith, ints, a, b); retention = is.retention }
 
 -- where some go, and their names
 pub kept-left : (old new : Inside) (p : Entry → Bool) → IsKept old →

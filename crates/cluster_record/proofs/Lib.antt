@@ -2,7 +2,6 @@ pub mod AtKeys
 pub mod IdentityLaws
 pub mod NumberLaws
 pub mod Places
-pub mod Retention
 pub mod MakingLaws
 pub mod MakingCounts
 pub mod NameLaws

@@ -46,6 +46,12 @@ pub record IsKeptEntry (t : ℤ) (e : Entry) : Type 0 where
   pub generation : 1 ≤ e.generation
   pub making : IfSome e.making (λ call. IsMakingBy call e)
 
+-- it was made, and closed last, from the start on, and what it stays for behind that is no time or a longer one
+pub record HasTimes (e : Entry) : Type 0 where
+  pub made : pos 0 ≤ℤ e.made
+  pub idle : pos 0 ≤ℤ e.idle
+  pub retention : pos 0 ≤ℤ e.retention
+
 -- ---- a live client
 
 -- one that a script may name, on one of the nodes

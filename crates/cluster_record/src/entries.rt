@@ -1,11 +1,12 @@
 //! What the record keeps of each checkpoint, what a step makes of it, and when it is due to go.
-ghost use Rattle.std.specs.Prelude.{◌≡◌, ◌+◌, ◌-◌, ◌^◌, ◌<◌, ◌≤◌, Some, None, IfSome, IfOk, MatchOption, length, filter, is_some, map, not, ◌&&◌, ◌==◌, remove, slice_get, slice_index, slice_set, vec_capacity};
+ghost use Rattle.std.specs.Prelude.{All, ◌≡◌, ◌+◌, ◌-◌, ◌^◌, ◌<◌, ◌≤◌, Some, None, IfSome, IfOk, MatchOption, length, filter, is_some, map, not, ◌&&◌, ◌==◌, remove, slice_get, slice_index, slice_set, vec_capacity};
 ghost use Rattle.std.specs.List.{list_any, list_all};
 ghost use Rattle.ckpt_types.specs.Limits.{name_max, checkpoints_max};
-ghost use Rattle.moment_rules.specs.Times.{sum_until_end, is_reached};
+ghost use Rattle.moment_rules.specs.Times.{is_reached};
 ghost use Rattle.cluster_record.specs.Numbers.{may_rise, entry_may_rise};
 ghost use Rattle.cluster_record.specs.Changes.{changed_by, CanChange};
 ghost use Rattle.cluster_record.specs.Makings.{makings_of};
+ghost use Rattle.cluster_record.specs.Kept.{HasTimes};
 ghost use Rattle.cluster_record.specs.NamesOf.{stays_by, without_name, without_gone};
 ghost use Rattle.cluster_record.specs.Places.{change_key, place_key};
 ghost use Rattle.cluster_record.specs.RecordState.{no_nodes, no_references, identity_of, entry_of, first_active, first_complete, retained_until, stays, has_references, referred, joined, opened_with, made_with, idle_from, unreferred, released_all, is_call_of, can_be_held, with_hold, can_lead, is_active, with_active};
@@ -15,7 +16,7 @@ use ckpt_types::{
     ActorName, Bytes, CHECKPOINTS_MAX, CLIENT_NUMBERS, CallId, CkptId, CreationAttributes, Moment,
     NODES_MAX, NodeId, SectionId,
 };
-use moment_rules::reached;
+use moment_rules::{add_until, reached};
 use name_table::Names;
 use std::alloc::{AllocError, Global};
 
@@ -210,13 +211,15 @@ impl Entry {
 
     // Whether it has a name, and is not past its retention.
     fn is_retained(&self, now: Moment) -> bool
+        requires { HasTimes self.now }
         ensures { result ≡ (is_some self.now.name && not (is_reached (retained_until self.now) now)) }
     {
-        self.name.is_some() && !is_over(self.idle, self.retention, now)
+        self.name.is_some() && !reached(add_until(self.idle, self.retention), now)
     }
 
     // Whether the sweep leaves it. The name is looked at first: what nobody has open has no reference in the whole list.
     fn stays(&self, now: Moment) -> bool
+        requires { HasTimes self.now }
         ensures { result ≡ stays now self.now }
     {
         self.is_retained(now) || self.making.is_some() || self.has_references()
@@ -314,13 +317,6 @@ pub(crate) fn entries_may_rise(entries: &[Entry]) -> bool
     ensures { result ≡ list_all entry_may_rise entries.now }
 {
     entries.iter().all(|entry| entry.may_rise())
-}
-
-// Whether so long a duration is over since a moment. A sum below what is counted has come like the least that is.
-fn is_over(from: Moment, duration: i64, now: Moment) -> bool
-    ensures { result ≡ is_reached (sum_until_end from duration) now }
-{
-    reached(from.saturating_add(duration), now)
 }
 
 // Its active behind its making, by the nodes on which it is complete: the lowest, and none of a collocated one.
@@ -458,6 +454,7 @@ pub(crate) enum Staying {
 
 impl Staying {
     fn keeps(self, entry: &Entry) -> bool
+        requires { HasTimes entry.now }
         ensures { result ≡ stays_by self entry.now }
     {
         match self {
@@ -495,6 +492,7 @@ pub(crate) fn makings_in(entries: &[Entry], client: u8) -> usize
 /// nothing is moved.
 #[inline(always)]
 pub(crate) fn keep_only(entries: &mut Vec<Entry>, names: &mut Names, staying: Staying)
+    requires { All HasTimes entries.old.items }
     ensures items { entries.new.items ≡ filter (stays_by staying) entries.old.items }
     ensures capacity { vec_capacity entries.new ≡ vec_capacity entries.old }
     ensures names { names.new ≡ without_gone (stays_by staying) entries.old.items names.old }

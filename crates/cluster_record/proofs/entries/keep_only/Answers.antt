@@ -1,8 +1,10 @@
-use Rattle.std.proofs.Common.{◌≡◌, ◌<◌, ℕ, suc, drop, filter, length, List, Some, Bool, false, sym, subst, ap, ◌∙◌, arith}
-use Rattle.std.specs.Prelude.{IfSome, remove, slice_get}
+use Rattle.std.proofs.Common.{◌≡◌, ◌<◌, ℕ, suc, take, drop, filter, length, List, Some, Bool, false, sym, subst, ap, ◌∙◌, arith}
+use Rattle.std.specs.Prelude.{All, IfSome, remove, slice_get}
+use Rattle.std.proofs.lemmas.List.Elements.{All-append, All-drop, All-take}
 use Rattle.std.proofs.lemmas.Option.{get_or_from_slice_get}
 use Rattle.name_table.specs.Table.{NamedCkpt}
 use Rattle.cluster_record.specs.declared.entries.Entry.{Entry}
+use Rattle.cluster_record.specs.Kept.{HasTimes}
 use Rattle.cluster_record.specs.NamesOf.{stays_by, without_gone, without_name}
 use Rattle.cluster_record.proofs.Places.{there_is}
 use Rattle.cluster_record.proofs.Walking.{walked, walked-goes, names-goes}
@@ -26,4 +28,5 @@ loop-place-preserved c =
           ∙ names-goes p es i e c.loop-place.names is goes
           ∙ c.loop-place.invariant.names;
       capacity = c.take_gone.ensures.capacity ∙ c.loop-place.invariant.capacity;
+      times = subst (All HasTimes) (sym c.take_gone.ensures.items) (All-append HasTimes (take i es) (drop (suc i) es) (All-take HasTimes i es c.loop-place.invariant.times) (All-drop HasTimes (suc i) es c.loop-place.invariant.times));
     }
