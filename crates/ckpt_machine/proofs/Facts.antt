@@ -27,7 +27,7 @@ use Rattle.cluster_record.specs.declared.calls.SyncKind.{SyncKind}
 use Rattle.cluster_record.specs.declared.calls.SyncKind.TheVariants.{Synchronize, ActiveSet}
 use Rattle.cluster_record.specs.declared.calls.PulledAt.{PulledAt}
 use Rattle.cluster_record.specs.DueUpdate.{UpdateState, by_phase, stage_at, commit_at, commit_first, update_led, update_next, update_on}
-use Rattle.cluster_record.specs.RecordState.{entry_of, named}
+use Rattle.cluster_record.specs.RecordState.{entry_of, named, is_live, can_be_held, can_lead}
 use Rattle.cluster_record.specs.StepDone.{has, first_lacking, last_having}
 use Rattle.ckpt_types.specs.Asks.{asked, update_asked, update_of, IsBuiltAsk, IsBuilt}
 use Rattle.ckpt_machine.specs.Drivers.{Driver, Rooms}
@@ -37,7 +37,7 @@ use Rattle.ckpt_machine.specs.Machine.{Machine, CallState, who}
 use Rattle.node_core.specs.Fitting.{IsReadyFor}
 use Rattle.ckpt_machine.specs.Options.{is_all}
 use Rattle.ckpt_machine.specs.Steps.{due, driver_of, room_in, room_at, rooms_of, seen_at, seen, seen_slot}
-use Rattle.ckpt_machine.specs.Facts.{IsActive, IsAtRest, IsLeadable, IsServable, IsEventReady, IsStarting, IsGoingOn, HasCopyRoom, Facts}
+use Rattle.ckpt_machine.specs.Facts.{IsActive, IsAtRest, IsLeadable, IsServable, IsEventReady, IsStarting, IsGoingOn, HasCopyRoom, HasLiveMarker, Facts}
 use Rattle.ckpt_machine.specs.InHand.{MarksFit, IsEnterAt, IsOnceAt, IsInPlace, IsActiveIn, is_held_by, IsSynchronizeIn, IsSettingIn}
 use Rattle.ckpt_machine.specs.Invariant.{InvariantIn, Invariant}
 use Rattle.ckpt_machine.specs.Guards.{deadline_of}
@@ -49,15 +49,16 @@ use Rattle.ckpt_machine.proofs.Active.{marked_free}
 use Rattle.ckpt_machine.proofs.ActiveNode.{AsksOf, by_kind as asks_of_kind, is_change, ActiveOf, active_of, active_seen, active_next-there}
 use Rattle.ckpt_machine.proofs.ActiveBy.{active_by-complete}
 use Rattle.ckpt_machine.proofs.Actors.{same_call-true, same_call-refl}
-use Rattle.ckpt_machine.proofs.MarksAt.{none_marked}
+use Rattle.ckpt_machine.proofs.MarksAt.{marks_here, none_marked}
 use Rattle.ckpt_machine.proofs.NodeLists.{index-within}
-use Rattle.ckpt_machine.proofs.SettingActive.{at_setting, spread, on_complete, complete_here, own_hold}
+use Rattle.ckpt_machine.proofs.SettingActive.{at_setting, spread, collocated, on_complete, complete_here, own_hold}
 use Rattle.cluster_record.specs.Calls.{same_call}
 use Rattle.cluster_record.specs.Placement.{is_collocated}
 use Rattle.std.proofs.lemmas.Option.{same_Some}
 use Rattle.ckpt_machine.proofs.Deadlines.{in_time-either}
 use Rattle.ckpt_machine.proofs.Installing.{below, free_there}
-use Rattle.ckpt_machine.proofs.OnTheActive.{apart}
+use Rattle.ckpt_machine.proofs.OnTheActive.{apart, marker_live}
+use Rattle.weak_marks.specs.Marks.{Marked, call_of}
 use Rattle.ckpt_machine.proofs.Sync.{at_sync, has_pulled}
 use Rattle.ckpt_machine.proofs.Weak.{marks_ready}
 use Rattle.replica.specs.Replicas.{IsWrite}
@@ -272,6 +273,9 @@ module _ (m : Machine) (shapes : ℕ → Shape) (inv : InvariantIn shapes m) (s 
     spread_is : IsSpread m u.ckpt (shapes u.ckpt) e
     spread_is = spread m shapes inv s u held is local kind e found
 
+    collocated_is : is_collocated e.attributes ≡ true
+    collocated_is = collocated m shapes inv s u held is local kind e found
+
     -- its replica is at rest, where something is in its hand
     rests : IsSome s.snapshot → IfSome (m.replicas u.ckpt local) IsAtRest
     rests some =
@@ -291,13 +295,33 @@ module _ (m : Machine) (shapes : ℕ → Shape) (inv : InvariantIn shapes m) (s 
         by_hold (Some d) holds = ap (λ c. same_call c s.call) (own d holds) ∙ same_call-refl s.call
 
     lead_ready : ((d : CallId) → e.hold ≡ Some d → d ≡ s.call) → IsDueReady m s (drivers.Sync u) (Event (events.Activate local))
-    lead_ready own = (sets.within, setting_room, IsSomeAnd-from (entry_of u.ckpt m.cluster.entries) (λ e. IsLeadable m s u.ckpt local e) e found (record { rest = rests; held = in_hand_is own }))
+    lead_ready own = (
+      sets.within,
+      setting_room,
+      IsSomeAnd-from (entry_of u.ckpt m.cluster.entries) (λ e. IsLeadable m s u.ckpt local e) e found (record { rest = rests; held = in_hand_is own }),
+      IsSomeAnd-from (entry_of u.ckpt m.cluster.entries) (λ e. can_lead local e ≡ true) e found (let complete = complete_here m shapes inv s u held is local kind e found in λ i. collocated_is i && not (complete i)),
+    )
+
+    -- the call whose marks stand is live
+    marker_is : (o : Option Marked) → (shapes u.ckpt).marks ≡ o → IfSome (call_of o) (λ by. is_live m.cluster by ≡ true)
+    marker_is None none = tt
+    marker_is (Some marks) stand = marker_live m shapes u.ckpt marks inv (spread_is.marked marks stand)
 
     hold_ready : (r : ℕ) → e.active ≡ Some r → e.hold ≡ None → IsDueReady m s (drivers.Sync u) (Event (events.Hold r))
     hold_ready r active free =
         let complete = active_by-complete (is_collocated e.attributes) (is_all e.attributes) e.complete e.active spread_is.active r active in
         let at = on_complete m shapes inv s u held is local kind e found r complete in
-        (subst (λ (n : ℕ). r < n) spread_is.nodes (index-within e.complete r complete), ap (λ o. is_some o) at.there, setting_room, IsSomeAnd-from (entry_of u.ckpt m.cluster.entries) (λ e. e.hold ≡ None) e found free)
+        let marks : at.replica.marks ≡ (shapes u.ckpt).marks = at.apart.marks_are ∙ marks_here e.active (shapes u.ckpt).marks r active in (
+          subst (λ (n : ℕ). r < n) spread_is.nodes (index-within e.complete r complete),
+          ap (λ o. is_some o) at.there,
+          setting_room,
+          IsSomeAnd-from (entry_of u.ckpt m.cluster.entries) (λ e. e.hold ≡ None) e found free,
+          record {
+            call = sets.call;
+            can = IsSomeAnd-from (entry_of u.ckpt m.cluster.entries) (λ e. can_be_held e ≡ true) e found (λ i. collocated_is i && is_some (active i));
+            marker = IsSomeAnd-from (m.replicas u.ckpt r) (HasLiveMarker m.cluster) at.replica at.there (subst (λ o. IfSome (call_of o) (λ by. is_live m.cluster by ≡ true)) (sym marks) (marker_is (shapes u.ckpt).marks refl));
+          },
+        )
 
     by_active : e.hold ≡ None → (o : Option ℕ) → e.active ≡ o → IsDueReady m s (drivers.Sync u) (lead_next local o)
     by_active free None active = lead_ready (λ d holds. absurd (let w : None ≡ Some d = sym free ∙ holds in cc w))
@@ -403,6 +427,7 @@ facts m inv = record {
   driven = λ a s here. (inv.holds.hands a s here).driven;
   rises = inv.holds.rises;
   up_to = inv.holds.up_to;
+  stay = inv.holds.swept;
   rest = inv.holds.rest;
   ready = λ a s r request here is. let ready = ready_for m inv a s (Serve r request) here is in (ready.0, ready.1);
   moments = λ a s r call k t here is free. (ready_for m inv a s (Serve r (requests.Stage call k t)) here is).2 free;

@@ -35,10 +35,10 @@ use Rattle.cluster_record.proofs.MakingLaws.{making-own}
 use Rattle.cluster_record.proofs.MakingCounts.{one_if, is_call_of-own, makings_of-gone}
 use Rattle.ckpt_machine.specs.Drivers as drivers
 use Rattle.ckpt_machine.specs.Driving.{driver_next}
-use Rattle.ckpt_machine.specs.Facts.{IsServable, IsReservable, IsFinishable, IsAddable, FitsOpen, IsEventReady}
+use Rattle.ckpt_machine.specs.Facts.{IsServable, IsReservable, IsFinishable, IsAddable, FitsOpen, HasLiveMaker, IsEventReady}
 use Rattle.ckpt_machine.specs.Entries.{IsMakingEntry}
 use Rattle.ckpt_machine.specs.InHand.{AreGoodAttributes, attributes_asked, is_enter, IsMakingIn, IsOpenIn}
-use Rattle.ckpt_machine.specs.Invariant.{IsGoodIn, IsGoodClient, InvariantIn}
+use Rattle.ckpt_machine.specs.Invariant.{IsGoodIn, IsGoodClient, IsMaker, InvariantIn}
 use Rattle.ckpt_machine.specs.Machine.{Machine, CallState, who}
 use Rattle.ckpt_machine.specs.Steps.{due, driver_of, rooms_of}
 use Rattle.ckpt_machine.specs.Shape.{Shape}
@@ -144,9 +144,17 @@ module _ (m : Machine) (shapes : ℕ → Shape) (inv : InvariantIn shapes m) (s 
           let making : IsSome e.making = subst (λ o. IsSomeAnd o (λ (x : Entry). IsSome x.making)) there (inv.reserves e.identity (home_of o.ask.client m.cluster) n some) in
           absurd (let w : false ≡ true = sym (ap (λ o. is_some o) made) ∙ making in cc w)
 
+  -- the call that is making it, if one is, is live
+  maker_live : (e : Entry) → named o.ask.name m.cluster.entries ≡ Some e → (maker : Option CallId) → e.making ≡ maker → IfSome maker (λ by. is_live m.cluster by ≡ true)
+  maker_live e found None made = tt
+  maker_live e found (Some by) made_by =
+      let there : entry_of e.identity m.cluster.entries ≡ Some e = entry_of-find _ m.cluster.entries e inv.rises found in
+      let maker : IsMaker m e.identity by = (subst (IsGoodIn m e.identity (shapes e.identity) e) made_by (inv.entries e.identity e there)).1 in
+      ap (is_live m.cluster) (sym maker.call_is) ∙ (inv.hands (who maker.state) maker.state maker.in_hand).live (ap is_enter maker.driver_is)
+
   -- the record is asked to open what has the attributes asked for, where it is made
   asked_ready : (e : Entry) → named o.ask.name m.cluster.entries ≡ Some e → (e.making ≡ None → accepts o.ask.attrs e ≡ true) → IsReadyOpen m s o (Event events.Open)
-  asked_ready e found takes = (IsSomeAnd-from (named o.ask.name m.cluster.entries) (FitsOpen m o.ask) e found (λ made. (takes made, addable e found made)), can_open, at_open.caller)
+  asked_ready e found takes = (IsSomeAnd-from (named o.ask.name m.cluster.entries) (FitsOpen m o.ask) e found (λ made. (takes made, addable e found made)), can_open, at_open.caller, IsSomeAnd-from (named o.ask.name m.cluster.entries) (HasLiveMaker m.cluster) e found (maker_live e found e.making refl))
 
   -- one that is made is opened where it has the attributes asked for and there is room for the handle
   made_ready : (room accepted : Bool) (e : Entry) → accepts o.ask.attrs e ≡ accepted → named o.ask.name m.cluster.entries ≡ Some e → IsReadyOpen m s o (cond (not accepted) (End (Refused Exist Plain)) (cond (not room) (End (Refused NoResources (Count 32))) (Event events.Open)))

@@ -23,11 +23,14 @@ use Rattle.cluster_record.specs.declared.entries.Entry.{Entry}
 use Rattle.cluster_record.specs.Calls.{IsClient, client_of}
 use Rattle.cluster_record.specs.Identities.{IdentitiesRise, AllUpTo}
 use Rattle.cluster_record.specs.Placement.{targets}
-use Rattle.cluster_record.specs.RecordState.{RecordState, entry_of, home_of, named, is_up, is_live_client}
+use Rattle.cluster_record.specs.DueSync.{SyncState}
+use Rattle.cluster_record.specs.RecordState.{RecordState, entry_of, home_of, named, is_up, is_live, is_live_client, can_be_held, can_lead}
+use Rattle.weak_marks.specs.Marks.{call_of}
 use Rattle.node_msgs.specs.Requests.{ckpt_of}
 use Rattle.node_core.specs.Fitting.{IsReadyFor}
 use Rattle.replica.specs.Replicas.{IsWrite}
 use Rattle.ckpt_machine.specs.Driving.{making_in}
+use Rattle.ckpt_machine.specs.Entries.{AllStay}
 use Rattle.cluster_record.specs.RecordReady.{CanBecomeLive, CanOpen}
 use Rattle.ckpt_types.specs.Asks.{asked, update_of, IsBuilt}
 use Rattle.client_handles.specs.ClientState.{NoneLent, has_handle_room}
@@ -91,6 +94,20 @@ pub record IsLeadable (m : Machine) (s : CallState) (k r : ℕ) (e : Entry) : Ty
   pub rest : IsSome s.snapshot → IfSome (m.replicas k r) IsAtRest
   pub held : is_some s.snapshot ≡ is_some e.hold
 
+-- the call that is making a checkpoint, if one is, is live
+abbrev pub HasLiveMaker : RecordState → Entry → Type 0
+HasLiveMaker R e = IfSome e.making (λ by. is_live R by ≡ true)
+
+-- so is the call whose marks stand on a replica, if any do
+abbrev pub HasLiveMarker : RecordState → ReplicaState → Type 0
+HasLiveMarker R x = IfSome (call_of x.marks) (λ by. is_live R by ≡ true)
+
+-- a call can hold its checkpoint, of which this node has the active replica
+pub record IsHoldable (m : Machine) (s : CallState) (u : SyncState) (r : ℕ) : Type 0 where
+  pub call : u.call ≡ s.call
+  pub can : IsSomeAnd (entry_of u.ckpt m.cluster.entries) (λ e. can_be_held e ≡ true)
+  pub marker : IsSomeAnd (m.replicas u.ckpt r) (HasLiveMarker m.cluster)
+
 -- what a due step of the record asks of it
 abbrev pub IsEventReady : Machine → CallState → Driver → RecordStep → Type 0
 IsEventReady m s (drivers.Once (once.Enter r)) events.Enter = CanBecomeLive s.call r m.cluster × (length m.cluster.clients < clients_max)
@@ -99,11 +116,11 @@ IsEventReady m s (drivers.Once (once.Close k)) events.Close = Unit {0}
 IsEventReady m s (drivers.Once (once.Unlink name)) events.Unlink = IsSomeAnd (named name m.cluster.entries) (λ e. e.making ≡ None)
 IsEventReady m s (drivers.Once (once.Retain k duration)) events.Retain = IsSomeAnd (entry_of k m.cluster.entries) (λ e. IsSome e.name) × (pos 0 ≤ℤ duration)
 IsEventReady m s (drivers.Open o) events.Create = (length m.cluster.entries < checkpoints_max) × IsSomeAnd o.ask.attrs (λ a. Unit {0}) × (named o.ask.name m.cluster.entries ≡ None) × CanOpen o.ask m.cluster × IsClient s.call.actor
-IsEventReady m s (drivers.Open o) events.Open = IsSomeAnd (named o.ask.name m.cluster.entries) (FitsOpen m o.ask) × CanOpen o.ask m.cluster × IsClient s.call.actor
+IsEventReady m s (drivers.Open o) events.Open = IsSomeAnd (named o.ask.name m.cluster.entries) (FitsOpen m o.ask) × CanOpen o.ask m.cluster × IsClient s.call.actor × IsSomeAnd (named o.ask.name m.cluster.entries) (HasLiveMaker m.cluster)
 IsEventReady m s (drivers.Open o) events.Finish = IsFinishable m o.ask.client o.making × IsMakingOf m.cluster o.ask.client (making_ckpt o.making)
 IsEventReady m s (drivers.Open o) events.Undo = IsSomeAnd o.making (λ making. Unit {0}) × IsMakingOf m.cluster o.ask.client (making_ckpt o.making)
-IsEventReady m s (drivers.Sync u) (events.Hold r) = (r < nodes_max) × IsSome (m.replicas u.ckpt r) × HasCopyRoom m s u.ckpt × IsSomeAnd (entry_of u.ckpt m.cluster.entries) (λ e. e.hold ≡ None)
-IsEventReady m s (drivers.Sync u) (events.Activate r) = (r < nodes_max) × HasCopyRoom m s u.ckpt × IsSomeAnd (entry_of u.ckpt m.cluster.entries) (λ e. IsLeadable m s u.ckpt r e)
+IsEventReady m s (drivers.Sync u) (events.Hold r) = (r < nodes_max) × IsSome (m.replicas u.ckpt r) × HasCopyRoom m s u.ckpt × IsSomeAnd (entry_of u.ckpt m.cluster.entries) (λ e. e.hold ≡ None) × IsHoldable m s u r
+IsEventReady m s (drivers.Sync u) (events.Activate r) = (r < nodes_max) × HasCopyRoom m s u.ckpt × IsSomeAnd (entry_of u.ckpt m.cluster.entries) (λ e. IsLeadable m s u.ckpt r e) × IsSomeAnd (entry_of u.ckpt m.cluster.entries) (λ e. can_lead r e ≡ true)
 IsEventReady m s driver step = ⊥
 
 -- a call to the active alone
@@ -143,6 +160,8 @@ pub record Facts (m : Machine) : Type 0 where
   pub rest : (a : ActorName) → NoneLent (m.tables a)
   pub rises : IdentitiesRise m.cluster.entries
   pub up_to : AllUpTo m.cluster.last_identity m.cluster.entries
+  -- no checkpoint is there that is over
+  pub stay : AllStay m.cluster.moment m.cluster.entries
   pub ready : (w : Who) (s : CallState) (r : ℕ) (request : Request) → m.in_hand w ≡ Some s → due m s ≡ Serve r request → (r < nodes_max) × IsServable m r request
   -- a due stage has the moment of the slots that stand
   pub moments : (w : Who) (s : CallState) (r : ℕ) (call : CallId) (k : ℕ) (t : ℤ) → m.in_hand w ≡ Some s → due m s ≡ Serve r (requests.Stage call k t) → IsSomeAnd (m.replicas k r) HasNoSlot → staged_moment m k ≡ t
