@@ -1,21 +1,19 @@
 //! The driver of an open.
-ghost use Rattle.std.specs.Prelude.{◌≡◌, ◌-◌, ◌^◌, ◌<◌, Some, None, IfOk};
+ghost use Rattle.std.specs.Prelude.{◌≡◌, ◌<◌, Some, None, IfOk};
 ghost use Rattle.ckpt_types.specs.Limits.{nodes_max};
 ghost use Rattle.cluster_record.specs.RecordState.{named};
 ghost use Rattle.node_msgs.specs.Requests.{ckpt_of};
-ghost use Rattle.node_msgs.specs.Steps.{verb_of, event_verb};
-ghost use Rattle.cluster_record.specs.DueOpen.{open_begun, making_ckpt, in_time, create_next, entry_next, on_free_name, on_named, on_making, made_of, create_taken, open_next, open_taken};
+ghost use Rattle.node_msgs.specs.Steps.{verb_of};
+ghost use Rattle.cluster_record.specs.DueOpen.{open_begun, making_ckpt, in_time, create_next, entry_next, on_free_name, on_named, on_making, made_of, open_next, open_taken};
 ghost use Rattle.cluster_record.specs.Ends.{IsAtANode, made_in, making_step_end, named_outcome, named_told, open_outcome, open_told, opened_in};
-ghost use Rattle.cluster_record.specs.Opening.{open_answer};
 ghost use Rattle.cluster_record.specs.StepDone.{done_of};
+ghost use Rattle.drive_open.specs.OpenStates.{found_in};
 
 use ckpt_types::{
     AisError, Answer, Bytes, CHECKPOINTS_MAX, CallId, Cause, CkptId, CreationAttributes,
     HANDLES_MAX, Moment, NODES_MAX, NodeId, OpenAsk, Outcome, SharedAttributes, SharedName,
 };
-use cluster_record::{
-    Entry, Making, OpenAnswer, Record, accepts, first_lacking, in_time, is_own, refused_end,
-};
+use cluster_record::{Entry, Making, Record, accepts, first_lacking, in_time, is_own, refused_end};
 use node_msgs::{Next, RecordStep, Reply, Request, StepReply};
 use std::alloc::{AllocError, Global};
 use std::marker::Model;
@@ -154,12 +152,17 @@ impl OpenCall {
         }
     }
 
-    /// What the record answers to it.
-    pub fn answer(&self, cluster: &Record) -> OpenAnswer
-        requires { cluster.now.last_identity < 2 ^ 32 - 1 }
-        ensures { result ≡ open_answer cluster.now self.now.ask }
+    /// The checkpoint that has its name, if one has; where a call is making that, this call.
+    pub fn found(&self, cluster: &Record) -> Result<Option<CkptId>, CallId>
+        ensures { result ≡ found_in (named self.now.ask.name cluster.now.entries) }
     {
-        cluster.open_answer(self.ask.name(), self.ask.attributes(), self.ask.client)
+        match cluster.named(self.ask.name()) {
+            None => Ok(None),
+            Some(entry) => match entry.making {
+                None => Ok(Some(entry.identity)),
+                Some(call) => Err(call),
+            },
+        }
     }
 
     /// What it does next; `room` tells whether the client has a free place for a handle.
@@ -270,22 +273,6 @@ impl OpenCall {
             }
             StepReply::Memory => making.refused = true,
             _ => {}
-        }
-    }
-
-    /// It takes that a step of the record was tried.
-    pub fn told(
-        &mut self,
-        cluster: &Record,
-        step: &RecordStep,
-        ckpt: Option<CkptId>,
-        node: Option<NodeId>,
-        word: StepReply,
-    )
-        ensures { self.new ≡ open_taken (done_of cluster.now (event_verb step.now) ckpt node word) self.old }
-    {
-        if let (RecordStep::Create, StepReply::Ok) = (step, word) {
-            self.making = made_of(ckpt);
         }
     }
 }

@@ -6,7 +6,7 @@ use drive_active::ActiveCall;
 use drive_open::{OpenCall, SharedAsk};
 use drive_sync::SyncCall;
 use drive_update::UpdateCall;
-use node_msgs::{Next, RecordStep, Reply, StepReply, Verb};
+use node_msgs::{Next, Reply, Verb};
 use std::alloc::{AllocError, Global};
 use std::process::Abort;
 use std::test::Fail;
@@ -14,6 +14,12 @@ use std::test::Fail;
 const FIRST: CallId = CallId {
     actor: ActorName::Client(3),
     number: 5,
+};
+
+// The call with which `open_as` opens for c3.
+const MAKER: CallId = CallId {
+    actor: ActorName::Client(3),
+    number: 2,
 };
 
 /// Whether this is asked of the node next.
@@ -80,13 +86,15 @@ fn copy_is_making(
     Ok(())
 }
 
-fn open_goes_on(rt: &impl Abort, alloc: Global, seen: &Record) -> Result<(), AllocError> {
-    let mut call = OpenCall::begin(FIRST, ask_for(alloc, b"b")?, None);
-    call.told(seen, &RecordStep::Create, Some(2), None, StepReply::Ok);
+/// An open is making its checkpoint behind the step that creates it.
+fn open_goes_on(rt: &impl Abort, alloc: Global, seen: &mut Record) -> Result<(), AllocError> {
+    let mut call = OpenCall::begin(MAKER, ask_for(alloc, b"b")?, None);
+    open_as(seen, alloc, 3, b"b", Some(ATTRIBUTES))?;
+    assert!(rt; call.take(seen, &Reply::Done(Answer::Nothing)).is_none());
     copy_is_making(rt, alloc, seen, &call)
 }
 
-fn each_goes_on(rt: &impl Abort, alloc: Global, seen: &Record) -> Result<(), AllocError> {
+fn each_goes_on(rt: &impl Abort, alloc: Global, seen: &mut Record) -> Result<(), AllocError> {
     update_goes_on(rt, alloc, seen)?;
     weak_write_goes_on(rt, alloc, seen)?;
     synchronisation_goes_on(rt, alloc, seen)?;
@@ -98,6 +106,6 @@ fn a_copy_of_a_call_goes_on_where_that_is(rt: HostRuntime) -> Result<(), Fail> {
     let mut seen = Record::new(rt.alloc(), 2)?;
     open_as(&mut seen, rt.alloc(), 3, b"a", Some(ATTRIBUTES))?;
     seen.finish_create(1);
-    each_goes_on(&rt, rt.alloc(), &seen)?;
+    each_goes_on(&rt, rt.alloc(), &mut seen)?;
     Ok(())
 }

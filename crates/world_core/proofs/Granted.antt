@@ -1,7 +1,6 @@
 -- The checkpoint of a step of the record, which is looked up once.
 use Rattle.std.proofs.Common.{◌≡◌, ℕ, refl, sym, subst, ◌∙◌}
 use Rattle.std.specs.Prelude.{Option, Some, None, Result, Ok}
-use Rattle.ckpt_types.specs.declared.answers.Outcome.{Outcome}
 use Rattle.ckpt_types.specs.declared.identities.CallId.{CallId}
 use Rattle.node_msgs.specs.declared.next.RecordStep.{RecordStep}
 use Rattle.node_msgs.specs.declared.next.RecordStep.TheVariants as events
@@ -18,7 +17,7 @@ use Rattle.cluster_record.proofs.RefusalLaws.{open_answer-made}
 use Rattle.world_core.specs.RecordReady.{HasFound, IsGrantedAt, IsOpenedAs, IsRecordReady}
 
 -- a step that is granted with a checkpoint is not refused, and is on that one
-pub granted_ok : (R : RecordState) (x : Driver) (step : RecordStep) (r : Result (Option ℕ) Outcome) (k : Option ℕ) → r ≡ Ok k → IsGrantedAt R x step r → (event_refusal R step x ≡ None) × (k ≡ event_ckpt R x step)
+pub granted_ok : (R : RecordState) (x : Driver) (step : RecordStep) (r : Result (Option ℕ) CallId) (k : Option ℕ) → r ≡ Ok k → IsGrantedAt R x step r → (event_refusal R step x ≡ None) × (k ≡ event_ckpt R x step)
 granted_ok R x step r k is granted = subst (IsGrantedAt R x step) is granted
 
 -- no step by which a client becomes live is on a checkpoint

@@ -4,6 +4,7 @@ use Rattle.std.specs.Prelude.{Option, Some, None, Result, Ok, Err, IfSome, IsSom
 use Rattle.std.specs.Option.{option_map}
 use Rattle.std.proofs.lemmas.Option.{same_Some}
 use Rattle.ckpt_types.specs.declared.ais_error.AisError.TheVariants.{TryAgain}
+use Rattle.ckpt_types.specs.declared.answers.Answer.TheVariants as answers
 use Rattle.ckpt_types.specs.declared.answers.Cause.TheVariants.{Holder}
 use Rattle.ckpt_types.specs.declared.calls.Held.{Held}
 use Rattle.ckpt_types.specs.declared.answers.Outcome.{Outcome}
@@ -16,6 +17,7 @@ use Rattle.node_msgs.specs.declared.details.Details.TheVariants as beside
 use Rattle.node_msgs.specs.declared.next.Next.TheVariants.{Event}
 use Rattle.node_msgs.specs.declared.next.RecordStep.{RecordStep}
 use Rattle.node_msgs.specs.declared.next.RecordStep.TheVariants as events
+use Rattle.node_msgs.specs.declared.replies.Reply.TheVariants as replies
 use Rattle.node_msgs.specs.declared.steps.StepReply.{StepReply}
 use Rattle.node_msgs.specs.declared.steps.StepReply.TheVariants as words
 use Rattle.node_msgs.specs.declared.steps.Verb.TheVariants as verbs
@@ -26,13 +28,13 @@ use Rattle.weak_marks.specs.Marks.{call_of}
 use Rattle.cluster_record.specs.declared.entries.Entry.{Entry}
 use Rattle.cluster_record.specs.DueOnce as once
 use Rattle.cluster_record.specs.DueSync.{SyncState}
-use Rattle.cluster_record.specs.RecordState.{RecordState, entry_of, complete_of, hold_set, swept}
+use Rattle.cluster_record.specs.RecordState.{RecordState, entry_of, complete_of, hold_set, is_live, swept}
 use Rattle.cluster_record.specs.StepDone.{done_of}
 use Rattle.replica.specs.Replicas.{Replica, pull_result, pulled_from, pulled_unless}
 use Rattle.ckpt_machine.specs.Drivers.{Driver}
 use Rattle.ckpt_machine.specs.Drivers as drivers
-use Rattle.ckpt_machine.specs.Driving.{driver_next, event_ckpt, event_node, event_refusal}
-use Rattle.ckpt_machine.specs.Facts.{HasCopyRoom, IsEventReady}
+use Rattle.ckpt_machine.specs.Driving.{driver_next, driver_taken, event_ckpt, event_node, event_refusal, index_told}
+use Rattle.ckpt_machine.specs.Facts.{HasCopyRoom, HasLiveMarker, IsEventReady}
 use Rattle.ckpt_machine.specs.Machine.{Machine, Effect, CallState}
 use Rattle.ckpt_machine.specs.Steps.{Told, IsDone, IsEventAnswer, kept_off, marks_on, changed}
 use Rattle.world_core.specs.declared.hands.InHand.{InHand}
@@ -45,9 +47,11 @@ use Rattle.world_core.specs.HandSteps.{hand_taken}
 use Rattle.world_core.specs.Leading.{synchronized_by, HasFreeHold}
 use Rattle.world_core.specs.Nodes.{replica_in}
 use Rattle.world_core.specs.RecordAfter.{event_after, nodes_behind, snapshots_behind}
+use Rattle.world_core.specs.Taking.{driver_outcome, driver_told, hand_outcome, hand_told}
 use Rattle.world_core.specs.Shows.{Does, IsShown, History, FitsReplica, IsRoomToCopy, complete_replica, machine_of, shown_replica, where_complete}
 use Rattle.world_core.proofs.CallSteps.{IsKnown, known, known_by, behind_step, step_before, step_under, IsShownBehind, pulled_by_client}
 use Rattle.world_core.proofs.CopySteps.{counts_effects, copied_whole, room_alike}
+use Rattle.world_core.proofs.EventEnds.{done_ends, done_keeps, takes_kept_off}
 use Rattle.world_core.proofs.Finding.{copy_declared}
 use Rattle.world_core.proofs.Freeing.{does_before, does_freed}
 use Rattle.world_core.proofs.Held.{copy_stays, state_in}
@@ -173,6 +177,12 @@ module _ (w : World) (v : Who) (r : ℕ) (hand : InHand) (held : hand_at w.hands
           by_entry None at none fits = absurd none
           by_entry (Some e) at none fits = copy_declared w h v r hand is.facts is.fits held k (subst (HasCopyRoom (m h is) (s h is)) ckpt_is (asks h is).2) x e at fits.1
 
+        -- a call whose marks stand on it is live
+        marker_live : (by : CallId) → call_of x.marks ≡ Some by → is_live w.cluster by ≡ true
+        marker_live by marked =
+            let marker : IfSome (call_of x.marks) (λ d. is_live w.cluster d ≡ true) = subst (λ o. IsSomeAnd o (HasLiveMarker w.cluster)) (ap (λ j. (m h is).replicas j r) ckpt_is ∙ shown_is) (asks h is).4.marker in
+            subst (λ o. IfSome o (λ d. is_live w.cluster d ≡ true)) marked marker
+
         -- the step is told as the marks on it have it
         told_here : (reply : StepReply) (end : Option Outcome) → IsEventAnswer (call_of x.marks) None (events.Hold r) (hold_told reply end) → IsDone (m h is) (s h is) (Event (events.Hold r)) (hold_told reply end)
         told_here reply end answer =
@@ -275,6 +285,14 @@ module _ (w : World) (v : Who) (r : ℕ) (hand : InHand) (held : hand_at w.hands
     abbrev its_label : StepReply → Option Outcome → Label
     its_label reply end = Stepped hand.call word verbs.Hold (Some k) (Some r) reply end beside.Nothing
 
+    -- how the call takes that it is kept off
+    pub kept_off_ends : (copied : InHand) (by : Held) → IfSome (replica_in w.nodes k r) (λ x. copied ≡ record hand { snapshot = option_map (pulled_unless (call_of x.marks) x) hand.snapshot }) → result ≡ Err by → hand_outcome w.cluster (replies.Held by.by) copied ≡ Some (Refused TryAgain (Holder by.by))
+    kept_off_ends copied by copied_is refused =
+        let copy_is = subst (λ y. IfSome y (λ x. copied ≡ record hand { snapshot = option_map (pulled_unless (call_of x.marks) x) hand.snapshot })) at copied_is in
+        ap (hand_outcome w.cluster (replies.Held by.by)) copy_is
+        ∙ ap (λ y. option_map (index_told hand.op) (driver_outcome w.cluster (replies.Held by.by) y)) (driver w v r hand held next k one)
+        ∙ ap (option_map (index_told hand.op)) (takes_kept_off w.cluster (u w v r hand held next k one) r by.by (ap (driver_next w.cluster (rooms_at w (client_by v))) (sym (driver w v r hand held next k one)) ∙ next) (marker_live w v r hand held next k one x at shown.shows.history is by.by (marked_by (call_of x.marks) by (sym answered ∙ refused))))
+
     -- it is kept off
     pub kept_off_step : (new : World) (by : Held) → result ≡ Err by → new ≡ ended_at v (Some (Refused TryAgain (Holder by.by))) (record w { hands = set_at w.hands v None }) → IsStep v w new (its_label (words.Held by.by) (Some (Refused TryAgain (Holder by.by))))
     kept_off_step new by refused new_is =
@@ -299,6 +317,22 @@ module _ (w : World) (v : Who) (r : ℕ) (hand : InHand) (held : hand_at w.hands
       copy_is : record hand { snapshot = Some (pulled_from x t) } ≡ copied
       copy_is = (λ i. record hand { snapshot = option_map (pulled_unless (sym free_of_marks i) x) (sym copy_there.1 i) }) ∙ sym (subst (λ y. IfSome y (λ x. copied ≡ record hand { snapshot = option_map (pulled_unless (call_of x.marks) x) hand.snapshot })) at copied_is)
 
+      -- the record behind the hold
+      behind_is : event_after hand.call hand.driver (events.Hold r) w.cluster ≡ swept (hold_set k hand.call w.cluster)
+      behind_is = ap (λ y. event_after hand.call y (events.Hold r) w.cluster) (driver w v r hand held next k one) ∙ ap (λ j. swept (hold_set j hand.call w.cluster)) (ckpt_is w v r hand held next k one)
+
+      -- how the call takes that it holds the checkpoint: it goes on
+      pub hold_goes_on : (R : RecordState) → R ≡ swept (hold_set k hand.call w.cluster) → hand_outcome R (replies.Done answers.Nothing) copied ≡ None
+      hold_goes_on R R_is =
+          ap (hand_outcome R (replies.Done answers.Nothing)) (sym copy_is)
+          ∙ done_ends w v (events.Hold r) hand held next shown (granted w v r hand held next k one) R (Some k) (R_is ∙ sym behind_is) (label_ckpt w v r hand held next k one)
+
+      pub hold_keeps : (R : RecordState) → R ≡ swept (hold_set k hand.call w.cluster) → hand_told R (replies.Done answers.Nothing) copied ≡ hand_taken (done_of R verbs.Hold (Some k) (Some r) words.Ok) copied
+      hold_keeps R R_is =
+          let same : driver_told R (replies.Done answers.Nothing) hand.driver ≡ driver_taken (done_of R verbs.Hold (Some k) (Some r) words.Ok) hand.driver
+          = ap (λ (z : InHand). z.driver) (done_keeps w v (events.Hold r) hand held next shown (granted w v r hand held next k one) R (Some k) (Some r) (R_is ∙ sym behind_is) (label_ckpt w v r hand held next k one) (label_node w v r hand held next k one)) in
+          subst (λ (z : InHand). hand_told R (replies.Done answers.Nothing) z ≡ hand_taken (done_of R verbs.Hold (Some k) (Some r) words.Ok) z) copy_is (λ i. record hand { driver = same i; snapshot = Some (pulled_from x t) })
+
       abbrev N : RecordState
       N = swept (hold_set k hand.call w.cluster)
 
@@ -310,7 +344,7 @@ module _ (w : World) (v : Who) (r : ℕ) (hand : InHand) (held : hand_at w.hands
           subst (λ (z : RecordState × List (List Replica) × List Background).
           Does w (freed_world (ended_at v None (record w { cluster = z.0; nodes = z.1; snapshots = z.2; hands = set_at w.hands v (Some (hand_taken (done_of z.0 verbs.Hold (Some k) (Some r) words.Ok) (record hand { snapshot = Some (pulled_from x t) }))) }))) (hold_label w v r hand held next k one x at words.Ok None))
           (λ i. (
-            (ap (λ y. event_after hand.call y (events.Hold r) w.cluster) (driver w v r hand held next k one) ∙ ap (λ j. swept (hold_set j hand.call w.cluster)) (ckpt_is w v r hand held next k one)) i,
+            behind_is i,
             nodes_behind (driver w v r hand held next k one i) (events.Hold r) w.cluster w.nodes,
             snapshots_behind (driver w v r hand held next k one i) (events.Hold r) w.cluster w.snapshots,
           ))

@@ -11,6 +11,7 @@ use Rattle.ckpt_types.specs.OpWord.{word_of_op}
 use Rattle.node_msgs.specs.declared.details.Details.TheVariants as beside
 use Rattle.node_msgs.specs.declared.next.Next.TheVariants.{Event}
 use Rattle.node_msgs.specs.declared.next.RecordStep.TheVariants as events
+use Rattle.node_msgs.specs.declared.replies.Reply.TheVariants as replies
 use Rattle.node_msgs.specs.declared.steps.StepReply.TheVariants as words
 use Rattle.node_msgs.specs.declared.steps.Verb.TheVariants as verbs
 use Rattle.run_labels.specs.declared.labels.Label.TheVariants.{Stepped}
@@ -39,8 +40,10 @@ use Rattle.world_core.specs.LiveRooms.{LiveHaveRoom}
 use Rattle.world_core.specs.Nodes.{replica_in}
 use Rattle.world_core.specs.Propagating.{IsPuttable}
 use Rattle.world_core.specs.RecordAfter.{event_after, nodes_behind, snapshots_behind}
+use Rattle.world_core.specs.Taking.{hand_outcome}
 use Rattle.world_core.specs.Shows.{Does, IsShown, History, HistoryFits, FitsReplica, complete_replica, machine_of, shown_replica, shown_slot, where_complete}
 use Rattle.world_core.proofs.CallSteps.{IsKnown, known, known_by, step_before, step_under, IsShownBehind, pulled_by_client}
+use Rattle.world_core.proofs.EventEnds.{done_ends}
 use Rattle.world_core.proofs.Finding.{copy_room_is}
 use Rattle.world_core.proofs.Freeing.{does_before, machine_of-freed, Fits-freed, replica_in-freed, rooms_left}
 use Rattle.world_core.proofs.Held.{copy_stays, state_in}
@@ -264,6 +267,12 @@ module _ (w : World) (v : Who) (r : ℕ) (hand : InHand) (held : hand_at w.hands
       -- what leading asks
       pub lead_node : r < 8
       lead_node = (asks shown.shows.history (known w shown)).0
+
+      -- how the call takes it: it ends
+      pub lead_ends : (N : RecordState) (lent : InHand) → N ≡ swept (active_set k r w.cluster) → lent ≡ record hand { snapshot = None } → hand_outcome N (replies.Done answers.Nothing) lent ≡ Some (Done answers.Nothing)
+      lead_ends N lent N_is lent_is =
+          let behind_is : event_after hand.call hand.driver (events.Activate r) w.cluster ≡ swept (active_set k r w.cluster) = ap (λ y. event_after hand.call y (events.Activate r) w.cluster) driver ∙ ap (λ j. swept (active_set j r w.cluster)) ckpt_is in
+          ap (hand_outcome N (replies.Done answers.Nothing)) lent_is ∙ done_ends w v (events.Activate r) hand held next shown granted N (Some k) (N_is ∙ sym behind_is) label_ckpt
 
       module _ (eight : length w.nodes ≡ 8) (freed_of : World) (N : RecordState) (held_of : Option copies.Snapshot) (N_is : N ≡ swept (active_set k r w.cluster)) (held_is : held_of ≡ copy_held (entry_of k w.cluster.entries) hand.snapshot) (freed_is : freed_of ≡ freed_world (record w { cluster = N; hands = set_at w.hands v None })) where
         pub lead_can : CanLead r held_of (replica_in freed_of.nodes k r) (entry_of k freed_of.cluster.entries)

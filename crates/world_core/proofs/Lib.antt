@@ -57,3 +57,4 @@ pub mod WaitedFor
 pub mod Words
 mod Staging
 mod Granted
+pub mod EventEnds

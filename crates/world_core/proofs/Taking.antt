@@ -33,9 +33,13 @@ use Rattle.cluster_record.specs.DueUpdate.{UpdateState, commit_end, done_end_by,
 use Rattle.cluster_record.specs.Ends.{active_done, active_ended, active_outcome, active_told, making_outcome_by, making_told_by, open_outcome, open_outcome_by, open_told, open_told_by, refused_end, served_done, sync_end, sync_outcome, sync_outcome_by, sync_told, sync_told_by, update_end, update_outcome, update_outcome_by, update_told, update_told_by}
 use Rattle.cluster_record.specs.RecordState.{RecordState, entry_of, named}
 use Rattle.cluster_record.specs.StepDone.{StepDone, last_having}
+use Rattle.ckpt_machine.specs.Drivers.{Driver}
 use Rattle.ckpt_machine.specs.Drivers as drivers
 use Rattle.ckpt_machine.specs.Driving.{driver_end, driver_taken, index_told}
 use Rattle.ckpt_machine.proofs.Deadlines.{in_time-either}
+use Rattle.world_core.specs.declared.hands.InHand.{InHand}
+use Rattle.world_core.specs.HandSteps.{AsksNode, hand_end, hand_taken}
+use Rattle.world_core.specs.Taking.{driver_outcome, driver_told, hand_outcome, hand_told}
 
 -- ---- the ends are told with the index of a vector alone
 
@@ -276,3 +280,27 @@ module _ (R : RecordState) (op : Op) (reply : Reply) (r : ℕ) (request : Reques
   -- a call of one step asks no node
   pub once_serves : (x : OneStep) → once_next R x ≡ Serve r request → ⊥
   once_serves x next = subst ServesNone next (once_none R x)
+
+-- ---- any call
+
+module _ (R : RecordState) (reply : Reply) (r : ℕ) (request : Request) where
+  driver_keeps : (op : Op) (x : Driver) → AsksNode R x r request → driver_told R reply x ≡ driver_taken (served_done R request r reply) x
+  driver_keeps op (drivers.Once x) asks = absurd (once_serves R op reply r request x asks.next_is)
+  driver_keeps op (drivers.Open o) asks = open_keeps R op reply r request asks.rooms.handles o asks.next_is
+  driver_keeps op (drivers.Update u) asks = update_keeps R op reply r request u asks.next_is
+  driver_keeps op (drivers.Active a) asks = active_keeps R op reply r request asks.rooms.iterations a asks.next_is
+  driver_keeps op (drivers.Sync s) asks = sync_keeps R op reply r request s asks.next_is
+
+  driver_ends : (op : Op) (x : Driver) → AsksNode R x r request → option_map (index_told op) (driver_outcome R reply x) ≡ driver_end op (served_done R request r reply) reply (driver_told R reply x)
+  driver_ends op (drivers.Once x) asks = absurd (once_serves R op reply r request x asks.next_is)
+  driver_ends op (drivers.Open o) asks = open_ends R op reply r request asks.rooms.handles o (open_told R reply o) asks.next_is
+  driver_ends op (drivers.Update u) asks = update_ends R op reply r request u asks.next_is
+  driver_ends op (drivers.Active a) asks = active_ends R op reply r request asks.rooms.iterations a (active_told R reply a) asks.next_is
+  driver_ends op (drivers.Sync s) asks = sync_ends R op reply r request s asks.next_is
+
+  -- what a call in hand takes of a node's reply is what the machine says
+  pub hand_keeps : (hand : InHand) → AsksNode R hand.driver r request → hand_told R reply hand ≡ hand_taken (served_done R request r reply) hand
+  hand_keeps hand asks = ap (λ x. record hand { driver = x }) (driver_keeps hand.op hand.driver asks)
+
+  pub hand_ends : (hand taken : InHand) → AsksNode R hand.driver r request → taken ≡ hand_told R reply hand → hand_outcome R reply hand ≡ hand_end (served_done R request r reply) reply taken
+  hand_ends hand taken asks is = driver_ends hand.op hand.driver asks ∙ ap (hand_end (served_done R request r reply) reply) (sym is)

@@ -32,3 +32,4 @@ pub mod Runs
 pub mod StepsLeft
 pub mod Happenings
 pub mod UpdateSteps
+pub mod Taking

@@ -1,10 +1,14 @@
 -- What a step of a call asks of the record.
 use Rattle.std.specs.Prelude.{◌≡◌, ℕ, ◌+◌, ◌-◌, ◌^◌, ◌<◌, length, Option, Some, None, Result, Ok, Err, IsSome, IsSomeAnd, IsTrue, List, Bool, true, pos, ◌≤ℤ◌}
+use Rattle.ckpt_types.specs.declared.ais_error.AisError.TheVariants.{TryAgain}
+use Rattle.ckpt_types.specs.declared.answers.Cause.TheVariants.{Holder}
 use Rattle.ckpt_types.specs.declared.answers.Outcome.{Outcome}
 use Rattle.ckpt_types.specs.declared.answers.Outcome.TheVariants.{NoMemory}
 use Rattle.ckpt_types.specs.declared.answers.Outcome.TheVariants as outcomes
 use Rattle.node_msgs.specs.declared.next.RecordStep.{RecordStep}
 use Rattle.node_msgs.specs.declared.next.RecordStep.TheVariants as events
+use Rattle.node_msgs.specs.declared.replies.Reply.{Reply}
+use Rattle.node_msgs.specs.declared.replies.Reply.TheVariants as replies
 use Rattle.node_msgs.specs.declared.steps.StepReply.{StepReply}
 use Rattle.node_msgs.specs.declared.steps.StepReply.TheVariants as words
 use Rattle.ckpt_machine.specs.Driving.{event_ckpt, event_refusal, takes_memory}
@@ -26,6 +30,7 @@ use Rattle.cluster_record.specs.RecordState.{RecordState, named, entry_of, home_
 use Rattle.cluster_record.specs.DueOpen.{making_ckpt}
 use Rattle.cluster_record.specs.LookUps.{identity_in}
 use Rattle.cluster_record.specs.Makings.{IsMakingOf, making_call}
+use Rattle.drive_open.specs.OpenStates.{found_in}
 use Rattle.replica.specs.Replicas.{Replica}
 use Rattle.world_core.specs.Nodes.{replica_in}
 
@@ -66,16 +71,26 @@ IsRefusedWith (Some why) step words.Refused end = end ≡ why
 IsRefusedWith None step words.Memory end = IsTrue (takes_memory step) × (end ≡ NoMemory)
 IsRefusedWith refusal step reply end = ⊥
 
--- a step that the record does not refuse, with its checkpoint; or one that it refuses, with how its call ends
-abbrev pub IsGrantedAt : RecordState → Driver → RecordStep → Result (Option ℕ) Outcome → Type 0
-IsGrantedAt R driver step (Ok k) = (event_refusal R step driver ≡ None) × (k ≡ event_ckpt R driver step)
-IsGrantedAt R driver step (Err end) = event_refusal R step driver ≡ Some end
+-- the reply that its call takes then: that another call is making the checkpoint, or that memory was refused
+abbrev pub IsRefusedAs : Option Outcome → RecordStep → Reply → Type 0
+IsRefusedAs (Some why) step (replies.Held by) = why ≡ outcomes.Refused TryAgain (Holder by)
+IsRefusedAs None step replies.NoMemory = IsTrue (takes_memory step)
+IsRefusedAs refusal step reply = ⊥
 
--- what an open's answer grants: to open this checkpoint, or to make one; or how its call ends
-abbrev pub granted_in : OpenAnswer → Result (Option ℕ) Outcome
-granted_in (Opened k added) = Ok (Some k)
-granted_in (Made k) = Ok None
-granted_in (Refused why) = Err (outcomes.Refused why.error why.cause)
+-- how a label tells that reply
+abbrev pub refusal_word : Reply → StepReply
+refusal_word replies.NoMemory = words.Memory
+refusal_word reply = words.Refused
+
+-- the checkpoint of a step; of an open what it finds, which is this, or the call that is making it
+abbrev pub event_granted : RecordState → Driver → RecordStep → Result (Option ℕ) CallId
+event_granted R (drivers.Open o) events.Open = found_in (named o.ask.name R.entries)
+event_granted R driver step = Ok (event_ckpt R driver step)
+
+-- a step that the record does not refuse, with its checkpoint; or one that it refuses, with the call that keeps it off
+abbrev pub IsGrantedAt : RecordState → Driver → RecordStep → Result (Option ℕ) CallId → Type 0
+IsGrantedAt R driver step (Ok k) = (event_refusal R step driver ≡ None) × (k ≡ event_ckpt R driver step)
+IsGrantedAt R driver step (Err by) = event_refusal R step driver ≡ Some (outcomes.Refused TryAgain (Holder by))
 
 -- this checkpoint has the name that an open asks for, is not in the making, and its client's references can rise
 pub record IsOpenedAt (R : RecordState) (ask : OpenAsk) (k : ℕ) : Type 0 where

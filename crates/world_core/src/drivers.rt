@@ -3,12 +3,9 @@ ghost use Rattle.cluster_record.specs.Makings.{makings_of};
 ghost use Rattle.std.specs.Prelude.{◌≡◌, ℕ, ◌-◌, ◌^◌, ◌<◌, Some, IfOk, IsSome};
 ghost use Rattle.std.specs.Option.{option_map};
 ghost use Rattle.ckpt_types.specs.Limits.{client_numbers, nodes_max};
-ghost use Rattle.node_msgs.specs.declared.requests.Request.{Request};
-ghost use Rattle.node_msgs.specs.Steps.{event_verb};
-ghost use Rattle.ckpt_machine.specs.Driving.{driver_next, driver_taken, driver_end, driver_start, on_kept, kind_of_change, change_start, active_start, sync_start, done_end, event_ckpt, event_node, event_end, making_in, opened_end, takes_memory, refused_cause, index_told};
+ghost use Rattle.ckpt_machine.specs.Driving.{driver_next, driver_taken, driver_start, on_kept, kind_of_change, change_start, active_start, sync_start, done_end, event_ckpt, event_node, making_in, takes_memory, refused_cause, index_told};
 ghost use Rattle.cluster_record.specs.StepDone.{done_of};
-ghost use Rattle.cluster_record.specs.Ends.{ended_unless, served_done};
-ghost use Rattle.world_core.specs.HandSteps.{AsksNode};
+ghost use Rattle.cluster_record.specs.Ends.{ended_unless};
 ghost use Rattle.world_core.specs.Leading.{synchronized_by};
 ghost use Rattle.cluster_record.specs.Calls.{client_of};
 ghost use Rattle.cluster_record.specs.RecordState.{home_of};
@@ -21,7 +18,8 @@ ghost use Rattle.node_msgs.specs.declared.steps.StepReply.TheVariants as words;
 ghost use Rattle.node_msgs.specs.declared.steps.Verb.TheVariants as verbs;
 ghost use Rattle.ckpt_types.specs.declared.answers.Answer.TheVariants as answers;
 ghost use Rattle.world_core.specs.UpdateSteps.{IsUpdate};
-ghost use Rattle.world_core.specs.RecordReady.{IsGrantedAt, granted_in};
+ghost use Rattle.world_core.specs.RecordReady.{event_granted};
+ghost use Rattle.world_core.specs.Taking.{driver_outcome, driver_told};
 ghost use Rattle.world_core.specs.TableState.{kept_by};
 ghost use Rattle.ckpt_machine.specs.Drivers.{Once};
 ghost use Rattle.cluster_record.specs.DueOnce.{Close, Retain};
@@ -31,16 +29,15 @@ use crate::one_step::OneStep;
 use crate::options::{is_all, is_weak};
 use crate::tables::Tables;
 use ckpt_types::{
-    AisError, Answer, CallId, Cause, CkptId, NodeId, Op, Outcome, SharedAttributes, SharedName,
-    Update,
+    CallId, Cause, CkptId, NodeId, Op, Outcome, SharedAttributes, SharedName, Update,
 };
 use client_handles::HandleView;
-use cluster_record::{ActiveKind, OpenAnswer, Record, SyncKind, number_of};
+use cluster_record::{ActiveKind, Record, SyncKind, number_of};
 use drive_active::ActiveCall;
 use drive_open::{OpenCall, SharedAsk};
 use drive_sync::SyncCall;
 use drive_update::UpdateCall;
-use node_msgs::{Next, RecordStep, Reply, StepReply};
+use node_msgs::{Next, RecordStep, Reply};
 use std::alloc::AllocError;
 use std::marker::Model;
 
@@ -185,19 +182,19 @@ impl Driver {
         }
     }
 
-    /// The call takes a node's reply to what is next. What its operation ends with, if it ends.
+    /// The call takes a reply: of a node to what is next, or of the record to a step, with the record behind that. What
+    /// its operation ends with, if it ends.
     #[inline(always)]
     pub fn take(&mut self, op: &Op, cluster: &Record, reply: &Reply) -> Option<Outcome>
-        ensures new { (r : ℕ) (request : Request) → AsksNode cluster.now self.old r request → self.new ≡ driver_taken (served_done cluster.now request r reply.now) self.old }
-        ensures end { (r : ℕ) (request : Request) → AsksNode cluster.now self.old r request → result ≡ driver_end op.now (served_done cluster.now request r reply.now) reply.now self.new }
+        ensures new { self.new ≡ driver_told cluster.now reply.now self.old }
+        ensures outcome { result ≡ option_map (index_told op.now) (driver_outcome cluster.now reply.now self.old) }
     {
         let outcome = match &mut self.kind {
             DriverKind::Update(update) => update.take(cluster, reply),
             DriverKind::Active(active) => active.take(cluster, reply),
             DriverKind::Sync(sync) => sync.take(cluster, reply),
             DriverKind::Open(open_call) => open_call.take(cluster, reply),
-            // No node is asked by a call of one step.
-            DriverKind::Once(_) => None,
+            DriverKind::Once(step) => step.take(reply),
         };
         index_told(op, outcome)
     }
@@ -227,22 +224,6 @@ impl Driver {
             unreachable!()
         };
         update.committed(cluster, ckpt, r)
-    }
-
-    /// The call takes that a step of the record was tried.
-    pub fn told(
-        &mut self,
-        cluster: &Record,
-        step: &RecordStep,
-        ckpt: Option<CkptId>,
-        node: Option<NodeId>,
-        word: StepReply,
-    )
-        ensures { self.new ≡ driver_taken (done_of cluster.now (event_verb step.now) ckpt node word) self.old }
-    {
-        if let DriverKind::Open(open_call) = &mut self.kind {
-            open_call.told(cluster, step, ckpt, node, word);
-        }
     }
 }
 
@@ -405,55 +386,19 @@ pub fn event_node(driver: &Driver, step: &RecordStep) -> Option<NodeId>
     }
 }
 
-/// How a call ends by a step of the record that was done, on its checkpoint.
-pub fn event_end(step: &RecordStep, ckpt: Option<CkptId>) -> Option<Outcome>
-    ensures { result ≡ event_end step.now ckpt }
-{
-    match step {
-        RecordStep::Enter => Some(Outcome::Done(Answer::Version)),
-        RecordStep::Open | RecordStep::Finish => opened_end(ckpt),
-        RecordStep::Undo => Some(Outcome::NoMemory),
-        RecordStep::Leave
-        | RecordStep::Close
-        | RecordStep::Unlink
-        | RecordStep::Retain
-        | RecordStep::Activate(_) => Some(Outcome::Done(Answer::Nothing)),
-        _ => None,
-    }
-}
-
-fn opened_end(ckpt: Option<CkptId>) -> Option<Outcome>
-    ensures { result ≡ opened_end ckpt }
-{
-    match ckpt {
-        None => None,
-        Some(ckpt) => Some(Outcome::Done(Answer::Opened(ckpt))),
-    }
-}
-
 /// The checkpoint of a step that the record does not refuse, before it is done. What it refuses is an open of what
-/// another call is making: then how its call ends.
+/// another call is making: then that call.
 pub fn event_granted(
     cluster: &Record,
     driver: &Driver,
     step: &RecordStep,
-) -> Result<Option<CkptId>, Outcome>
+) -> Result<Option<CkptId>, CallId>
     requires { cluster.now.last_identity < 2 ^ 32 - 1 }
-    ensures { IsGrantedAt cluster.now driver.now step.now result }
+    ensures { result ≡ event_granted cluster.now driver.now step.now }
 {
     match (step, &driver.kind) {
-        (RecordStep::Open, DriverKind::Open(open_call)) => granted_in(open_call.answer(cluster)),
+        (RecordStep::Open, DriverKind::Open(open_call)) => open_call.found(cluster),
         _ => Ok(event_ckpt(cluster, driver, step)),
-    }
-}
-
-fn granted_in(answer: OpenAnswer) -> Result<Option<CkptId>, Outcome>
-    ensures { result ≡ granted_in answer }
-{
-    match answer {
-        OpenAnswer::Opened(ckpt, _) => Ok(Some(ckpt)),
-        OpenAnswer::Made(_) => Ok(None),
-        OpenAnswer::Refused(why) => Err(Outcome::Refused(why.error, why.cause)),
     }
 }
 

@@ -8,13 +8,12 @@ ghost use Rattle.node_msgs.specs.declared.replies.Reply.TheVariants as replies;
 ghost use Rattle.node_msgs.specs.declared.steps.StepReply.TheVariants as words;
 ghost use Rattle.node_msgs.specs.declared.steps.Verb.TheVariants as verbs;
 ghost use Rattle.world_core.specs.UpdateSteps.{IsUpdate};
-ghost use Rattle.cluster_record.specs.Ends.{ended_unless, served_done};
-ghost use Rattle.node_msgs.specs.declared.requests.Request.{Request};
+ghost use Rattle.cluster_record.specs.Ends.{ended_unless};
 ghost use Rattle.ckpt_types.specs.Limits.{client_numbers, nodes_max};
-ghost use Rattle.node_msgs.specs.Steps.{event_verb};
 ghost use Rattle.cluster_record.specs.Calls.{left};
 ghost use Rattle.cluster_record.specs.StepDone.{done_of};
-ghost use Rattle.world_core.specs.HandSteps.{AsksNode, hand_taken, hand_end};
+ghost use Rattle.world_core.specs.HandSteps.{hand_taken, hand_end};
+ghost use Rattle.world_core.specs.Taking.{hand_outcome, hand_told};
 ghost use Rattle.replica.specs.Replicas.{pull_result, pulled_unless};
 ghost use Rattle.weak_marks.specs.Marks.{call_of};
 ghost use Rattle.world_core.specs.HandLending.{LendsHand};
@@ -33,10 +32,10 @@ use crate::drivers::Driver;
 use crate::nodes::Nodes;
 use call_dispatch::Pending;
 use ckpt_types::{
-    ActorName, AsyncKind, CLIENT_NUMBERS, CallId, CkptId, Held, NodeId, Op, Outcome, Who,
+    ActorName, Answer, AsyncKind, CLIENT_NUMBERS, CallId, CkptId, Held, NodeId, Op, Outcome, Who,
 };
 use cluster_record::{Record, number_of};
-use node_msgs::{RecordStep, Reply, StepReply};
+use node_msgs::Reply;
 use run_labels::OpWord;
 use section_iter::Iteration;
 use snap_copy::Snap;
@@ -87,13 +86,32 @@ impl InHand {
         OpWord::of(&self.op)
     }
 
-    /// It takes a node's reply to what is next. What it ends with, if it ends.
+    /// It takes a reply: of a node to what is next, or of the record to a step, with the record behind that. What it ends
+    /// with, if it ends.
     #[inline(always)]
     pub fn take(&mut self, cluster: &Record, reply: &Reply) -> Option<Outcome>
-        ensures new { (r : ℕ) (request : Request) → AsksNode cluster.now self.old.driver r request → self.new ≡ hand_taken (served_done cluster.now request r reply.now) self.old }
-        ensures end { (r : ℕ) (request : Request) → AsksNode cluster.now self.old.driver r request → result ≡ hand_end (served_done cluster.now request r reply.now) reply.now self.new }
+        ensures new { self.new ≡ hand_told cluster.now reply.now self.old }
+        ensures outcome { result ≡ hand_outcome cluster.now reply.now self.old }
     {
         self.driver.take(&self.op, cluster, reply)
+    }
+
+    /// It takes that the record has done its step, with the record behind that. What it ends with, if it ends.
+    #[inline(never)]
+    pub fn take_done(&mut self, cluster: &Record) -> Option<Outcome>
+        ensures new { self.new ≡ hand_told cluster.now (replies.Done answers.Nothing) self.old }
+        ensures outcome { result ≡ hand_outcome cluster.now (replies.Done answers.Nothing) self.old }
+    {
+        self.take(cluster, &Reply::Done(Answer::Nothing))
+    }
+
+    /// It takes that its step was refused, by the record or for the memory that it takes. What it ends with, if it ends.
+    #[inline(never)]
+    pub fn take_refusal(&mut self, cluster: &Record, reply: &Reply) -> Option<Outcome>
+        ensures new { self.new ≡ hand_told cluster.now reply.now self.old }
+        ensures outcome { result ≡ hand_outcome cluster.now reply.now self.old }
+    {
+        self.take(cluster, reply)
     }
 
     /// The update takes that a node has staged it.
@@ -115,20 +133,6 @@ impl InHand {
         ensures end { ended_unless result ≡ hand_end (done_of cluster.now verbs.Commit (Some ckpt) (Some r) words.Ok) (replies.Done answers.Nothing) self.new }
     {
         self.driver.committed(cluster, ckpt, r)
-    }
-
-    /// It takes that a step of the record was tried.
-    pub fn told(
-        &mut self,
-        cluster: &Record,
-        step: &RecordStep,
-        ckpt: Option<CkptId>,
-        node: Option<NodeId>,
-        word: StepReply,
-    )
-        ensures { self.new ≡ hand_taken (done_of cluster.now (event_verb step.now) ckpt node word) self.old }
-    {
-        self.driver.told(cluster, step, ckpt, node, word);
     }
 
     /// The room that it has for a snapshot is taken out of it, with what it has pulled.

@@ -8,6 +8,7 @@ ghost use Rattle.node_msgs.specs.Requests.{ckpt_of};
 ghost use Rattle.node_msgs.specs.Steps.{verb_of, word_of};
 ghost use Rattle.run_labels.specs.declared.labels.Label.TheVariants as labels;
 ghost use Rattle.ckpt_machine.specs.Steps.{look_word};
+ghost use Rattle.world_core.specs.RecordReady.{refusal_word};
 
 use ckpt_types::{Answer, CallId, CkptId, NodeId, Outcome};
 use node_msgs::{Details, Reply, Request, StepReply, Verb};
@@ -19,6 +20,17 @@ pub fn look_word(end: &Outcome) -> StepReply
 {
     match end {
         Outcome::Done(_) => StepReply::Done,
+        _ => StepReply::Refused,
+    }
+}
+
+/// How a label tells a step of the record that is refused: for the memory that it takes, or by the record, whoever keeps
+/// it off.
+pub fn refusal_word(reply: &Reply) -> StepReply
+    ensures { result ≡ refusal_word reply.now }
+{
+    match reply {
+        Reply::NoMemory => StepReply::Memory,
         _ => StepReply::Refused,
     }
 }

@@ -5,12 +5,13 @@ ghost use Rattle.ckpt_types.specs.declared.answers.Outcome.TheVariants.{Refused}
 ghost use Rattle.node_msgs.specs.declared.next.Next.TheVariants.{End};
 ghost use Rattle.cluster_record.specs.DueOnce.{enter_next, close_next, unlink_of_making, unlink_next, retain_of, retain_next, once_next};
 ghost use Rattle.world_core.specs.CallStates.{step_in};
+ghost use Rattle.world_core.specs.Taking.{once_answer, once_outcome};
 
 use ckpt_types::{
     AisError, Answer, Bytes, CLIENTS_MAX, CallId, Cause, CkptId, NodeId, Outcome, SharedName,
 };
 use cluster_record::{Entry, Record};
-use node_msgs::{Next, RecordStep};
+use node_msgs::{Next, RecordStep, Reply};
 
 /// What a call of one step does.
 #[derive(Drop)]
@@ -38,6 +39,27 @@ impl OneStep {
             OneStep::Close(ckpt) => close_next(cluster, *ckpt),
             OneStep::Unlink(name) => unlink_next(cluster, name.value()),
             OneStep::Retain(ckpt, _) => retain_next(cluster, *ckpt),
+        }
+    }
+
+    /// How the call ends by what the record answers to its step: where that is done, an Initialize with the version, and
+    /// any other with nothing.
+    pub fn take(&self, reply: &Reply) -> Option<Outcome>
+        ensures { result ≡ once_outcome reply.now (step_in self.now) }
+    {
+        match reply {
+            Reply::Done(_) => Some(Outcome::Done(self.answer())),
+            Reply::NoMemory => Some(Outcome::NoMemory),
+            _ => None,
+        }
+    }
+
+    fn answer(&self) -> Answer
+        ensures { result ≡ once_answer (step_in self.now) }
+    {
+        match self {
+            OneStep::Enter(_) => Answer::Version,
+            _ => Answer::Nothing,
         }
     }
 }

@@ -10,13 +10,13 @@ ghost use Rattle.world_core.specs.Leading.{copy_held, nodes_led, CanLead, HasFre
 ghost use Rattle.world_core.specs.Nodes.{replica_in};
 ghost use Rattle.world_core.specs.Shows.{HasNumbersLeft, IsShown};
 
-use crate::hands::clear;
+use crate::hands::let_go;
 use crate::messages::stepped;
 use crate::nodes::Nodes;
 use crate::world::World;
-use ckpt_types::{AisError, Answer, CallId, Cause, CkptId, NodeId, Outcome, Who};
+use ckpt_types::{CallId, CkptId, NodeId, Who};
 use cluster_record::{Entry, Record};
-use node_msgs::{RecordStep, StepReply, Verb};
+use node_msgs::{Reply, StepReply, Verb};
 use run_labels::RunLog;
 use snap_copy::Snap;
 
@@ -38,32 +38,26 @@ impl World {
         let ckpt = hand.synchronized();
         match hand.copy(&self.nodes, r, ckpt) {
             Err(held) => {
-                clear(slot);
-                let reply = StepReply::Held(held.by);
-                let end = Some(Outcome::Refused(AisError::TryAgain, Cause::Holder(held.by)));
+                let end = hand.take_refusal(&self.cluster, &Reply::Held(held.by));
+                let_go(slot, &end);
                 self.end_alone(who, &end);
+                let reply = StepReply::Held(held.by);
                 log.push(stepped(call, op, Verb::Hold, Some(ckpt), Some(r), reply, end));
             }
             Ok(()) => {
                 hold(&mut self.cluster, ckpt, call);
-                let step = RecordStep::Hold(r);
-                hand.told(&self.cluster, &step, Some(ckpt), Some(r), StepReply::Ok);
+                let end = hand.take_done(&self.cluster);
+                let_go(slot, &end);
                 self.free_gone();
-                log.push(stepped(
-                    call,
-                    op,
-                    Verb::Hold,
-                    Some(ckpt),
-                    Some(r),
-                    StepReply::Ok,
-                    None,
-                ));
+                self.end_alone(who, &end);
+                let reply = StepReply::Ok;
+                log.push(stepped(call, op, Verb::Hold, Some(ckpt), Some(r), reply, end));
             }
         }
     }
 
     /// A node is the active of the call's checkpoint from now on, and leads it with what the call holds, where it holds
-    /// it. The call ends.
+    /// it. The call takes that, and ends.
     #[inline(never)]
     pub(crate) fn activate_step(&mut self, who: Who, r: NodeId, log: &mut RunLog)
         requires next { IsNext self.old who (nexts.Event (events.Activate r)) }
@@ -79,12 +73,12 @@ impl World {
         let op = hand.word();
         let ckpt = hand.synchronized();
         let held = copy_held(&self.cluster, ckpt, hand.lend_snapshot());
-        clear(slot);
         self.cluster.set_active(ckpt, r);
         self.cluster.sweep();
+        let end = hand.take_done(&self.cluster);
+        let_go(slot, &end);
         self.free_gone();
         lead(&self.cluster, &mut self.nodes, ckpt, r, &held);
-        let end = Some(Outcome::Done(Answer::Nothing));
         self.end_alone(who, &end);
         log.push(stepped(
             call,

@@ -12,7 +12,7 @@ ghost use Rattle.world_core.specs.Settling.{tables_given, settled, looked, witho
 ghost use Rattle.cluster_record.specs.LookUps.{creation_flags_of};
 ghost use Rattle.cluster_record.specs.RecordState.{entry_of};
 ghost use Rattle.ckpt_machine.specs.Driving.{event_ckpt, event_refusal};
-ghost use Rattle.world_core.specs.RecordReady.{IsGrantedAt, IsPlain, IsRefusedWith};
+ghost use Rattle.world_core.specs.RecordReady.{event_granted, IsPlain, IsRefusedAs};
 ghost use Rattle.world_core.specs.declared.hands.InHand.{InHand};
 ghost use Rattle.world_core.specs.LiveRooms.{room_is_taken};
 ghost use Rattle.world_core.specs.Runs.{step_word};
@@ -28,16 +28,16 @@ ghost use Rattle.ckpt_types.specs.Limits.{client_numbers, nodes_max};
 
 use crate::applying::apply;
 use crate::details::told_details;
-use crate::drivers::{DriverKind, event_ckpt, event_end, event_granted, event_node};
+use crate::drivers::{DriverKind, event_ckpt, event_granted, event_node};
 use crate::hands::{Hands, clear, client_by, hand_over, let_go};
 use crate::iterating::{keep_iteration, lend_iteration};
 use crate::lending::lent_by;
-use crate::messages::{look_word, served, stepped};
+use crate::messages::{look_word, refusal_word, served, stepped};
 use crate::tables::Tables;
 use crate::world::World;
-use ckpt_types::{ActorName, CkptId, NodeId, Op, Outcome, Who};
+use ckpt_types::{ActorName, CallId, CkptId, NodeId, Op, Outcome, Who};
 use cluster_record::Record;
-use node_msgs::{Next, RecordStep, Request, StepReply, Verb};
+use node_msgs::{Next, RecordStep, Reply, Request, StepReply, Verb};
 use run_labels::{Label, LineWord, RunLog, Said};
 use std::alloc::{AllocError, Global};
 
@@ -201,13 +201,7 @@ impl World {
     {
         match self.tables.take_room(alloc, client_by(who)) {
             Ok(()) => self.record_step(alloc, who, RecordStep::Enter, None, log),
-            Err(AllocError) => self.refuse_step(
-                who,
-                RecordStep::Enter,
-                StepReply::Memory,
-                Outcome::NoMemory,
-                log,
-            ),
+            Err(AllocError) => self.refuse_step(who, RecordStep::Enter, &Reply::NoMemory, log),
         }
     }
 
@@ -224,15 +218,15 @@ impl World {
     {
         match self.granted(who, &step) {
             Ok(ckpt) => self.record_step(alloc, who, step, ckpt, log),
-            Err(end) => self.refuse_step(who, step, StepReply::Refused, end, log),
+            Err(maker) => self.refuse_step(who, step, &Reply::Held(maker), log),
         }
     }
 
-    // The checkpoint of the step, where the record does not refuse it; how the client's call ends by it, where it does.
-    fn granted(&self, who: Who, step: &RecordStep) -> Result<Option<CkptId>, Outcome>
+    // The checkpoint of the step, where the record does not refuse it; else the call that is making that.
+    fn granted(&self, who: Who, step: &RecordStep) -> Result<Option<CkptId>, CallId>
         requires next { IsNext self.now who (nexts.Event step.now) }
         requires roomy { HasNumbersLeft self.now }
-        ensures { (hand : InHand) → hand_at self.now.hands who ≡ Some hand → IsGrantedAt self.now.cluster hand.driver step.now result }
+        ensures { (hand : InHand) → hand_at self.now.hands who ≡ Some hand → result ≡ event_granted self.now.cluster hand.driver step.now }
     {
         let Some(hand) = self.hands.find(who) else {
             unreachable!()
@@ -240,18 +234,11 @@ impl World {
         event_granted(&self.cluster, &hand.driver, step)
     }
 
-    // A step is refused by the record, or the memory that it takes, and the call ends.
-    fn refuse_step(
-        &mut self,
-        who: Who,
-        step: RecordStep,
-        reply: StepReply,
-        end: Outcome,
-        log: &mut RunLog,
-    )
+    // A step is refused by the record, or the memory that it takes. The call takes that, and ends.
+    fn refuse_step(&mut self, who: Who, step: RecordStep, reply: &Reply, log: &mut RunLog)
         requires next { IsNext self.old who (nexts.Event step) }
         requires plain { IsPlain step }
-        requires refused { (hand : InHand) → hand_at self.old.hands who ≡ Some hand → IsRefusedWith (event_refusal self.old.cluster step hand.driver) step reply end }
+        requires refused { (hand : InHand) → hand_at self.old.hands who ≡ Some hand → IsRefusedAs (event_refusal self.old.cluster step hand.driver) step reply.now }
         requires client { IsClientName who }
         requires shown { IsShown self.old }
         requires roomy { HasNumbersLeft self.old }
@@ -264,10 +251,10 @@ impl World {
         let op = hand.word();
         let ckpt = event_ckpt(&self.cluster, &hand.driver, &step);
         let node = event_node(&hand.driver, &step);
-        clear(slot);
-        let end = Some(end);
+        let end = hand.take_refusal(&self.cluster, reply);
+        let_go(slot, &end);
         self.end_alone(who, &end);
-        log.push(stepped(call, op, step.verb(), ckpt, node, reply, end));
+        log.push(stepped(call, op, step.verb(), ckpt, node, refusal_word(reply), end));
     }
 
     // The call takes a step that the record does not refuse; where its memory is refused, the call ends. A client
@@ -308,8 +295,8 @@ impl World {
             ckpt,
         );
         if applied.is_err() {
-            clear(slot);
-            let end = Some(Outcome::NoMemory);
+            let end = hand.take_refusal(&self.cluster, &Reply::NoMemory);
+            let_go(slot, &end);
             self.end_alone(who, &end);
             log.push(stepped(call, op, verb, ckpt, node, StepReply::Memory, end));
             return;
@@ -317,8 +304,7 @@ impl World {
         let c = client_by(who);
         let closed = self.tables.handle_closed(c, &hand.op);
         settle(&mut self.tables, &self.cluster, c, &hand.op, &step, ckpt);
-        let end = event_end(&step, ckpt);
-        hand.told(&self.cluster, &step, ckpt, node, StepReply::Ok);
+        let end = hand.take_done(&self.cluster);
         let_go(slot, &end);
         self.let_go_with(c, &step, closed);
         self.free_gone();

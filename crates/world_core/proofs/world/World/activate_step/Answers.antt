@@ -1,15 +1,21 @@
-use Rattle.std.proofs.Common.{◌≡◌, Some, sym, ap, subst, ◌∙◌}
+use Rattle.std.proofs.Common.{◌≡◌, Some, None, sym, ap, subst, ◌∙◌}
 use Rattle.std.specs.Prelude.{Option}
 use Rattle.node_msgs.specs.declared.next.Next.TheVariants.{Event}
 use Rattle.node_msgs.specs.declared.next.RecordStep.TheVariants.{Activate}
+use Rattle.node_msgs.specs.declared.details.Details.TheVariants.{Nothing}
+use Rattle.node_msgs.specs.declared.steps.StepReply.TheVariants.{Ok}
+use Rattle.node_msgs.specs.declared.steps.Verb.TheVariants as verbs
 use Rattle.run_labels.specs.declared.labels.Label.{Label}
+use Rattle.run_labels.specs.declared.labels.Label.TheVariants.{Stepped}
+use Rattle.cluster_record.specs.Calls.{left}
 use Rattle.cluster_record.specs.RecordState.{entry_of, swept}
 use Rattle.world_core.specs.declared.hands.InHand.{InHand}
 use Rattle.world_core.specs.Freeing.{freed_world}
+use Rattle.world_core.specs.Alone.{ended_at}
 use Rattle.world_core.specs.Happenings.{IsStep}
 use Rattle.world_core.specs.Leading.{copy_held}
 use Rattle.world_core.specs.HandsState.{hand_at, set_at}
-use Rattle.world_core.proofs.LeadSteps.{activates_one, lead_can, lead_node, lead_step}
+use Rattle.world_core.proofs.LeadSteps.{activates_one, lead_can, lead_ends, lead_node, lead_step}
 use Rattle.world_core.proofs.Held.{next_for}
 use Rattle.world_core.proofs.world.World.activate_step.Goals as goal
 
@@ -32,19 +38,28 @@ lead-requires-clause-can c =
     let w = c.args.self.now in
     let hand = c.in-Some.hand in
     let held : hand_at w.hands c.args.who ≡ Some hand = c.at-slot.ensures.value ∙ c.in-Some.is in
-    lead_can w c.args.who c.args.r hand held (next_for w c.args.who (Event (Activate c.args.r)) hand held c.requires.next) c.synchronized-ckpt.result c.synchronized-ckpt.ensures c.requires.shown c.free_gone.ensures.eight c.free_gone.new.self c.sweep.new.self c.copy_held-held.result
-    (c.sweep.ensures ∙ ap swept c.set_active.ensures) (c.copy_held-held.ensures ∙ ap (copy_held (entry_of c.synchronized-ckpt.result w.cluster.entries)) c.lend_snapshot.ensures.lent) (c.free_gone.ensures.new ∙ ap (λ (place : Option InHand). freed_world (record w { cluster = c.sweep.new.self; hands = set_at w.hands c.args.who place })) c.clear.ensures)
+    let next = next_for w c.args.who (Event (Activate c.args.r)) hand held c.requires.next in
+    let set_is = c.sweep.ensures ∙ ap swept c.set_active.ensures in
+    let end_is = c.take_done-end.ensures.outcome ∙ lead_ends w c.args.who c.args.r hand held next c.synchronized-ckpt.result c.synchronized-ckpt.ensures c.requires.shown c.sweep.new.self c.lend_snapshot.new.self set_is c.lend_snapshot.ensures.new in
+    let gone : c.let_go.new.slot ≡ None = c.let_go.ensures ∙ ap (λ end. left end c.take_done-end.new.self) end_is in
+    lead_can w c.args.who c.args.r hand held next c.synchronized-ckpt.result c.synchronized-ckpt.ensures c.requires.shown c.free_gone.ensures.eight c.free_gone.new.self c.sweep.new.self c.copy_held-held.result
+    set_is (c.copy_held-held.ensures ∙ ap (copy_held (entry_of c.synchronized-ckpt.result w.cluster.entries)) c.lend_snapshot.ensures.lent) (c.free_gone.ensures.new ∙ ap (λ (place : Option InHand). freed_world (record w { cluster = c.sweep.new.self; hands = set_at w.hands c.args.who place })) gone)
 
 pub returns : goal.returns
 returns c =
     let w = c.args.self.now in
     let hand = c.in-Some.hand in
     let held : hand_at w.hands c.args.who ≡ Some hand = c.at-slot.ensures.value ∙ c.in-Some.is in
+    let next = next_for w c.args.who (Event (Activate c.args.r)) hand held c.requires.next in
+    let set_is = c.sweep.ensures ∙ ap swept c.set_active.ensures in
+    let end_is = c.take_done-end.ensures.outcome ∙ lead_ends w c.args.who c.args.r hand held next c.synchronized-ckpt.result c.synchronized-ckpt.ensures c.requires.shown c.sweep.new.self c.lend_snapshot.new.self set_is c.lend_snapshot.ensures.new in
+    let gone : c.let_go.new.slot ≡ None = c.let_go.ensures ∙ ap (λ end. left end c.take_done-end.new.self) end_is in
     record {
       label = _;
       labels = c.push.ensures.labels;
-      is = subst (λ (label : Label). IsStep c.args.who w c.end_alone.new.self label) (sym c.stepped.ensures)
-          (lead_step w c.args.who c.args.r hand held (next_for w c.args.who (Event (Activate c.args.r)) hand held c.requires.next) c.synchronized-ckpt.result c.synchronized-ckpt.ensures c.requires.shown c.free_gone.ensures.eight c.free_gone.new.self c.sweep.new.self c.copy_held-held.result
-          (c.sweep.ensures ∙ ap swept c.set_active.ensures) (c.copy_held-held.ensures ∙ ap (copy_held (entry_of c.synchronized-ckpt.result w.cluster.entries)) c.lend_snapshot.ensures.lent) (c.free_gone.ensures.new ∙ ap (λ (place : Option InHand). freed_world (record w { cluster = c.sweep.new.self; hands = set_at w.hands c.args.who place })) c.clear.ensures)
-          c.end_alone.new.self c.lead.new.nodes c.word-op.result c.lead.ensures c.end_alone.ensures c.word-op.ensures);
+      is = subst (λ (label : Label). IsStep c.args.who w c.end_alone.new.self label)
+          (sym (c.stepped.ensures ∙ ap (λ end. Stepped hand.call c.word-op.result verbs.Activate (Some c.synchronized-ckpt.result) (Some c.args.r) Ok end Nothing) end_is))
+          (lead_step w c.args.who c.args.r hand held next c.synchronized-ckpt.result c.synchronized-ckpt.ensures c.requires.shown c.free_gone.ensures.eight c.free_gone.new.self c.sweep.new.self c.copy_held-held.result
+          set_is (c.copy_held-held.ensures ∙ ap (copy_held (entry_of c.synchronized-ckpt.result w.cluster.entries)) c.lend_snapshot.ensures.lent) (c.free_gone.ensures.new ∙ ap (λ (place : Option InHand). freed_world (record w { cluster = c.sweep.new.self; hands = set_at w.hands c.args.who place })) gone)
+          c.end_alone.new.self c.lead.new.nodes c.word-op.result c.lead.ensures (c.end_alone.ensures ∙ ap (λ end. ended_at c.args.who end (record c.free_gone.new.self { nodes = c.lead.new.nodes })) end_is) c.word-op.ensures);
     }

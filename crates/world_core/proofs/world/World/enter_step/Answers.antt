@@ -24,7 +24,7 @@ pub record_step-requires-clause-granted : goal.record_step-requires-clause-grant
 record_step-requires-clause-granted c hand held = refl
 
 pub refuse_step-requires-clause-refused : goal.refuse_step-requires-clause-refused
-refuse_step-requires-clause-refused c hand held = (refl, refl)
+refuse_step-requires-clause-refused c hand held = refl
 
 pub returns-in-Ok : goal.returns-in-Ok
 returns-in-Ok c =

@@ -1,19 +1,24 @@
-use Rattle.std.proofs.Common.{◌≡◌, length, Some, refl, sym, ap, subst, ◌∙◌}
+use Rattle.std.proofs.Common.{◌≡◌, length, Some, None, sym, ap, subst, ◌∙◌}
 use Rattle.std.specs.Prelude.{Option, IsTrue}
 use Rattle.ckpt_types.specs.declared.answers.Outcome.{Outcome}
-use Rattle.ckpt_types.specs.declared.answers.Outcome.TheVariants.{NoMemory}
+use Rattle.node_msgs.specs.declared.details.Details.TheVariants.{Nothing}
+use Rattle.node_msgs.specs.declared.replies.Reply.TheVariants.{NoMemory}
 use Rattle.node_msgs.specs.declared.steps.StepReply.TheVariants.{Memory}
 use Rattle.run_labels.specs.declared.labels.Label.{Label}
+use Rattle.run_labels.specs.declared.labels.Label.TheVariants.{Stepped}
+use Rattle.cluster_record.specs.Calls.{left}
 use Rattle.world_core.specs.declared.world.World.{World}
 use Rattle.world_core.specs.Happenings.{IsStep}
 use Rattle.world_core.specs.Settling.{CanSettle}
-use Rattle.world_core.specs.RecordReady.{IsRefusedWith}
+use Rattle.world_core.specs.RecordReady.{IsRefusedAs}
+use Rattle.world_core.specs.Taking.{hand_outcome}
 use Rattle.node_msgs.specs.declared.next.Next.TheVariants.{Event}
 use Rattle.ckpt_machine.specs.Driving.{takes_memory}
 use Rattle.world_core.specs.RecordAfter.{event_after, nodes_behind, snapshots_behind}
 use Rattle.world_core.specs.HandsState.{hand_at, set_at}
 use Rattle.world_core.specs.Alone.{ended_at}
 use Rattle.world_core.specs.Freeing.{freed_world}
+use Rattle.world_core.proofs.EventEnds.{done_ends, done_keeps, refused_ends}
 use Rattle.world_core.proofs.Going.{length-behind}
 use Rattle.world_core.proofs.Held.{next_for}
 use Rattle.world_core.proofs.RecordSteps.{can_add, can_settle, is_found, is_ready, when_ok, when_err, event_step, refused_step}
@@ -55,13 +60,16 @@ returns-then-is_err c =
     let err = sym c.is_err.ensures.value ∙ c.if-is_err.true in
     let same : (c.apply-applied.new.cluster ≡ w.cluster) × (c.apply-applied.new.nodes ≡ w.nodes) × (c.apply-applied.new.snapshots ≡ w.snapshots) = when_err ((c.apply-applied.new.cluster ≡ w.cluster) × (c.apply-applied.new.nodes ≡ w.nodes) × (c.apply-applied.new.snapshots ≡ w.snapshots)) c.apply-applied.result err c.apply-applied.ensures.err in
     let takes : IsTrue (takes_memory c.args.step) = when_err (IsTrue (takes_memory c.args.step)) c.apply-applied.result err c.apply-applied.ensures.memory in
+    let refused = refused_ends w c.args.who c.args.step hand held (next_for w c.args.who (Event c.args.step) hand held c.requires.next) c.requires.shown NoMemory (subst (λ (o : Option Outcome). IsRefusedAs o c.args.step NoMemory) (sym (c.requires.granted hand held)) takes) in
+    let end_is : c.take_refusal-end.result ≡ Some refused.0 = c.take_refusal-end.ensures.outcome ∙ ap (λ R. hand_outcome R NoMemory hand) same.0 ∙ refused.1 in
+    let gone : c.let_go.new.slot ≡ None = c.let_go.ensures ∙ ap (λ end. left end c.take_refusal-end.new.self) end_is in
     record {
       label = _;
       labels = c.push.ensures.labels;
-      is = subst (λ (label : Label). IsStep c.args.who w c.end_alone.new.self label) (sym c.stepped.ensures)
-          (refused_step w c.args.who c.args.step hand held (next_for w c.args.who (Event c.args.step) hand held c.requires.next) c.requires.shown c.end_alone.new.self c.word-op.result c.verb-verb.result c.args.ckpt c.event_node-node.result Memory NoMemory c.requires.plain
-          (subst (λ (o : Option Outcome). IsRefusedWith o c.args.step Memory NoMemory) (sym (c.requires.granted hand held)) (takes, refl))
-          (c.end_alone.ensures ∙ (λ i. ended_at c.args.who (Some NoMemory) (record w { cluster = same.0 i; nodes = same.1 i; snapshots = same.2 i; hands = set_at w.hands c.args.who (c.clear.ensures i) }))) (c.requires.ckpt hand held) c.event_node-node.ensures c.word-op.ensures c.verb-verb.ensures);
+      is = subst (λ (label : Label). IsStep c.args.who w c.end_alone.new.self label)
+          (sym (c.stepped.ensures ∙ ap (λ end. Stepped hand.call c.word-op.result c.verb-verb.result c.args.ckpt c.event_node-node.result Memory end Nothing) end_is))
+          (refused_step w c.args.who c.args.step hand held (next_for w c.args.who (Event c.args.step) hand held c.requires.next) c.requires.shown c.end_alone.new.self c.word-op.result c.verb-verb.result c.args.ckpt c.event_node-node.result Memory refused.0 c.requires.plain refused.2
+          (c.end_alone.ensures ∙ (λ i. ended_at c.args.who (end_is i) (record w { cluster = same.0 i; nodes = same.1 i; snapshots = same.2 i; hands = set_at w.hands c.args.who (gone i) }))) (c.requires.ckpt hand held) c.event_node-node.ensures c.word-op.ensures c.verb-verb.ensures);
     }
 
 pub returns : goal.returns
@@ -75,11 +83,12 @@ returns c =
     let nodes_are : c.apply-applied.new.nodes ≡ nodes_behind hand.driver c.args.step w.cluster w.nodes = when_ok (c.apply-applied.new.nodes ≡ nodes_behind hand.driver c.args.step w.cluster w.nodes) c.apply-applied.result ok c.apply-applied.ensures.nodes in
     let snapshots_are : c.apply-applied.new.snapshots ≡ snapshots_behind hand.driver c.args.step w.cluster w.snapshots = when_ok (c.apply-applied.new.snapshots ≡ snapshots_behind hand.driver c.args.step w.cluster w.snapshots) c.apply-applied.result ok c.apply-applied.ensures.snapshots in
     let eight : length w.nodes ≡ 8 = sym (ap length nodes_are ∙ length-behind hand.driver c.args.step w.cluster w.nodes) ∙ sym (ap (λ (x : World). length x.nodes) c.let_go_with.ensures) ∙ c.free_gone.ensures.eight in
-    let new_is = c.end_alone-2.ensures ∙ ap (ended_at c.args.who c.event_end-end.result) (c.free_gone.ensures.new ∙ ap freed_world c.let_go_with.ensures) in
+    let new_is = c.end_alone-2.ensures ∙ ap (ended_at c.args.who c.take_done-end.result) (c.free_gone.ensures.new ∙ ap freed_world c.let_go_with.ensures) in
     record {
       label = _;
       labels = c.push-2.ensures.labels;
       is = subst (λ (label : Label). IsStep c.args.who w c.end_alone-2.new.self label) (sym c.stepped-2.ensures)
-          (event_step w c.args.who c.args.step hand held next c.requires.shown c.end_alone-2.new.self c.apply-applied.new.cluster c.apply-applied.new.nodes c.apply-applied.new.snapshots c.settle.new.tables c.told.new.self c.let_go.new.slot c.client_by-c.result c.handle_closed-closed.result c.word-op.result c.verb-verb.result c.args.ckpt c.event_node-node.result c.event_end-end.result
-          (c.requires.granted hand held) c.requires.plain c.requires.roomy c.requires.has_room eight record_is (c.requires.ckpt hand held) c.event_node-node.ensures c.event_end-end.ensures c.settle.ensures c.told.ensures c.let_go.ensures nodes_are snapshots_are c.client_by-c.ensures c.handle_closed-closed.ensures new_is c.word-op.ensures c.verb-verb.ensures);
+          (event_step w c.args.who c.args.step hand held next c.requires.shown c.end_alone-2.new.self c.apply-applied.new.cluster c.apply-applied.new.nodes c.apply-applied.new.snapshots c.settle.new.tables c.take_done-end.new.self c.let_go-2.new.slot c.client_by-c.result c.handle_closed-closed.result c.word-op.result c.verb-verb.result c.args.ckpt c.event_node-node.result c.take_done-end.result
+          (c.requires.granted hand held) c.requires.plain c.requires.roomy c.requires.has_room eight record_is (c.requires.ckpt hand held) c.event_node-node.ensures (c.take_done-end.ensures.outcome ∙ done_ends w c.args.who c.args.step hand held next c.requires.shown (c.requires.granted hand held) c.apply-applied.new.cluster c.args.ckpt record_is (c.requires.ckpt hand held)) c.settle.ensures
+          (c.take_done-end.ensures.new ∙ done_keeps w c.args.who c.args.step hand held next c.requires.shown (c.requires.granted hand held) c.apply-applied.new.cluster c.args.ckpt c.event_node-node.result record_is (c.requires.ckpt hand held) c.event_node-node.ensures) c.let_go-2.ensures nodes_are snapshots_are c.client_by-c.ensures c.handle_closed-closed.ensures new_is c.word-op.ensures c.verb-verb.ensures);
     }

@@ -10,6 +10,7 @@ use Rattle.world_core.specs.TableState.{kept_by}
 use Rattle.world_core.proofs.HandPlaces.{left_alone}
 use Rattle.world_core.proofs.ServedSteps.{asks_lent, fits_at, keeps_at, step_is, told_still}
 use Rattle.world_core.proofs.Stepping.{lends, node_there}
+use Rattle.world_core.proofs.Taking.{hand_ends, hand_keeps}
 use Rattle.world_core.proofs.world.World.serve_step.Goals as goal
 
 pub returns-in_err-lent-clause-err : goal.returns-in_err-lent-clause-err
@@ -43,6 +44,6 @@ returns-clause-ok c =
           c.lend_iteration.new.hand (record c.lend_iteration.new.hand { snapshot = c.hand_over.new.from }) c.lend_iteration.result c.hand_over.new.to c.lend_iteration.new.tables c.lend_iteration.ensures.hand (ap (λ copy. record c.lend_iteration.new.hand { snapshot = copy }) c.hand_over.ensures.from) c.lend_iteration.ensures.lent c.hand_over.ensures.to c.lend_iteration.ensures.tables
           c.serve-reply.result c.serve-reply.new.self c.serve-reply.new.lent c.take.result c.hand_over-2.new.to c.keep_iteration.new.tables c.take-end.new.self c.let_go.new.slot c.take-end.result c.word-op.result (verb_of request) (ckpt_of request) (word_of c.serve-reply.result) c.told_details-details.result
           c.lend_iteration.ensures.valid (record { there = c.serve-reply.ensures.there; may = c.serve-reply.ensures.reply; nodes_are = c.serve-reply.ensures.new; details = c.serve-reply.ensures.details; iteration = c.serve-reply.ensures.iteration; snapshot = c.serve-reply.ensures.snapshot }) c.take.ensures.value c.hand_over-2.ensures.to
-          c.keep_iteration.ensures (c.take-end.ensures.new c.args.r request asks) (c.take-end.ensures.end c.args.r request asks) c.let_go.ensures c.word-op.ensures refl refl refl
+          c.keep_iteration.ensures (c.take-end.ensures.new ∙ hand_keeps w.cluster c.serve-reply.result c.args.r request _ asks) (c.take-end.ensures.outcome ∙ hand_ends w.cluster c.serve-reply.result c.args.r request _ c.take-end.new.self asks c.take-end.ensures.new) c.let_go.ensures c.word-op.ensures refl refl refl
           (c.told_details-details.ensures ∙ ap (ended_details c.take-end.result) (told_still c.serve-reply.result c.serve-reply.new.lent c.take.new.self c.hand_over-2.new.from)));
     }

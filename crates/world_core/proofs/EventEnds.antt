@@ -1,0 +1,528 @@
+-- How a call takes what the record answers to its step: it ends as the machine says, and keeps then what it says.
+use Rattle.std.proofs.Common.{◌≡◌, ℕ, ◌+◌, List, [], ◌∷◌, ◌++◌, filter, Bool, true, false, cond, not, ◌==◌, ◌&&◌, ◌||◌, nat_eq, ℤ, refl, sym, ap, subst, ◌∙◌, arith}
+use Rattle.std.specs.Prelude.{Option, Some, None, Result, Ok, Err, is_some, IsSome, IsSomeAnd, IfSome, IsTrue, slice_index, slice_set}
+use Rattle.std.specs.Cmp.Lexicographic.{pointwise, bytes_decides}
+use Rattle.std.specs.Option.{option_map}
+use Rattle.std.proofs.lemmas.Bool.{eq-eqb, ne_eqb}
+use Rattle.std.proofs.lemmas.Option.{same_Some}
+use Rattle.ckpt_types.specs.declared.ais_error.AisError.TheVariants.{TryAgain, Exist}
+use Rattle.ckpt_types.specs.declared.answers.Answer.TheVariants as answers
+use Rattle.ckpt_types.specs.declared.answers.Cause.{Cause}
+use Rattle.ckpt_types.specs.declared.answers.Cause.TheVariants as causes
+use Rattle.ckpt_types.specs.declared.answers.Outcome.{Outcome}
+use Rattle.ckpt_types.specs.declared.answers.Outcome.TheVariants.{Done, Refused, NoMemory}
+use Rattle.ckpt_types.specs.declared.attributes.CreationAttributes.{CreationAttributes}
+use Rattle.ckpt_types.specs.declared.identities.CallId.{CallId}
+use Rattle.ckpt_types.specs.declared.operation.Op.{Op}
+use Rattle.ckpt_types.specs.Asks.{Ask, asked}
+use Rattle.node_msgs.specs.declared.next.Next.{Next}
+use Rattle.node_msgs.specs.declared.next.Next.TheVariants.{Serve, Event, End}
+use Rattle.node_msgs.specs.declared.next.RecordStep.{RecordStep}
+use Rattle.node_msgs.specs.declared.next.RecordStep.TheVariants as events
+use Rattle.node_msgs.specs.declared.replies.Reply.{Reply}
+use Rattle.node_msgs.specs.declared.replies.Reply.TheVariants as replies
+use Rattle.node_msgs.specs.declared.steps.StepReply.TheVariants as words
+use Rattle.node_msgs.specs.Steps.{event_verb}
+use Rattle.cluster_record.specs.declared.calls.Making.{Making}
+use Rattle.cluster_record.specs.declared.calls.PulledAt.{PulledAt}
+use Rattle.cluster_record.specs.declared.calls.SyncKind.{SyncKind}
+use Rattle.cluster_record.specs.declared.calls.SyncKind.TheVariants.{Synchronize, ActiveSet}
+use Rattle.cluster_record.specs.declared.entries.Entry.{Entry}
+use Rattle.cluster_record.specs.declared.opening.OpenAnswer.TheVariants as opening
+use Rattle.cluster_record.specs.Calls.{client_of, same_call}
+use Rattle.cluster_record.specs.DueOnce as once
+use Rattle.cluster_record.specs.DueOpen.{OpenState, accepts, by_making, in_time, made_of, making_ckpt, on_making, open_next, reserve_or_finish, targets_of}
+use Rattle.cluster_record.specs.DueSync.{SyncState, first_unserved, install_next, kind_next, lead_next, sync_next, sync_on, synchronize_next, unless_held, unless_stale}
+use Rattle.cluster_record.specs.Ends.{hold_in, is_own, made_in, making_next, making_outcome_by, making_told_by, named_outcome, open_outcome_by, open_told_by, opened_in, refused_end, set_unless_held, setting_end, sync_outcome_by, sync_told_by}
+use Rattle.cluster_record.specs.Identities.{IdentitiesRise}
+use Rattle.cluster_record.specs.LookUps.{at_ckpt, identity_in}
+use Rattle.cluster_record.specs.Opening.{answer_by, answer_named}
+use Rattle.cluster_record.specs.Placement.{adds}
+use Rattle.cluster_record.specs.Places.{change_key}
+use Rattle.cluster_record.specs.RecordState.{RecordState, active_set, can_be_held, can_lead, created_as, entry_of, finished, home_of, hold_set, identity_of, is_live, is_name, joined, named, new_entry, opened, opened_with, referred, stays, swept, undone, with_active, with_hold, generation_under}
+use Rattle.cluster_record.specs.Refusals.{held_by, plainly}
+use Rattle.cluster_record.specs.StepDone.{done_of, first_lacking}
+use Rattle.cluster_record.proofs.IdentityLaws.{KeepsIdentity, AllAbove-entry_of, entry_of-find}
+use Rattle.cluster_record.proofs.NameLaws.{KeepsName}
+use Rattle.drive_open.specs.OpenStates.{found_by, found_in}
+use Rattle.ckpt_machine.specs.Drivers.{Driver, Rooms}
+use Rattle.ckpt_machine.specs.Drivers as drivers
+use Rattle.ckpt_machine.specs.Driving.{driver_next, driver_taken, event_ckpt, event_end, event_node, event_refusal, index_told, opened_end, refusal_in, takes_memory}
+use Rattle.ckpt_machine.specs.Entries.{AllStay}
+use Rattle.ckpt_machine.specs.Facts.{FitsOpen, HasLiveMaker, IsEventReady, IsFinishable}
+use Rattle.ckpt_machine.specs.Machine.{Machine, CallState}
+use Rattle.ckpt_machine.proofs.Actors.{same_call-refl}
+use Rattle.ckpt_machine.proofs.AskedFor.{DrivesFor, state_drives}
+use Rattle.ckpt_machine.proofs.Deadlines.{in_time-either}
+use Rattle.ckpt_machine.proofs.EntryLists.{AllStay-change_key, AllStay-push, filter-stays, find_key-change_key, stays-referred}
+use Rattle.ckpt_machine.proofs.OptionLemmas.{IsSomeAnd-at}
+use Rattle.ckpt_machine.proofs.SettingActive.{with_active-identity, with_hold-identity}
+use Rattle.world_core.specs.declared.hands.InHand.{InHand}
+use Rattle.world_core.specs.declared.world.World.{World}
+use Rattle.world_core.specs.Happenings.{rooms_at}
+use Rattle.world_core.specs.HandSteps.{hand_taken}
+use Rattle.world_core.specs.HandsState.{client_by, hand_at}
+use Rattle.world_core.specs.RecordAfter.{event_after}
+use Rattle.world_core.specs.RecordReady.{event_granted, refusal_word, IsGrantedAt, IsRefusedAs, IsRefusedWith}
+use Rattle.world_core.specs.Shows.{History, IsShown, machine_of}
+use Rattle.world_core.specs.Taking.{driver_outcome, driver_told, hand_outcome, hand_told}
+use Rattle.world_core.proofs.CallSteps.{IsKnown, known}
+use Rattle.world_core.proofs.Held.{driver_is, in_hand_is, state_in}
+use Rattle.world_core.proofs.Readiness.{made_as}
+use Rattle.world_core.proofs.RecordEvent.{event_ready}
+use Rattle.ckpt_types.specs.declared.identities.Who.{Who}
+
+-- ---- the entries behind a step
+
+-- a name that no entry has is that of the one which comes with it
+named_push : (name : List ℕ) (es : List Entry) (new : Entry) → named name es ≡ None → is_name name new.name ≡ true → named name (es ++ new ∷ []) ≡ Some new
+named_push name [] new free own = ap (λ b. cond b (Some new) None) own
+named_push name (x ∷ xs) new free own =
+    elim (is_name name x.name) as (λ b. cond b (Some x) (named name xs) ≡ None → cond b (Some x) (named name (xs ++ new ∷ [])) ≡ Some new) [
+      | true ↦ λ taken. absurd (cc taken)
+      | false ↦ λ free. named_push name xs new free own
+    ] free
+
+own_name : (name : List ℕ) → pointwise nat_eq name name ≡ true
+own_name name = (bytes_decides name name).1 refl
+
+-- one that is changed keeps its name
+named_change_key : (name : List ℕ) (k : ℕ) (f : Entry → Entry) → KeepsName f → (es : List Entry) (e : Entry) → IdentitiesRise es → named name es ≡ Some e → e.identity ≡ k → named name (change_key identity_of k f es) ≡ Some (f e)
+named_change_key name k f keeps [] e rises was is = absurd (cc was)
+named_change_key name k f keeps (x ∷ xs) e rises was is =
+    elim (is_name name x.name) as (λ b. is_name name x.name ≡ b → cond b (Some x) (named name xs) ≡ Some e → named name (change_key identity_of k f (x ∷ xs)) ≡ Some (f e)) [
+      | true ↦ λ own here.
+          let at : x ≡ e = same_Some x e here in
+          ap (λ b. named name (cond b (f x ∷ xs) (x ∷ change_key identity_of k f xs))) (eq-eqb x.identity k (ap (λ (y : Entry). y.identity) at ∙ is))
+          ∙ ap (λ b. cond b (Some (f x)) (named name xs)) (ap (is_name name) (keeps x) ∙ own)
+          ∙ ap (λ y. Some (f y)) at
+      | false ↦ λ other there.
+          let beyond = AllAbove-entry_of x.identity e.identity xs e rises.0 (entry_of-find _ xs e rises.1 there) in
+          ap (λ b. named name (cond b (f x ∷ xs) (x ∷ change_key identity_of k f xs))) (ne_eqb x.identity k (λ same. omega (arith, same, beyond, is)))
+          ∙ ap (λ b. cond b (Some x) (named name (change_key identity_of k f xs))) other
+          ∙ named_change_key name k f keeps xs e rises.1 there is
+    ] refl was
+
+-- one entry is changed, and no sweep takes it
+module _ (R : RecordState) (k : ℕ) (f : Entry → Entry) (same : KeepsIdentity f) (still : (x : Entry) → stays R.moment x ≡ true → stays R.moment (f x) ≡ true) (e : Entry) (there : entry_of k R.entries ≡ Some e) (rises : IdentitiesRise R.entries) (stay : AllStay R.moment R.entries) where
+  abbrev then_entries : List Entry
+  then_entries = change_key identity_of k f R.entries
+
+  all_stay : filter (stays R.moment) then_entries ≡ then_entries
+  all_stay = filter-stays R.moment then_entries (AllStay-change_key R.moment f k R.entries stay (λ x found was. still x was))
+
+  entry_then : entry_of k then_entries ≡ Some (f e)
+  entry_then = find_key-change_key identity_of k k f same R.entries e there ∙ ap (λ b. cond b (Some (f e)) (entry_of k R.entries)) (eq-eqb k k refl)
+
+  entry_changed : entry_of k (filter (stays R.moment) then_entries) ≡ Some (f e)
+  entry_changed = ap (entry_of k) all_stay ∙ entry_then
+
+  -- it is found by its name as before
+  named_changed : (name : List ℕ) → KeepsName f → named name R.entries ≡ Some e → e.identity ≡ k → named name (filter (stays R.moment) then_entries) ≡ Some (f e)
+  named_changed name keeps was is = ap (named name) all_stay ∙ named_change_key name k f keeps R.entries e rises was is
+
+-- a checkpoint that is opened stays, under its name and its identity, and made where it was
+joined_stays : (t : ℤ) (opener : ℕ) (up : List ℕ) (e : Entry) → stays t e ≡ true → stays t (joined opener up e) ≡ true
+joined_stays t opener up e stay = elim (adds e.attributes opener e.complete) as (λ b. stays t (cond b (record e { complete = slice_set e.complete opener (slice_index up opener) }) e) ≡ true) [ true ↦ stay | false ↦ stay ]
+
+opened_stays : (t : ℤ) (opener : ℕ) (up : List ℕ) (c : ℕ) (e : Entry) → stays t e ≡ true → stays t (opened_with opener up c e) ≡ true
+opened_stays t opener up c e stay = stays-referred t c (joined opener up e) (joined_stays t opener up e stay)
+
+opened_identity : (opener : ℕ) (up : List ℕ) (c : ℕ) → KeepsIdentity (opened_with opener up c)
+opened_identity opener up c e = elim (adds e.attributes opener e.complete) as (λ b. (cond b (record e { complete = slice_set e.complete opener (slice_index up opener) }) e).identity ≡ e.identity) [ true ↦ refl | false ↦ refl ]
+
+opened_name : (opener : ℕ) (up : List ℕ) (c : ℕ) → KeepsName (opened_with opener up c)
+opened_name opener up c e = elim (adds e.attributes opener e.complete) as (λ b. (cond b (record e { complete = slice_set e.complete opener (slice_index up opener) }) e).name ≡ e.name) [ true ↦ refl | false ↦ refl ]
+
+opened_making : (opener : ℕ) (up : List ℕ) (c : ℕ) (e : Entry) → (opened_with opener up c e).making ≡ e.making
+opened_making opener up c e = elim (adds e.attributes opener e.complete) as (λ b. (cond b (record e { complete = slice_set e.complete opener (slice_index up opener) }) e).making ≡ e.making) [ true ↦ refl | false ↦ refl ]
+
+hold_stays : (t : ℤ) (call : CallId) (e : Entry) → stays t e ≡ true → stays t (with_hold call e) ≡ true
+hold_stays t call e stay = elim (can_be_held e) as (λ b. stays t (cond b (record e { hold = Some call }) e) ≡ true) [ true ↦ stay | false ↦ stay ]
+
+active_stays : (t : ℤ) (r : ℕ) (e : Entry) → stays t e ≡ true → stays t (with_active r e) ≡ true
+active_stays t r e stay = elim (can_lead r e) as (λ b. stays t (cond b (record e { active = Some r; generation = generation_under r e; hold = None }) e) ≡ true) [ true ↦ stay | false ↦ stay ]
+
+-- ---- which steps of the record a call comes to
+
+-- of the steps of the record, those that end a making
+abbrev EndsMaking : Next → Type 0
+EndsMaking (Event events.Finish) = Unit {0}
+EndsMaking (Event events.Undo) = Unit {0}
+EndsMaking (Event step) = ⊥
+EndsMaking next = Unit {0}
+
+making_ends : (R : RecordState) (o : OpenState) (w : Making) → EndsMaking (making_next R o w)
+making_ends R o w = in_time-either EndsMaking o.deadline R.moment (on_making R o.ask w) (λ outcome. tt) (by_refused w.refused (first_lacking 0 (targets_of o.ask R) w.reserved)) where
+  by_refused : (b : Bool) (first : Option ℕ) → EndsMaking (cond b (Event events.Undo) (reserve_or_finish w.ckpt first))
+  by_refused true first = tt
+  by_refused false (Some r) = tt
+  by_refused false None = tt
+
+-- an open that comes to another one is making nothing
+makes_nothing : (R : RecordState) (room : Bool) (o : OpenState) (step : RecordStep) → (EndsMaking (Event step) → ⊥) → open_next R room o ≡ Event step → o.making ≡ None
+makes_nothing R room o step other next = by_what o.making refl next where
+  by_what : (w : Option Making) → o.making ≡ w → by_making R room o w ≡ Event step → o.making ≡ None
+  by_what None none next = none
+  by_what (Some w) some next = absurd (other (subst EndsMaking next (making_ends R o w)))
+
+abbrev IsNoEvent : Next → Type 0
+IsNoEvent (Event step) = ⊥
+IsNoEvent next = Unit {0}
+
+-- a synchronisation comes to none
+synchronize_none : (R : RecordState) (s : SyncState) (deadline : Option ℤ) (e : Entry) (active : Option ℕ) → IsNoEvent (synchronize_next R s deadline e active)
+synchronize_none R s deadline e None = tt
+synchronize_none R s deadline e (Some r) = in_time-either IsNoEvent deadline R.moment (unless_stale s e r s.pulled) (λ o. tt) (by_pulled s.pulled) where
+  by_first : (count : ℕ) (first : Option ℕ) → IsNoEvent (install_next s.call s.ckpt count first)
+  by_first count None = tt
+  by_first count (Some q) = tt
+
+  by_generation : (b : Bool) (count : ℕ) (late : Outcome) → IsNoEvent (cond b (install_next s.call s.ckpt count (first_unserved 0 e.complete s.served)) (End late))
+  by_generation true count late = by_first count (first_unserved 0 e.complete s.served)
+  by_generation false count late = tt
+
+  by_pulled : (p : Option PulledAt) → IsNoEvent (unless_stale s e r p)
+  by_pulled None = tt
+  by_pulled (Some p) = by_generation (p.generation == e.generation) p.count _
+
+-- so one that comes to one sets an active
+sets_active : (R : RecordState) (s : SyncState) (step : RecordStep) → sync_next R s ≡ Event step → (local : ℕ) × (s.kind ≡ ActiveSet local)
+sets_active R s step next = by_entry (entry_of s.ckpt R.entries) next where
+  by_kind : (e : Entry) (kind : SyncKind) → s.kind ≡ kind → kind_next R s e kind ≡ Event step → (local : ℕ) × (s.kind ≡ ActiveSet local)
+  by_kind e (Synchronize deadline) is next = absurd (subst IsNoEvent next (synchronize_none R s deadline e e.active))
+  by_kind e (ActiveSet local) is next = (local, is)
+
+  by_entry : (o : Option Entry) → sync_on R s o ≡ Event step → (local : ℕ) × (s.kind ≡ ActiveSet local)
+  by_entry None next = absurd (cc next)
+  by_entry (Some e) next = by_kind e s.kind refl next
+
+abbrev IsAnEvent : Next → Type 0
+IsAnEvent (Event step) = Unit {0}
+IsAnEvent next = ⊥
+
+event_outcome : (R : RecordState) (reply : Reply) (s : SyncState) (next : Next) → IsAnEvent next → sync_outcome_by R reply s next ≡ setting_end R reply s
+event_outcome R reply s (Event step) is = refl
+event_outcome R reply s next is = absurd is
+
+event_told : (R : RecordState) (reply : Reply) (s : SyncState) (next : Next) → IsAnEvent next → sync_told_by R reply s next ≡ s
+event_told R reply s (Event step) is = refl
+event_told R reply s next is = absurd is
+
+-- what is next of the setting of an active, where no other call holds its checkpoint, which has an active
+module _ (R : RecordState) (s : SyncState) (local : ℕ) (kind : s.kind ≡ ActiveSet local) (e : Entry) (there : entry_of s.ckpt R.entries ≡ Some e) where
+  next_is : sync_next R s ≡ unless_held s.call local e.active e.hold
+  next_is = ap (sync_on R s) there ∙ ap (kind_next R s e) kind
+
+  own_held : (call : CallId) → e.hold ≡ Some call → same_call call s.call ≡ true → IsAnEvent (sync_next R s)
+  own_held call holds own = subst IsAnEvent (sym (next_is ∙ ap (unless_held s.call local e.active) holds ∙ ap (λ b. cond b (Event (events.Activate local)) (End (Refused TryAgain (causes.Holder call)))) own)) tt
+
+  none_held : (r : ℕ) → e.active ≡ Some r → e.hold ≡ None → IsAnEvent (sync_next R s)
+  none_held r leads free = subst IsAnEvent (sym (next_is ∙ (λ i. unless_held s.call local (leads i) (free i)))) (by_test (r == local)) where
+    by_test : (b : Bool) → IsAnEvent (cond b (Event (events.Activate local)) (Event (events.Hold r)))
+    by_test true = tt
+    by_test false = tt
+
+-- ---- a step that is done
+
+-- what the record has done of its step, once it is as N
+abbrev is_done : Reply
+is_done = replies.Done answers.Nothing
+
+record TakesDone (R : RecordState) (x : Driver) (step : RecordStep) (N : RecordState) : Type 0 where
+  outcome : driver_outcome N is_done x ≡ event_end step (event_ckpt R x step)
+  told : driver_told N is_done x ≡ driver_taken (done_of N (event_verb step) (event_ckpt R x step) (event_node x step) words.Ok) x
+
+module _ (R : RecordState) (call : CallId) (rises : IdentitiesRise R.entries) (stay : AllStay R.moment R.entries) where
+  module _ (o : OpenState) (call_is : o.call ≡ call) where
+    abbrev behind : RecordStep → RecordState
+    behind step = event_after call (drivers.Open o) step R
+
+    create_done : o.making ≡ None → (a : CreationAttributes) → o.ask.attrs ≡ Some a → named o.ask.name R.entries ≡ None → TakesDone R (drivers.Open o) events.Create (behind events.Create)
+    create_done none a given free =
+        let N = behind events.Create in
+        let new : Entry = new_entry call o.ask.name a R in
+        let own : same_call call o.call ≡ true = ap (same_call call) call_is ∙ same_call-refl call in
+        let there : named o.ask.name N.entries ≡ Some new
+        = ap (λ b. named o.ask.name (swept (created_as call o.ask.name b R)).entries) given
+        ∙ ap (named o.ask.name) (filter-stays R.moment (R.entries ++ new ∷ []) (AllStay-push R.moment R.entries new stay refl))
+        ∙ named_push o.ask.name R.entries new free (own_name o.ask.name) in
+        record {
+          outcome = ap (open_outcome_by N is_done o) none ∙ ap (opened_in o.call) there ∙ ap (λ b. cond b None (Some (Done (answers.Opened new.identity)))) own;
+          told = ap drivers.Open (ap (open_told_by N is_done o) none ∙ (λ i. record o { making = made_in o.call (there i) }) ∙ (λ i. record o { making = cond (own i) (made_of (Some new.identity)) None }));
+        }
+
+    open_done : o.making ≡ None → (e : Entry) → named o.ask.name R.entries ≡ Some e → entry_of e.identity R.entries ≡ Some e → e.making ≡ None → TakesDone R (drivers.Open o) events.Open (behind events.Open)
+    open_done none e found there made =
+        let N = behind events.Open in
+        let home = home_of o.ask.client R in
+        let f : Entry → Entry = opened_with home R.up o.ask.client in
+        let after : named o.ask.name N.entries ≡ Some (f e)
+        = ap (λ z. named o.ask.name (swept (at_ckpt (identity_in z) R (λ k. opened k o.ask.client R))).entries) found
+        ∙ named_changed R e.identity f (opened_identity home R.up o.ask.client) (opened_stays R.moment home R.up o.ask.client) e there rises stay o.ask.name (opened_name home R.up o.ask.client) found refl in
+        let made_then : (f e).making ≡ None = opened_making home R.up o.ask.client e ∙ made in
+        record {
+          outcome = ap (open_outcome_by N is_done o) none ∙ ap (opened_in o.call) after ∙ ap (λ w. cond (is_own o.call w) None (Some (Done (answers.Opened (f e).identity)))) made_then
+              ∙ ap (λ k. Some (Done (answers.Opened k))) (opened_identity home R.up o.ask.client e) ∙ sym (ap (λ z. opened_end (identity_in z)) found);
+          told = ap drivers.Open (ap (open_told_by N is_done o) none ∙ (λ i. record o { making = made_in o.call (after i) }) ∙ (λ i. record o { making = cond (is_own o.call (made_then i)) (made_of (Some (f e).identity)) None }) ∙ (λ i. record o { making = sym none i }));
+        }
+
+    -- what ends a making leaves what is next of it
+    finished_next : (k : Option ℕ) (w : Making) → making_next (swept (at_ckpt k R (λ k. finished k o.ask.client R))) o w ≡ making_next R o w
+    finished_next None w = refl
+    finished_next (Some k) w = refl
+
+    undone_next : (k : Option ℕ) (w : Making) → making_next (swept (at_ckpt k R (λ k. undone k R))) o w ≡ making_next R o w
+    undone_next None w = refl
+    undone_next (Some k) w = refl
+
+    finish_done : (w : Making) → o.making ≡ Some w → making_next R o w ≡ Event events.Finish → TakesDone R (drivers.Open o) events.Finish (behind events.Finish)
+    finish_done w makes next =
+        let N = behind events.Finish in
+        let stays_next : making_next N o w ≡ Event events.Finish = finished_next (making_ckpt o.making) w ∙ next in
+        record {
+          outcome = ap (open_outcome_by N is_done o) makes ∙ ap (making_outcome_by N is_done w) stays_next ∙ sym (ap (λ z. opened_end (making_ckpt z)) makes);
+          told = ap drivers.Open (ap (open_told_by N is_done o) makes ∙ ap (making_told_by N is_done o) stays_next);
+        }
+
+    undo_done : (w : Making) → o.making ≡ Some w → making_next R o w ≡ Event events.Undo → TakesDone R (drivers.Open o) events.Undo (behind events.Undo)
+    undo_done w makes next =
+        let N = behind events.Undo in
+        let stays_next : making_next N o w ≡ Event events.Undo = undone_next (making_ckpt o.making) w ∙ next in
+        record {
+          outcome = ap (open_outcome_by N is_done o) makes ∙ ap (making_outcome_by N is_done w) stays_next;
+          told = ap drivers.Open (ap (open_told_by N is_done o) makes ∙ ap (making_told_by N is_done o) stays_next);
+        }
+
+  module _ (u : SyncState) (local : ℕ) (kind : u.kind ≡ ActiveSet local) (e : Entry) (there : entry_of u.ckpt R.entries ≡ Some e) where
+    hold_done : (r : ℕ) → u.call ≡ call → can_be_held e ≡ true → TakesDone R (drivers.Sync u) (events.Hold r) (event_after call (drivers.Sync u) (events.Hold r) R)
+    hold_done r call_is can =
+        let N = event_after call (drivers.Sync u) (events.Hold r) R in
+        let f : Entry = record e { hold = Some call } in
+        let own : same_call call u.call ≡ true = ap (same_call call) call_is ∙ same_call-refl call in
+        let after : entry_of u.ckpt N.entries ≡ Some f = entry_changed R u.ckpt (with_hold call) (with_hold-identity call) (λ x. hold_stays R.moment call x) e there rises stay ∙ ap (λ b. Some (cond b f e)) can in
+        let next : IsAnEvent (sync_next N u) = own_held N u local kind f after call refl own in
+        record {
+          outcome = event_outcome N is_done u (sync_next N u) next ∙ ap (λ z. set_unless_held u.call (hold_in z)) after ∙ ap (λ b. cond b None (Some (Done answers.Nothing))) own;
+          told = ap drivers.Sync (event_told N is_done u (sync_next N u) next);
+        }
+
+    activate_done : (r : ℕ) → can_lead r e ≡ true → TakesDone R (drivers.Sync u) (events.Activate r) (event_after call (drivers.Sync u) (events.Activate r) R)
+    activate_done r can =
+        let N = event_after call (drivers.Sync u) (events.Activate r) R in
+        let f : Entry = record e { active = Some r; generation = generation_under r e; hold = None } in
+        let after : entry_of u.ckpt N.entries ≡ Some f = entry_changed R u.ckpt (with_active r) (with_active-identity r) (λ x. active_stays R.moment r x) e there rises stay ∙ ap (λ b. Some (cond b f e)) can in
+        let next : IsAnEvent (sync_next N u) = none_held N u local kind f after r refl refl in
+        record {
+          outcome = event_outcome N is_done u (sync_next N u) next ∙ ap (λ z. set_unless_held u.call (hold_in z)) after;
+          told = ap drivers.Sync (event_told N is_done u (sync_next N u) next);
+        }
+
+module _ (m : Machine) (s : CallState) (rises : IdentitiesRise m.cluster.entries) (stay : AllStay m.cluster.moment m.cluster.entries) (rooms : Rooms) where
+  abbrev Done_of : Driver → RecordStep → Type 0
+  Done_of x step = TakesDone m.cluster x step (event_after s.call x step m.cluster)
+
+  opens_done : (o : OpenState) → o.call ≡ s.call → open_next m.cluster rooms.handles o ≡ Event events.Open → event_refusal m.cluster events.Open (drivers.Open o) ≡ None → IsSomeAnd (named o.ask.name m.cluster.entries) (FitsOpen m o.ask) → Done_of (drivers.Open o) events.Open
+  opens_done o call_is next granted there =
+      let (e, found, fits) = IsSomeAnd-at (named o.ask.name m.cluster.entries) (FitsOpen m o.ask) there in
+      let made : e.making ≡ None = made_as e o.ask.attrs (home_of o.ask.client m.cluster) e.making refl (subst (λ z. refusal_in (answer_named m.cluster o.ask.attrs (home_of o.ask.client m.cluster) z) ≡ None) found granted) in
+      open_done m.cluster s.call rises stay o call_is (makes_nothing m.cluster rooms.handles o events.Open (λ none. none) next) e found (entry_of-find _ m.cluster.entries e rises found) made
+
+  finishes_done : (o : OpenState) (w : Option Making) → o.making ≡ w → o.call ≡ s.call → by_making m.cluster rooms.handles o w ≡ Event events.Finish → IsFinishable m o.ask.client w → Done_of (drivers.Open o) events.Finish
+  finishes_done o None makes call_is next ready = absurd ready
+  finishes_done o (Some w) makes call_is next ready = finish_done m.cluster s.call rises stay o call_is w makes next
+
+  undoes_done : (o : OpenState) (w : Option Making) → o.making ≡ w → o.call ≡ s.call → by_making m.cluster rooms.handles o w ≡ Event events.Undo → IsSomeAnd w (λ w. Unit {0}) → Done_of (drivers.Open o) events.Undo
+  undoes_done o None makes call_is next ready = absurd ready
+  undoes_done o (Some w) makes call_is next ready = undo_done m.cluster s.call rises stay o call_is w makes next
+
+  -- each call takes it so
+  takes_done : (x : Driver) (step : RecordStep) → DrivesFor s.call (asked s.op) x → driver_next m.cluster rooms x ≡ Event step → event_refusal m.cluster step x ≡ None → IsEventReady m s x step → Done_of x step
+  takes_done (drivers.Once (once.Enter r)) events.Enter drives next granted ready = record { outcome = refl; told = refl }
+  takes_done (drivers.Once once.Leave) events.Leave drives next granted ready = record { outcome = refl; told = refl }
+  takes_done (drivers.Once (once.Close k)) events.Close drives next granted ready = record { outcome = refl; told = refl }
+  takes_done (drivers.Once (once.Unlink name)) events.Unlink drives next granted ready = record { outcome = refl; told = refl }
+  takes_done (drivers.Once (once.Retain k duration)) events.Retain drives next granted ready = record { outcome = refl; told = refl }
+  takes_done (drivers.Open o) events.Create drives next granted ready =
+      let (a, given, any) = IsSomeAnd-at o.ask.attrs (λ a. Unit {0}) ready.1 in
+      create_done m.cluster s.call rises stay o drives.call_is (makes_nothing m.cluster rooms.handles o events.Create (λ none. none) next) a given ready.2
+  takes_done (drivers.Open o) events.Open drives next granted ready = opens_done o drives.call_is next granted ready.0
+  takes_done (drivers.Open o) events.Finish drives next granted ready = finishes_done o o.making refl drives.call_is next ready.0
+  takes_done (drivers.Open o) events.Undo drives next granted ready = undoes_done o o.making refl drives.call_is next ready.0
+  takes_done (drivers.Sync u) (events.Hold r) drives next granted ready =
+      let (local, kind) = sets_active m.cluster u (events.Hold r) next in
+      let (e, there, can) = IsSomeAnd-at (entry_of u.ckpt m.cluster.entries) (λ e. can_be_held e ≡ true) ready.4.can in
+      hold_done m.cluster s.call rises stay u local kind e there r ready.4.call can
+  takes_done (drivers.Sync u) (events.Activate r) drives next granted ready =
+      let (local, kind) = sets_active m.cluster u (events.Activate r) next in
+      let (e, there, can) = IsSomeAnd-at (entry_of u.ckpt m.cluster.entries) (λ e. can_lead r e ≡ true) ready.3 in
+      activate_done m.cluster s.call rises stay u local kind e there r can
+  takes_done x step drives next granted ready = absurd ready
+
+-- ---- a step that is refused
+
+-- a call ends so by the reply to its step that is refused
+abbrev pub EndsRefused : RecordState → Driver → RecordStep → Reply → Type 0
+EndsRefused R x step reply = (end : Outcome) × (driver_outcome R reply x ≡ Some end) × IsRefusedWith (event_refusal R step x) step (refusal_word reply) end
+
+-- what the record does not refuse may lack memory alone
+memory_alone : (step : RecordStep) (reply : Reply) → IsRefusedAs None step reply → (reply ≡ replies.NoMemory) × IsTrue (takes_memory step)
+memory_alone step replies.NoMemory refused = (refl, refused)
+memory_alone step reply refused = absurd refused
+
+module _ (R : RecordState) (x : Driver) (step : RecordStep) (reply : Reply) (granted : event_refusal R step x ≡ None) (refused : IsRefusedAs (event_refusal R step x) step reply) where
+  abbrev lacks : (reply ≡ replies.NoMemory) × IsTrue (takes_memory step)
+  lacks = memory_alone step reply (subst (λ o. IsRefusedAs o step reply) granted refused)
+
+  memory_ends : driver_outcome R replies.NoMemory x ≡ Some NoMemory → EndsRefused R x step reply
+  memory_ends ends = (
+    NoMemory,
+    ap (λ q. driver_outcome R q x) lacks.0 ∙ ends,
+    subst (λ (z : Option Outcome × Reply). IsRefusedWith z.0 step (refusal_word z.1) NoMemory) (λ i. (sym granted i, sym lacks.0 i)) (lacks.1, refl),
+  )
+
+-- a checkpoint that another call is making is refused to an open, and nothing else is
+refusal_is : (R : RecordState) (a : Option CreationAttributes) (home : ℕ) (e : Entry) (making : Option CallId) → (making ≡ None → accepts a e ≡ true) → refusal_in (answer_by making a home e) ≡ option_map (λ by. Refused TryAgain (causes.Holder by)) making
+refusal_is R a home e None takes = ap (λ b. refusal_in (cond (not b) (opening.Refused (plainly Exist)) (opening.Opened e.identity (adds e.attributes home e.complete)))) (takes refl)
+refusal_is R a home e (Some by) takes = refl
+
+module _ (m : Machine) (o : OpenState) (there : IsSomeAnd (named o.ask.name m.cluster.entries) (FitsOpen m o.ask)) where
+  abbrev R : RecordState
+  R = m.cluster
+
+  -- the checkpoint of its name
+  abbrev its : (e : Entry) × (named o.ask.name R.entries ≡ Some e) × FitsOpen m o.ask e
+  its = IsSomeAnd-at (named o.ask.name R.entries) (FitsOpen m o.ask) there
+
+  open_refused : event_refusal R events.Open (drivers.Open o) ≡ option_map (λ by. Refused TryAgain (causes.Holder by)) its.0.making
+  open_refused = ap (λ z. refusal_in (answer_named R o.ask.attrs (home_of o.ask.client R) z)) its.1 ∙ refusal_is R o.ask.attrs (home_of o.ask.client R) its.0 its.0.making (λ made. (its.2 made).0)
+
+  granted_open : IsGrantedAt R (drivers.Open o) events.Open (event_granted R (drivers.Open o) events.Open)
+  granted_open = subst (λ z. IsGrantedAt R (drivers.Open o) events.Open (found_in z)) (sym its.1) (by_maker its.0.making refl) where
+    by_maker : (w : Option CallId) → its.0.making ≡ w → IsGrantedAt R (drivers.Open o) events.Open (found_by its.0.identity w)
+    by_maker None made = (open_refused ∙ ap (option_map (λ by. Refused TryAgain (causes.Holder by))) made, sym (ap identity_in its.1))
+    by_maker (Some by) made_by = open_refused ∙ ap (option_map (λ by. Refused TryAgain (causes.Holder by))) made_by
+
+  module _ (live : IsSomeAnd (named o.ask.name R.entries) (HasLiveMaker R)) (none : o.making ≡ None) where
+    maker_live : HasLiveMaker R its.0
+    maker_live = subst (λ z. IsSomeAnd z (HasLiveMaker R)) its.1 live
+
+    same_maker : (by call : CallId) → Some (Refused TryAgain (causes.Holder call)) ≡ Some (Refused TryAgain (causes.Holder by)) → call ≡ by
+    same_maker by call same = cc same
+
+    held_ends : (by : CallId) → event_refusal R events.Open (drivers.Open o) ≡ Some (Refused TryAgain (causes.Holder by)) → EndsRefused R (drivers.Open o) events.Open (replies.Held by)
+    held_ends by refusal = by_maker its.0.making refl maker_live where
+      by_maker : (w : Option CallId) → its.0.making ≡ w → IfSome w (λ d. is_live R d ≡ true) → EndsRefused R (drivers.Open o) events.Open (replies.Held by)
+      by_maker None made lives = absurd (let w : None ≡ Some (Refused TryAgain (causes.Holder by)) = sym (open_refused ∙ ap (option_map (λ by. Refused TryAgain (causes.Holder by))) made) ∙ refusal in cc w)
+      by_maker (Some call) made_by lives =
+          let same : call ≡ by = same_maker by call (sym (open_refused ∙ ap (option_map (λ by. Refused TryAgain (causes.Holder by))) made_by) ∙ refusal) in (
+            Refused TryAgain (causes.Holder by),
+            ap (open_outcome_by R (replies.Held by) o) none ∙ ap (λ b. refused_end b (replies.Held by)) (ap (is_live R) (sym same) ∙ lives),
+            subst (λ z. IsRefusedWith z events.Open words.Refused (Refused TryAgain (causes.Holder by))) (sym refusal) refl,
+          )
+
+    open_ends : (refusal : Option Outcome) (reply : Reply) → event_refusal R events.Open (drivers.Open o) ≡ refusal → IsRefusedAs refusal events.Open reply → EndsRefused R (drivers.Open o) events.Open reply
+    open_ends None reply is refused = memory_ends R (drivers.Open o) events.Open reply is (subst (λ z. IsRefusedAs z events.Open reply) (sym is) refused) (ap (open_outcome_by R replies.NoMemory o) none)
+    open_ends (Some why) (replies.Held by) is refused = held_ends by (is ∙ ap Some refused)
+    open_ends (Some why) reply is refused = absurd refused
+
+module _ (m : Machine) (s : CallState) (rooms : Rooms) where
+  -- what is granted is not refused
+  pub granted_is : (x : Driver) (step : RecordStep) → IsEventReady m s x step → IsGrantedAt m.cluster x step (event_granted m.cluster x step)
+  granted_is (drivers.Once (once.Enter r)) events.Enter ready = (refl, refl)
+  granted_is (drivers.Once once.Leave) events.Leave ready = (refl, refl)
+  granted_is (drivers.Once (once.Close k)) events.Close ready = (refl, refl)
+  granted_is (drivers.Once (once.Unlink name)) events.Unlink ready = (refl, refl)
+  granted_is (drivers.Once (once.Retain k duration)) events.Retain ready = (refl, refl)
+  granted_is (drivers.Open o) events.Create ready = (refl, refl)
+  granted_is (drivers.Open o) events.Open ready = granted_open m o ready.0
+  granted_is (drivers.Open o) events.Finish ready = (refl, refl)
+  granted_is (drivers.Open o) events.Undo ready = (refl, refl)
+  granted_is (drivers.Sync u) (events.Hold r) ready = (refl, refl)
+  granted_is (drivers.Sync u) (events.Activate r) ready = (refl, refl)
+  granted_is x step ready = absurd ready
+
+  -- each call ends by its refusal
+  takes_refused : (x : Driver) (step : RecordStep) (reply : Reply) → driver_next m.cluster rooms x ≡ Event step → IsEventReady m s x step → IsRefusedAs (event_refusal m.cluster step x) step reply → EndsRefused m.cluster x step reply
+  takes_refused (drivers.Once (once.Enter r)) events.Enter reply next ready refused = memory_ends m.cluster (drivers.Once (once.Enter r)) events.Enter reply refl refused refl
+  takes_refused (drivers.Once once.Leave) events.Leave reply next ready refused = memory_ends m.cluster (drivers.Once once.Leave) events.Leave reply refl refused refl
+  takes_refused (drivers.Once (once.Close k)) events.Close reply next ready refused = memory_ends m.cluster (drivers.Once (once.Close k)) events.Close reply refl refused refl
+  takes_refused (drivers.Once (once.Unlink name)) events.Unlink reply next ready refused = memory_ends m.cluster (drivers.Once (once.Unlink name)) events.Unlink reply refl refused refl
+  takes_refused (drivers.Once (once.Retain k duration)) events.Retain reply next ready refused = memory_ends m.cluster (drivers.Once (once.Retain k duration)) events.Retain reply refl refused refl
+  takes_refused (drivers.Open o) events.Create reply next ready refused = memory_ends m.cluster (drivers.Open o) events.Create reply refl refused (ap (open_outcome_by m.cluster replies.NoMemory o) (makes_nothing m.cluster rooms.handles o events.Create (λ none. none) next))
+  takes_refused (drivers.Open o) events.Open reply next ready refused = open_ends m o ready.0 ready.3 (makes_nothing m.cluster rooms.handles o events.Open (λ none. none) next) (event_refusal m.cluster events.Open (drivers.Open o)) reply refl refused
+  takes_refused (drivers.Open o) events.Finish reply next ready refused = absurd (let no : false ≡ true = (memory_alone events.Finish reply refused).1 in cc no)
+  takes_refused (drivers.Open o) events.Undo reply next ready refused = absurd (let no : false ≡ true = (memory_alone events.Undo reply refused).1 in cc no)
+  takes_refused (drivers.Sync u) (events.Hold r) reply next ready refused = absurd (let no : false ≡ true = (memory_alone (events.Hold r) reply refused).1 in cc no)
+  takes_refused (drivers.Sync u) (events.Activate r) reply next ready refused = absurd (let no : false ≡ true = (memory_alone (events.Activate r) reply refused).1 in cc no)
+  takes_refused x step reply next ready refused = absurd ready
+
+-- marks keep a hold off, whose call is live
+pub takes_kept_off : (R : RecordState) (u : SyncState) (r : ℕ) (by : CallId) → sync_next R u ≡ Event (events.Hold r) → is_live R by ≡ true → driver_outcome R (replies.Held by) (drivers.Sync u) ≡ Some (Refused TryAgain (causes.Holder by))
+takes_kept_off R u r by next lives = ap (sync_outcome_by R (replies.Held by) u) next ∙ ap (λ b. refused_end b (replies.Held by)) lives
+
+-- ---- of a call in hand
+
+-- no step of the record is told with an index
+done_alike : (op : Op) (step : RecordStep) (k : Option ℕ) → option_map (index_told op) (event_end step k) ≡ event_end step k
+done_alike op events.Enter k = refl
+done_alike op events.Leave k = refl
+done_alike op events.Open None = refl
+done_alike op events.Open (Some k) = refl
+done_alike op events.Create k = refl
+done_alike op events.Finish None = refl
+done_alike op events.Finish (Some k) = refl
+done_alike op events.Undo k = refl
+done_alike op events.Close k = refl
+done_alike op events.Unlink k = refl
+done_alike op events.Retain k = refl
+done_alike op (events.Hold r) k = refl
+done_alike op (events.Activate r) k = refl
+done_alike op (events.Complete j r t) k = refl
+
+refused_alike : (op : Op) (refusal : Option Outcome) (step : RecordStep) (reply : Reply) (end : Outcome) → IsRefusedAs refusal step reply → IsRefusedWith refusal step (refusal_word reply) end → index_told op end ≡ end
+refused_alike op (Some why) step (replies.Held by) end refused is = let w : end ≡ Refused TryAgain (causes.Holder by) = is ∙ refused in ap (index_told op) w ∙ sym w
+refused_alike op None step replies.NoMemory end refused is = let w : end ≡ NoMemory = is.1 in ap (index_told op) w ∙ sym w
+refused_alike op refusal step reply end refused is = absurd refused
+
+module _ (w : World) (v : Who) (step : RecordStep) (hand : InHand) (held : hand_at w.hands v ≡ Some hand) (next : driver_next w.cluster (rooms_at w (client_by v)) hand.driver ≡ Event step) (shown : IsShown w) where
+  abbrev h : History
+  h = shown.shows.history
+
+  abbrev its_facts : IsKnown w h
+  its_facts = known w shown
+
+  drives : DrivesFor hand.call (asked hand.op) hand.driver
+  drives = subst (DrivesFor hand.call (asked hand.op)) (sym (driver_is w h v hand held its_facts.fits)) (state_drives (state_in h v hand) (its_facts.facts.driven v (state_in h v hand) (in_hand_is w h v hand held)))
+
+  -- how the call takes the step, where it is done
+  done_is : event_refusal w.cluster step hand.driver ≡ None → TakesDone w.cluster hand.driver step (event_after hand.call hand.driver step w.cluster)
+  done_is granted = takes_done (machine_of w h) (state_in h v hand) its_facts.facts.rises its_facts.facts.stay (rooms_at w (client_by v)) hand.driver step drives next granted (event_ready w v step hand held next shown)
+
+  pub done_ends : event_refusal w.cluster step hand.driver ≡ None → (N : RecordState) (k : Option ℕ) → N ≡ event_after hand.call hand.driver step w.cluster → k ≡ event_ckpt w.cluster hand.driver step → hand_outcome N is_done hand ≡ event_end step k
+  done_ends granted N k N_is k_is =
+      ap (λ S. hand_outcome S is_done hand) N_is ∙ ap (option_map (index_told hand.op)) (done_is granted).outcome ∙ done_alike hand.op step (event_ckpt w.cluster hand.driver step) ∙ sym (ap (event_end step) k_is)
+
+  pub done_keeps : event_refusal w.cluster step hand.driver ≡ None → (N : RecordState) (k r : Option ℕ) → N ≡ event_after hand.call hand.driver step w.cluster → k ≡ event_ckpt w.cluster hand.driver step → r ≡ event_node hand.driver step →
+      hand_told N is_done hand ≡ hand_taken (done_of N (event_verb step) k r words.Ok) hand
+  done_keeps granted N k r N_is k_is r_is =
+      ap (λ S. hand_told S is_done hand) N_is ∙ ap (λ x. record hand { driver = x }) (done_is granted).told ∙ (λ i. hand_taken (done_of (sym N_is i) (event_verb step) (sym k_is i) (sym r_is i) words.Ok) hand)
+
+  -- and where it is refused
+  pub refused_ends : (reply : Reply) → IsRefusedAs (event_refusal w.cluster step hand.driver) step reply → (end : Outcome) × (hand_outcome w.cluster reply hand ≡ Some end) × IsRefusedWith (event_refusal w.cluster step hand.driver) step (refusal_word reply) end
+  refused_ends reply refused =
+      let (end, is, so) = takes_refused (machine_of w h) (state_in h v hand) (rooms_at w (client_by v)) hand.driver step reply next (event_ready w v step hand held next shown) refused in
+      (end, ap (option_map (index_told hand.op)) is ∙ ap Some (refused_alike hand.op (event_refusal w.cluster step hand.driver) step reply end refused so), so)
+
+  -- what it is on, or the call that keeps it off
+  granted_so : IsGrantedAt w.cluster hand.driver step (event_granted w.cluster hand.driver step)
+  granted_so = granted_is (machine_of w h) (state_in h v hand) (rooms_at w (client_by v)) hand.driver step (event_ready w v step hand held next shown)
+
+  module _ (r : Result (Option ℕ) CallId) (is : r ≡ event_granted w.cluster hand.driver step) where
+    pub granted_at : IsGrantedAt w.cluster hand.driver step r
+    granted_at = subst (IsGrantedAt w.cluster hand.driver step) (sym is) granted_so
+
+    pub kept_off_as : (by : CallId) → r ≡ Err by → IsRefusedAs (event_refusal w.cluster step hand.driver) step (replies.Held by)
+    kept_off_as by found =
+        let refusal : event_refusal w.cluster step hand.driver ≡ Some (Refused TryAgain (causes.Holder by)) = subst (IsGrantedAt w.cluster hand.driver step) found granted_at in
+        subst (λ o. IsRefusedAs o step (replies.Held by)) (sym refusal) refl
