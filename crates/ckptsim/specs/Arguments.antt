@@ -9,10 +9,10 @@ use Rattle.ckptsim.specs.declared.running.Status.TheVariants.{Ran, Usage, Script
 
 -- WHAT A READING OF ONE WORD TELLS of the words that the program was called with: the word with this number stands at
 -- the front of the place, or it is longer than the place, or there are no more than so many words
-abbrev pub Gives : List (List ℕ) → ℕ → Result ℕ FillError → List ℕ → Type 0
-Gives words number (Ok count) place = slice_get words number ≡ Some (take count place)
-Gives words number (Err TooLong) place = (word : List ℕ) × (slice_get words number ≡ Some word) × (length place < length word)
-Gives words number (Err NotPresent) place = length words ≤ number
+abbrev pub ReadsWord : List (List ℕ) → ℕ → Result ℕ FillError → List ℕ → Type 0
+ReadsWord words number (Ok count) place = slice_get words number ≡ Some (take count place)
+ReadsWord words number (Err TooLong) place = (word : List ℕ) × (slice_get words number ≡ Some word) × (length place < length word)
+ReadsWord words number (Err NotPresent) place = length words ≤ number
 
 -- the word that was read has this number, or none was read, and there are no more than so many words
 abbrev pub IsWordAt : List (List ℕ) → ℕ → Option (String Global) → Type 0

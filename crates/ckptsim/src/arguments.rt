@@ -1,6 +1,6 @@
 //! What a program was called with.
 ghost use Rattle.std.specs.Prelude.{ℕ, ◌≤◌, List, length, Option, None, IfOk, IfSome};
-ghost use Rattle.ckptsim.specs.Arguments.{Gives};
+ghost use Rattle.ckptsim.specs.Arguments.{ReadsWord};
 
 use std::env::{Env, FillError};
 
@@ -12,7 +12,7 @@ pub trait Arguments {
     /// Puts the word with this number at the front of the place, and returns its length.
     fn word(&self, number: usize, place: &mut [u8]) -> Result<usize, FillError>
         ensures within { IfOk result (λ count. count ≤ length place.new) }
-        ensures told { IfSome (called self.now) (λ words. Gives words number result place.new) };
+        ensures told { IfSome (called self.now) (λ words. ReadsWord words number result place.new) };
 }
 
 /// The words with which the system called the program. What they were is not known.
