@@ -1,22 +1,21 @@
 -- How a call takes what the record answers to its step: it ends as the machine says, and keeps then what it says.
-use Rattle.std.proofs.Common.{◌≡◌, ℕ, ◌+◌, List, [], ◌∷◌, ◌++◌, filter, Bool, true, false, cond, not, ◌==◌, ◌&&◌, ◌||◌, nat_eq, ℤ, refl, sym, ap, subst, ◌∙◌, arith}
-use Rattle.std.specs.Prelude.{Option, Some, None, Result, Ok, Err, is_some, IsSome, IsSomeAnd, IfSome, IsTrue, slice_index, slice_set}
+use Rattle.std.proofs.Common.{◌≡◌, ℕ, List, [], ◌∷◌, ◌++◌, filter, Bool, true, false, cond, not, ◌==◌, nat_eq, ℤ, refl, sym, ap, subst, ◌∙◌, arith}
+use Rattle.std.specs.Prelude.{Option, Some, None, Result, Err, IsSomeAnd, IfSome, IsTrue, slice_index, slice_set}
 use Rattle.std.specs.Cmp.Lexicographic.{pointwise, bytes_decides}
 use Rattle.std.specs.Option.{option_map}
 use Rattle.std.proofs.lemmas.Bool.{eq-eqb, ne_eqb}
 use Rattle.std.proofs.lemmas.Option.{same_Some}
 use Rattle.ckpt_types.specs.declared.ais_error.AisError.TheVariants.{TryAgain, Exist}
 use Rattle.ckpt_types.specs.declared.answers.Answer.TheVariants as answers
-use Rattle.ckpt_types.specs.declared.answers.Cause.{Cause}
 use Rattle.ckpt_types.specs.declared.answers.Cause.TheVariants as causes
 use Rattle.ckpt_types.specs.declared.answers.Outcome.{Outcome}
 use Rattle.ckpt_types.specs.declared.answers.Outcome.TheVariants.{Done, Refused, NoMemory}
 use Rattle.ckpt_types.specs.declared.attributes.CreationAttributes.{CreationAttributes}
 use Rattle.ckpt_types.specs.declared.identities.CallId.{CallId}
 use Rattle.ckpt_types.specs.declared.operation.Op.{Op}
-use Rattle.ckpt_types.specs.Asks.{Ask, asked}
+use Rattle.ckpt_types.specs.Asks.{asked}
 use Rattle.node_msgs.specs.declared.next.Next.{Next}
-use Rattle.node_msgs.specs.declared.next.Next.TheVariants.{Serve, Event, End}
+use Rattle.node_msgs.specs.declared.next.Next.TheVariants.{Event, End}
 use Rattle.node_msgs.specs.declared.next.RecordStep.{RecordStep}
 use Rattle.node_msgs.specs.declared.next.RecordStep.TheVariants as events
 use Rattle.node_msgs.specs.declared.replies.Reply.{Reply}
@@ -29,18 +28,18 @@ use Rattle.cluster_record.specs.declared.calls.SyncKind.{SyncKind}
 use Rattle.cluster_record.specs.declared.calls.SyncKind.TheVariants.{Synchronize, ActiveSet}
 use Rattle.cluster_record.specs.declared.entries.Entry.{Entry}
 use Rattle.cluster_record.specs.declared.opening.OpenAnswer.TheVariants as opening
-use Rattle.cluster_record.specs.Calls.{client_of, same_call}
+use Rattle.cluster_record.specs.Calls.{same_call}
 use Rattle.cluster_record.specs.DueOnce as once
-use Rattle.cluster_record.specs.DueOpen.{OpenState, accepts, by_making, in_time, made_of, making_ckpt, on_making, open_next, reserve_or_finish, targets_of}
-use Rattle.cluster_record.specs.DueSync.{SyncState, first_unserved, install_next, kind_next, lead_next, sync_next, sync_on, synchronize_next, unless_held, unless_stale}
-use Rattle.cluster_record.specs.Ends.{hold_in, is_own, made_in, making_next, making_outcome_by, making_told_by, named_outcome, open_outcome_by, open_told_by, opened_in, refused_end, set_unless_held, setting_end, sync_outcome_by, sync_told_by}
+use Rattle.cluster_record.specs.DueOpen.{OpenState, accepts, by_making, made_of, making_ckpt, on_making, open_next, reserve_or_finish, targets_of}
+use Rattle.cluster_record.specs.DueSync.{SyncState, first_unserved, install_next, kind_next, sync_next, sync_on, synchronize_next, unless_held, unless_stale}
+use Rattle.cluster_record.specs.Ends.{hold_in, is_own, made_in, making_next, making_outcome_by, making_told_by, open_outcome_by, open_told_by, opened_in, refused_end, set_unless_held, setting_end, sync_outcome_by, sync_told_by}
 use Rattle.cluster_record.specs.Identities.{IdentitiesRise}
 use Rattle.cluster_record.specs.LookUps.{at_ckpt, identity_in}
 use Rattle.cluster_record.specs.Opening.{answer_by, answer_named}
 use Rattle.cluster_record.specs.Placement.{adds}
 use Rattle.cluster_record.specs.Places.{change_key}
-use Rattle.cluster_record.specs.RecordState.{RecordState, active_set, can_be_held, can_lead, created_as, entry_of, finished, home_of, hold_set, identity_of, is_live, is_name, joined, named, new_entry, opened, opened_with, referred, stays, swept, undone, with_active, with_hold, generation_under}
-use Rattle.cluster_record.specs.Refusals.{held_by, plainly}
+use Rattle.cluster_record.specs.RecordState.{RecordState, can_be_held, can_lead, created_as, entry_of, finished, home_of, identity_of, is_live, is_name, joined, named, new_entry, opened, opened_with, stays, swept, undone, with_active, with_hold, generation_under}
+use Rattle.cluster_record.specs.Refusals.{plainly}
 use Rattle.cluster_record.specs.StepDone.{done_of, first_lacking}
 use Rattle.cluster_record.proofs.IdentityLaws.{KeepsIdentity, AllAbove-entry_of, entry_of-find}
 use Rattle.cluster_record.proofs.NameLaws.{KeepsName}

@@ -1,6 +1,6 @@
 //! What drives a call: what it does next, and how it ends.
 ghost use Rattle.cluster_record.specs.Makings.{makings_of};
-ghost use Rattle.std.specs.Prelude.{◌≡◌, ℕ, ◌-◌, ◌^◌, ◌<◌, Some, IfOk, IsSome};
+ghost use Rattle.std.specs.Prelude.{◌≡◌, ◌-◌, ◌^◌, ◌<◌, Some, IfOk, IsSome};
 ghost use Rattle.std.specs.Option.{option_map};
 ghost use Rattle.ckpt_types.specs.Limits.{client_numbers, nodes_max};
 ghost use Rattle.ckpt_machine.specs.Driving.{driver_next, driver_taken, driver_start, on_kept, kind_of_change, change_start, active_start, sync_start, done_end, event_ckpt, event_node, making_in, takes_memory, refused_cause, index_told};

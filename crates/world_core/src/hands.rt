@@ -1,5 +1,5 @@
 //! The calls in hand.
-ghost use Rattle.std.specs.Prelude.{◌≡◌, ℕ, ◌<◌, length, replicate, Some, None, is_some, [], IfNone, IfOk, IfSome, OnOk, OnErr, slice_get, IsSome, IsSomeAnd, MatchOption};
+ghost use Rattle.std.specs.Prelude.{◌≡◌, ◌<◌, length, replicate, Some, None, is_some, [], IfNone, IfOk, IfSome, OnOk, OnErr, slice_get, IsSome, IsSomeAnd, MatchOption};
 ghost use Rattle.std.specs.Borrow.{sem};
 ghost use Rattle.std.specs.Option.{option_and_then, option_map};
 ghost use Rattle.ckpt_types.specs.OpWord.{word_of_op};

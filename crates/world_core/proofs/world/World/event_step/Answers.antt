@@ -1,4 +1,3 @@
-use Rattle.std.proofs.Common.{Some}
 use Rattle.node_msgs.specs.declared.next.Next.TheVariants.{Event}
 use Rattle.world_core.proofs.EventEnds.{granted_at, kept_off_as}
 use Rattle.world_core.proofs.Granted.{granted_ok}
