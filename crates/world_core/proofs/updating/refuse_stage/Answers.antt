@@ -12,6 +12,7 @@ use Rattle.node_core.specs.StageReplies.{reply_refused}
 use Rattle.world_core.specs.declared.hands.InHand.{InHand}
 use Rattle.cluster_record.specs.Ends.{served_done}
 use Rattle.world_core.specs.HandSteps.{hand_taken, hand_end}
+use Rattle.world_core.proofs.Taking.{hand_ends, hand_keeps}
 use Rattle.world_core.proofs.updating.refuse_stage.Goals as goal
 
 pub returns-clause-slot : goal.returns-clause-slot
@@ -21,8 +22,8 @@ returns-clause-slot c h is =
     let same : c.in-Some.hand ≡ h = same_Some c.in-Some.hand h (sym c.in-Some.is ∙ is) in
     let reply : c.reply_refused-reply.result ≡ reply_refused c.args.refused = c.reply_refused-reply.ensures in
     let asks = c.requires.next c.in-Some.hand c.in-Some.is in
-    let taken = c.take-end.ensures.new c.args.r request asks ∙ (λ i. hand_taken (served_done R request c.args.r (reply i)) (same i)) in
-    let end = c.take-end.ensures.end c.args.r request asks ∙ (λ i. hand_end (served_done R request c.args.r (reply i)) (reply i) (taken i)) in
+    let taken = c.take-end.ensures.new ∙ hand_keeps R c.reply_refused-reply.result c.args.r request _ asks ∙ (λ i. hand_taken (served_done R request c.args.r (reply i)) (same i)) in
+    let end = c.take-end.ensures.outcome ∙ hand_ends R c.reply_refused-reply.result c.args.r request _ c.take-end.new.self asks c.take-end.ensures.new ∙ (λ i. hand_end (served_done R request c.args.r (reply i)) (reply i) (taken i)) in
     c.let_go.ensures ∙ (λ i. left (end i) (taken i))
 
 pub returns-clause-label : goal.returns-clause-label
@@ -32,8 +33,8 @@ returns-clause-label c h is =
     let same : c.in-Some.hand ≡ h = same_Some c.in-Some.hand h (sym c.in-Some.is ∙ is) in
     let reply : c.reply_refused-reply.result ≡ reply_refused c.args.refused = c.reply_refused-reply.ensures in
     let asks = c.requires.next c.in-Some.hand c.in-Some.is in
-    let taken = c.take-end.ensures.new c.args.r request asks ∙ (λ i. hand_taken (served_done R request c.args.r (reply i)) (same i)) in
-    let end = c.take-end.ensures.end c.args.r request asks ∙ (λ i. hand_end (served_done R request c.args.r (reply i)) (reply i) (taken i)) in
+    let taken = c.take-end.ensures.new ∙ hand_keeps R c.reply_refused-reply.result c.args.r request _ asks ∙ (λ i. hand_taken (served_done R request c.args.r (reply i)) (same i)) in
+    let end = c.take-end.ensures.outcome ∙ hand_ends R c.reply_refused-reply.result c.args.r request _ c.take-end.new.self asks c.take-end.ensures.new ∙ (λ i. hand_end (served_done R request c.args.r (reply i)) (reply i) (taken i)) in
     let word : c.word-op.result ≡ word_of_op h.op = c.word-op.ensures ∙ ap (λ (h : InHand). word_of_op h.op) same in
     c.push.ensures.labels
     ∙ ap (λ (l : Label). c.args.log.now.labels ++ l ∷ [])
