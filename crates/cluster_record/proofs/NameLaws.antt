@@ -134,6 +134,29 @@ named-entry name es k rises is = by (named name es) refl is where
   by None e is = absurd cc
   by (Some x) e is = subst (λ j. entry_of j es ≡ Some x) (sym (some-same k x.identity is)) (named-own name es x rises e)
 
+once_behind : (o : Option (List ℕ)) (k : ℕ) (table : List NamedCkpt) → EachOnce (linked_name o k ++ table) → EachOnce table
+once_behind None k table once = once
+once_behind (Some name) k table once = once.1
+
+-- an entry that has the name is the one of that name
+pub named-known : (name : List ℕ) (es : List Entry) (k : ℕ) (e : Entry) → EachOnce (names_of es) → entry_of k es ≡ Some e → is_name name e.name ≡ true → named name es ≡ Some e
+named-known name [] k e once there same = absurd cc
+named-known name (x ∷ xs) k e once there same = by (x.identity == k) (λ there. named-known name xs k e (once_behind x.name x.identity (names_of xs) once) there same) there where
+  here : x ≡ e → cond (is_name name x.name) (Some x) (named name xs) ≡ Some e
+  here is = subst (λ (y : Entry). cond (is_name name y.name) (Some y) (named name xs) ≡ Some e) (sym is) (ap (λ b. cond b (Some e) (named name xs)) same)
+
+  apart : named name xs ≡ Some e → (o : Option (List ℕ)) → EachOnce (linked_name o x.identity ++ names_of xs) → is_name name o ≡ false
+  apart rest None once = refl
+  apart rest (Some other) once =
+      elim (pointwise nat_eq other name) as (λ b. pointwise nat_eq other name ≡ b → b ≡ false) [
+        | true ↦ λ is. absurd (none-some e.identity (sym once.0 ∙ ap (λ name. found name (names_of xs)) ((bytes_decides other name).0 is) ∙ found-named name xs ∙ ap identity_in rest))
+        | false ↦ λ is. refl
+      ] refl
+
+  by : (b : Bool) → (entry_of k xs ≡ Some e → named name xs ≡ Some e) → cond b (Some x) (entry_of k xs) ≡ Some e → cond (is_name name x.name) (Some x) (named name xs) ≡ Some e
+  by true behind there = here (some-same x e there)
+  by false behind there = ap (λ b. cond b (Some x) (named name xs)) (apart (behind there) x.name once) ∙ behind there
+
 -- a name that no entry has is absent from the table
 pub absent-name : (name : List ℕ) (es : List Entry) → named name es ≡ None → found name (names_of es) ≡ None
 absent-name name es absent = found-named name es ∙ ap identity_in absent

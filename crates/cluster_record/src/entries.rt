@@ -9,7 +9,7 @@ ghost use Rattle.cluster_record.specs.Makings.{makings_of};
 ghost use Rattle.cluster_record.specs.Kept.{HasTimes};
 ghost use Rattle.cluster_record.specs.NamesOf.{stays_by, without_name, without_gone};
 ghost use Rattle.cluster_record.specs.Places.{change_key, place_key};
-ghost use Rattle.cluster_record.specs.RecordState.{no_nodes, no_references, identity_of, entry_of, first_active, first_complete, retained_until, stays, has_references, referred, joined, opened_with, made_with, idle_from, unreferred, released_all, is_call_of, can_be_held, with_hold, can_lead, is_active, with_active};
+ghost use Rattle.cluster_record.specs.RecordState.{no_nodes, no_references, identity_of, entry_of, is_name, first_active, first_complete, retained_until, stays, has_references, referred, joined, opened_with, made_with, idle_from, unreferred, released_all, is_call_of, can_be_held, with_hold, can_lead, is_active, with_active};
 
 use crate::placement::{adds, incarnation_at, is_collocated, targets};
 use ckpt_types::{
@@ -207,6 +207,16 @@ impl Entry {
         ensures { result ≡ entry_may_rise self.now }
     {
         self.generation < u64::MAX && all_may_rise(&self.references)
+    }
+
+    // Whether it has this name.
+    pub(crate) fn has_name(&self, name: &Bytes) -> bool
+        ensures { result ≡ is_name name.now self.now.name }
+    {
+        match &self.name {
+            None => false,
+            Some(own) => own.as_slice() == name.as_slice(),
+        }
     }
 
     // Whether it has a name, and is not past its retention.

@@ -216,6 +216,20 @@ impl Record {
         }
     }
 
+    /// The checkpoint of a name, as `named`, and sooner where it is likely to be this one.
+    pub fn known_as(&self, name: &Bytes, likely: Option<CkptId>) -> Option<&Entry>
+        ensures { MatchOption result (named name.now self.now.entries ≡ None) (λ entry. named name.now self.now.entries ≡ Some entry.now) }
+    {
+        if let Some(identity) = likely {
+            if let Some(entry) = find_entry(self.entries.as_slice(), identity) {
+                if entry.has_name(name) {
+                    return Some(entry);
+                }
+            }
+        }
+        self.named(name)
+    }
+
     /// The identity of the checkpoint of a name.
     pub fn find(&self, name: &Bytes) -> Option<CkptId>
         ensures { result ≡ identity_in (named name.now self.now.entries) }

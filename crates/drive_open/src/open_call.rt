@@ -1,6 +1,8 @@
 //! The driver of an open.
 ghost use Rattle.std.specs.Prelude.{◌≡◌, ◌<◌, Some, None, IfOk};
 ghost use Rattle.ckpt_types.specs.Limits.{nodes_max};
+ghost use Rattle.ckpt_types.specs.declared.answers.Answer.TheVariants as answers;
+ghost use Rattle.node_msgs.specs.declared.replies.Reply.TheVariants as replies;
 ghost use Rattle.cluster_record.specs.RecordState.{named};
 ghost use Rattle.node_msgs.specs.Requests.{ckpt_of};
 ghost use Rattle.node_msgs.specs.Steps.{verb_of};
@@ -229,25 +231,36 @@ impl OpenCall {
         }
     }
 
+    /// It takes that the record has done its step, on this checkpoint, as `take` of that reply, and sooner.
+    pub fn take_step(&mut self, cluster: &Record, ckpt: Option<CkptId>) -> Option<Outcome>
+        ensures new { self.new ≡ open_told cluster.now (replies.Done answers.Nothing) self.old }
+        ensures outcome { result ≡ open_outcome cluster.now (replies.Done answers.Nothing) self.old }
+    {
+        if self.making.is_none() {
+            return self.take_done(cluster, ckpt);
+        }
+        self.take(cluster, &Reply::Done(Answer::Nothing))
+    }
+
     // While it makes nothing: it keeps what it is making then, or has opened what has its name.
     fn take_named(&mut self, cluster: &Record, reply: &Reply) -> Option<Outcome>
         ensures new { self.new ≡ named_told cluster.now reply.now self.old }
         ensures outcome { result ≡ named_outcome cluster.now reply.now self.old }
     {
         match reply {
-            Reply::Done(_) => self.take_done(cluster),
+            Reply::Done(_) => self.take_done(cluster, None),
             Reply::NoMemory => Some(Outcome::NoMemory),
             _ => refused_end(cluster, reply),
         }
     }
 
-    // The record has made its checkpoint, or opened what has its name.
-    fn take_done(&mut self, cluster: &Record) -> Option<Outcome>
+    // The record has made its checkpoint, or opened what has its name, which is likely this one.
+    fn take_done(&mut self, cluster: &Record, likely: Option<CkptId>) -> Option<Outcome>
         ensures new { self.new ≡ record self.old { making = made_in self.old.call (named self.old.ask.name cluster.now.entries) } }
         ensures outcome { result ≡ opened_in self.old.call (named self.old.ask.name cluster.now.entries) }
     {
         self.making = None;
-        let entry = cluster.named(self.ask.name())?;
+        let entry = cluster.known_as(self.ask.name(), likely)?;
         if !is_own(self.call, entry.making) {
             return Some(Outcome::Done(Answer::Opened(entry.identity)));
         }

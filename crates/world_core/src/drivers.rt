@@ -14,6 +14,7 @@ ghost use Rattle.ckpt_machine.specs.Options.{is_all, is_weak};
 ghost use Rattle.ckpt_machine.specs.Steps.{declares_at, kept_at_beginning};
 ghost use Rattle.ckpt_machine.specs.Tables.{rooms_in};
 ghost use Rattle.world_core.specs.CallStates.{driver_in, step_in};
+ghost use Rattle.node_msgs.specs.declared.replies.Reply.TheVariants as replies;
 ghost use Rattle.node_msgs.specs.declared.steps.StepReply.TheVariants as words;
 ghost use Rattle.node_msgs.specs.declared.steps.Verb.TheVariants as verbs;
 ghost use Rattle.ckpt_types.specs.declared.answers.Answer.TheVariants as answers;
@@ -29,7 +30,7 @@ use crate::one_step::OneStep;
 use crate::options::{is_all, is_weak};
 use crate::tables::Tables;
 use ckpt_types::{
-    CallId, Cause, CkptId, NodeId, Op, Outcome, SharedAttributes, SharedName, Update,
+    Answer, CallId, Cause, CkptId, NodeId, Op, Outcome, SharedAttributes, SharedName, Update,
 };
 use client_handles::HandleView;
 use cluster_record::{ActiveKind, Record, SyncKind, number_of};
@@ -197,6 +198,18 @@ impl Driver {
             DriverKind::Once(step) => step.take(reply),
         };
         index_told(op, outcome)
+    }
+
+    /// It takes that the record has done its step, on this checkpoint, as `take` of that reply; an open does so sooner.
+    #[inline(never)]
+    pub fn take_done(&mut self, op: &Op, cluster: &Record, ckpt: Option<CkptId>) -> Option<Outcome>
+        ensures new { self.new ≡ driver_told cluster.now (replies.Done answers.Nothing) self.old }
+        ensures outcome { result ≡ option_map (index_told op.now) (driver_outcome cluster.now (replies.Done answers.Nothing) self.old) }
+    {
+        let DriverKind::Open(open_call) = &mut self.kind else {
+            return self.take(op, cluster, &Reply::Done(Answer::Nothing));
+        };
+        index_told(op, open_call.take_step(cluster, ckpt))
     }
 
     /// The update takes that a node has staged it.

@@ -32,7 +32,7 @@ use crate::drivers::Driver;
 use crate::nodes::Nodes;
 use call_dispatch::Pending;
 use ckpt_types::{
-    ActorName, Answer, AsyncKind, CLIENT_NUMBERS, CallId, CkptId, Held, NodeId, Op, Outcome, Who,
+    ActorName, AsyncKind, CLIENT_NUMBERS, CallId, CkptId, Held, NodeId, Op, Outcome, Who,
 };
 use cluster_record::{Record, number_of};
 use node_msgs::Reply;
@@ -96,13 +96,14 @@ impl InHand {
         self.driver.take(&self.op, cluster, reply)
     }
 
-    /// It takes that the record has done its step, with the record behind that. What it ends with, if it ends.
-    #[inline(never)]
-    pub fn take_done(&mut self, cluster: &Record) -> Option<Outcome>
+    /// It takes that the record has done its step, on this checkpoint, with the record behind that. What it ends with, if
+    /// it ends.
+    #[inline(always)]
+    pub fn take_done(&mut self, cluster: &Record, ckpt: Option<CkptId>) -> Option<Outcome>
         ensures new { self.new ≡ hand_told cluster.now (replies.Done answers.Nothing) self.old }
         ensures outcome { result ≡ hand_outcome cluster.now (replies.Done answers.Nothing) self.old }
     {
-        self.take(cluster, &Reply::Done(Answer::Nothing))
+        self.driver.take_done(&self.op, cluster, ckpt)
     }
 
     /// It takes that its step was refused, by the record or for the memory that it takes. What it ends with, if it ends.

@@ -46,7 +46,7 @@ impl World {
             }
             Ok(()) => {
                 hold(&mut self.cluster, ckpt, call);
-                let end = hand.take_done(&self.cluster);
+                let end = hand.take_done(&self.cluster, Some(ckpt));
                 let_go(slot, &end);
                 self.free_gone();
                 self.end_alone(who, &end);
@@ -75,7 +75,7 @@ impl World {
         let held = copy_held(&self.cluster, ckpt, hand.lend_snapshot());
         self.cluster.set_active(ckpt, r);
         self.cluster.sweep();
-        let end = hand.take_done(&self.cluster);
+        let end = hand.take_done(&self.cluster, Some(ckpt));
         let_go(slot, &end);
         self.free_gone();
         lead(&self.cluster, &mut self.nodes, ckpt, r, &held);

@@ -304,7 +304,7 @@ impl World {
         let c = client_by(who);
         let closed = self.tables.handle_closed(c, &hand.op);
         settle(&mut self.tables, &self.cluster, c, &hand.op, &step, ckpt);
-        let end = hand.take_done(&self.cluster);
+        let end = hand.take_done(&self.cluster, ckpt);
         let_go(slot, &end);
         self.let_go_with(c, &step, closed);
         self.free_gone();

@@ -1,8 +1,7 @@
-use Rattle.std.proofs.Common.{◌≡◌, ◌<◌, ℕ, suc, take, drop, filter, length, List, Some, Bool, false, sym, subst, ap, ◌∙◌, arith}
-use Rattle.std.specs.Prelude.{All, IfSome, remove, slice_get}
+use Rattle.std.proofs.Common.{◌≡◌, ◌<◌, ℕ, suc, take, drop, length, List, Bool, false, sym, subst, ap, ◌∙◌, arith}
+use Rattle.std.specs.Prelude.{All, IfSome, remove}
 use Rattle.std.proofs.lemmas.List.Elements.{All-append, All-drop, All-take}
 use Rattle.std.proofs.lemmas.Option.{get_or_from_slice_get}
-use Rattle.name_table.specs.Table.{NamedCkpt}
 use Rattle.cluster_record.specs.declared.entries.Entry.{Entry}
 use Rattle.cluster_record.specs.Kept.{HasTimes}
 use Rattle.cluster_record.specs.NamesOf.{stays_by, without_gone, without_name}
