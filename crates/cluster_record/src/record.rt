@@ -613,13 +613,16 @@ impl Record {
         keep_only(&mut self.entries, &mut self.names, staying);
     }
 
-    /// The moment is set, and what is over then is swept away.
-    pub fn set_moment(&mut self, t: Moment)
+    /// The moment is set, and what is over then is swept away. Whether a checkpoint is gone by that.
+    pub fn set_moment(&mut self, t: Moment) -> bool
         requires { IsMomentFrom self.old.moment t }
-        ensures { self.new ≡ moved t self.old }
+        ensures new { self.new ≡ moved t self.old }
+        ensures gone { result ≡ nat_lt (length self.new.entries) (length self.old.entries) }
     {
+        let before = self.entries.len();
         self.moment = t;
         self.sweep();
+        self.entries.len() < before
     }
 }
 

@@ -7,6 +7,7 @@ pub mod Lending
 pub mod NodeView
 pub mod Nodes
 pub mod Payloads
+pub mod ReplicaLending
 pub mod Seen
 pub mod Serving
 pub mod StageReplies

@@ -1,5 +1,5 @@
 //! A node, and the requests that it serves.
-ghost use Rattle.std.specs.Prelude.{◌≡◌, [], IfOk, IfSome, IsSomeAnd, MatchOption, None, Some, OnErr, OnOk, true};
+ghost use Rattle.std.specs.Prelude.{◌≡◌, ◌^◌, ◌<◌, [], length, IfOk, IfSome, IsSome, IsSomeAnd, MatchOption, None, Some, OnErr, OnOk, true};
 ghost use Rattle.stage_slot.specs.Slots.{owner_of, IsOwnedBy};
 ghost use Rattle.weak_marks.specs.Marks.{call_of};
 ghost use Rattle.replica.specs.Replicas.{answer_unless, committed, install_answer, installed, outcome_on, pull_result, pulled_unless, staged};
@@ -9,17 +9,24 @@ ghost use Rattle.node_core.specs.Changing.{added_for, changed_node, lent_behind,
 ghost use Rattle.node_core.specs.Details.{details_told};
 ghost use Rattle.node_core.specs.Fitting.{MayBeMade, RequestFits, TakesSnapshot, TakesUpdate};
 ghost use Rattle.node_core.specs.Nodes.{NodeState, replica_key, seen_from, seen_for, served_for, MayReply, node_after, freed_node};
+ghost use Rattle.node_core.specs.Lending.{HasRoomToRead};
 ghost use Rattle.node_core.specs.Payloads.{payload_of};
-ghost use Rattle.node_core.specs.Serving.{details_at, iteration_behind, snapshot_behind};
+ghost use Rattle.node_core.specs.ReplicaLending.{LendsReplica};
+ghost use Rattle.std.specs.Borrow.{sem};
+ghost use Rattle.ckpt_types.specs.Reads.{read};
+ghost use Rattle.ckpt_types.specs.declared.answers.Answer.TheVariants as answers;
+ghost use Rattle.node_msgs.specs.declared.replies.Reply.TheVariants as replies;
+ghost use Rattle.node_core.specs.Serving.{done_or_refused, details_at, iteration_behind, snapshot_behind};
 
 use crate::changing::{break_at, lead_at, lend_at, stage_at, take_at};
 use crate::copying::copy_replicas;
 use crate::fitting::{change_fits_in, fits_in};
 use crate::lent::Lent;
-use crate::replicas::{find_at, keep_others, keep_there};
+use crate::reads::read_in;
+use crate::replicas::{find_at, keep_others, keep_there, place_there};
 use crate::reserving::{add_in, reserve_in};
 use crate::serving::{commit_in, install_in, lend_in, serve_in, stage_in, take_in};
-use ckpt_types::{CallId, CkptId, Held, Moment, NodeId, SharedUpdate};
+use ckpt_types::{CallId, CkptId, Held, Moment, NodeId, ReadBuf, ReadElement, SharedUpdate};
 use cluster_record::Record;
 use node_msgs::{NodeChange, Reply, Request};
 use replica::{Older, Replica, StageRefused};
@@ -113,6 +120,25 @@ impl Node {
         stage_in(self.replicas.as_mut_slice(), call, ckpt, moment, update)
     }
 
+    /// The replica of a checkpoint reads what the elements say, as it does where `serve` asks for it: its pieces come into the
+    /// empty buffer. It takes no memory, and looks at no record. It requires that the node has the replica.
+    #[inline(always)]
+    pub fn read(
+        &self,
+        ckpt: CkptId,
+        elements: &[ReadElement],
+        now: Moment,
+        out: &mut ReadBuf,
+    ) -> Reply
+        requires there { IsSome (find_key replica_key ckpt self.now.replicas) }
+        requires few { length elements.now < 2 ^ 32 }
+        requires room { HasRoomToRead elements.now out.old }
+        ensures answer { IfSome (find_key replica_key ckpt self.now.replicas) (λ x. result ≡ done_or_refused (replies.Done answers.Pieces) (read elements.now now x.sections)) }
+        ensures pieces { IfSome (find_key replica_key ckpt self.now.replicas) (λ x. IfOk (read elements.now now x.sections) (λ pieces. out.new.pieces ≡ pieces)) }
+    {
+        read_in(self.replicas.as_slice(), ckpt, elements, now, out)
+    }
+
     /// The replica of a checkpoint commits what a call has staged there, as it does where `serve` asks for it, and no
     /// identifier is told.
     #[inline(always)]
@@ -161,6 +187,17 @@ impl Node {
         ensures { self.new ≡ record self.old { replicas = change_key replica_key ckpt (λ x. record x { generation = generation }) self.old.replicas } }
     {
         lead_at(self.replicas.as_mut_slice(), ckpt, generation);
+    }
+
+    /// The replica of a checkpoint, which the node has.
+    #[inline(always)]
+    pub fn at(&mut self, ckpt: CkptId) -> &mut Replica
+        requires { IsSome (find_key replica_key ckpt self.old.replicas) }
+        ensures* lends { sem 𝓛 (LendsReplica self.entry ckpt result) }
+        ensures value { find_key replica_key ckpt self.old.replicas ≡ Some result.now }
+    {
+        let place = place_there(self.replicas.as_slice(), ckpt);
+        &mut self.replicas[place]
     }
 
     /// Whether a request may come to the node, with what is lent.

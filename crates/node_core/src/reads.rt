@@ -1,5 +1,5 @@
 //! What a replica tells: reads, a status, and iterations.
-ghost use Rattle.std.specs.Prelude.{◌≡◌, ◌^◌, ◌<◌, ◌≤◌, ℕ, None, Some, IsOk, IsSome, IsSomeAnd, MatchOption, length};
+ghost use Rattle.std.specs.Prelude.{◌≡◌, ◌^◌, ◌<◌, ◌≤◌, ℕ, None, Some, IfOk, IfSome, IsOk, IsSome, IsSomeAnd, MatchOption, length};
 ghost use Rattle.ckpt_types.specs.declared.answers.Answer.TheVariants as answers;
 ghost use Rattle.ckpt_types.specs.Reads.{read, status, chosen, given};
 ghost use Rattle.section_iter.specs.Next.{kept_after};
@@ -11,11 +11,14 @@ ghost use Rattle.node_msgs.specs.declared.details.Details.TheVariants as beside;
 ghost use Rattle.node_core.specs.Behind.{section_in_place, with_told};
 ghost use Rattle.node_core.specs.Details.{details_told, pieces_told, section_put};
 ghost use Rattle.node_core.specs.Lending.{HasRoomToRead};
+ghost use Rattle.cluster_record.specs.Places.{find_key};
+ghost use Rattle.node_core.specs.Nodes.{replica_key};
 ghost use Rattle.node_core.specs.Payloads.{elements_or, ids_or};
 ghost use Rattle.node_core.specs.Seen.{entry_seen};
 ghost use Rattle.node_core.specs.Serving.{done_or_refused, read_details, attributes_seen, next_reply, next_details};
 
 use crate::lent::Lent;
+use crate::replicas::find_at;
 use crate::seen::attributes_seen;
 use ckpt_types::{
     AisError, Answer, Apart, Choice, CkptId, Moment, ReadBuf, ReadElement, SectionDescriptor,
@@ -69,6 +72,40 @@ fn check_read(store: &Store, elements: &[ReadElement], now: Moment) -> Result<()
     ensures { result ≡ check_answer (read elements.now now store.now.sections) }
 {
     update_rules::check_read(store, elements, now)
+}
+
+/// The replica of a checkpoint puts the pieces of a read into the empty buffer, or refuses it.
+#[inline(always)]
+pub(crate) fn read_in(
+    replicas: &[Replica],
+    ckpt: CkptId,
+    elements: &[ReadElement],
+    now: Moment,
+    out: &mut ReadBuf,
+) -> Reply
+    requires there { IsSome (find_key replica_key ckpt replicas.now) }
+    requires few { length elements.now < 2 ^ 32 }
+    requires room { HasRoomToRead elements.now out.old }
+    ensures answer { IfSome (find_key replica_key ckpt replicas.now) (λ x. result ≡ done_or_refused (replies.Done answers.Pieces) (read elements.now now x.sections)) }
+    ensures pieces { IfSome (find_key replica_key ckpt replicas.now) (λ x. IfOk (read elements.now now x.sections) (λ pieces. out.new.pieces ≡ pieces)) }
+{
+    let Some(replica) = find_at(replicas, ckpt) else {
+        unreachable!()
+    };
+    read_whole(replica.store(), elements, now, out)
+}
+
+fn read_whole(store: &Store, elements: &[ReadElement], now: Moment, out: &mut ReadBuf) -> Reply
+    requires few { length elements.now < 2 ^ 32 }
+    requires room { HasRoomToRead elements.now out.old }
+    ensures answer { result ≡ done_or_refused (replies.Done answers.Pieces) (read elements.now now store.now.sections) }
+    ensures pieces { IfOk (read elements.now now store.now.sections) (λ pieces. out.new.pieces ≡ pieces) }
+{
+    if let Err(refused) = check_read(store, elements, now) {
+        return Reply::Refused(refused.error, refused.index);
+    }
+    store.read_into(elements, now, out);
+    Reply::Done(Answer::Pieces)
 }
 
 // The attributes are those of the record, where it has the checkpoint: the replica's retention is as old as it is.

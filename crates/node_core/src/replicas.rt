@@ -1,11 +1,12 @@
 //! The replicas of a node: which one is of a checkpoint, and what comes and goes.
-ghost use Rattle.std.specs.Prelude.{◌≡◌, ◌<◌, [], ◌∷◌, ◌++◌, false, not, ◌==◌, None, Some, IfSome, IsSomeAnd, MatchOption, OnOk, OnErr, filter, length};
+ghost use Rattle.std.specs.Prelude.{◌≡◌, ◌<◌, [], ◌∷◌, ◌++◌, false, not, ◌==◌, None, Some, IfSome, IsSome, IsSomeAnd, MatchOption, OnOk, OnErr, filter, length};
 ghost use Rattle.std.specs.List.{list_all};
 ghost use Rattle.ckpt_types.specs.Attributes.{is_malformed};
 ghost use Rattle.cluster_record.specs.Places.{find_key, place_key};
 ghost use Rattle.cluster_record.specs.RecordState.{entry_of};
 ghost use Rattle.replica.specs.Replicas.{opened_replica};
 ghost use Rattle.node_core.specs.Nodes.{replica_key, is_there};
+ghost use Rattle.node_core.specs.ReplicaLending.{IsPlaceOf};
 
 use ckpt_types::CkptId;
 use cluster_record::{Entry, Record};
@@ -24,6 +25,18 @@ pub(crate) fn place_of(replicas: &[Replica], ckpt: CkptId) -> Option<usize>
         }
     }
     None
+}
+
+/// Where the replica of a checkpoint stands that is there.
+#[inline(always)]
+pub(crate) fn place_there(replicas: &[Replica], ckpt: CkptId) -> usize
+    requires there { IsSome (find_key replica_key ckpt replicas.now) }
+    ensures { IsPlaceOf ckpt replicas.now result }
+{
+    let Some(place) = place_of(replicas, ckpt) else {
+        unreachable!()
+    };
+    place
 }
 
 /// The replica of a checkpoint.

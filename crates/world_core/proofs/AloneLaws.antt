@@ -10,15 +10,16 @@ use Rattle.ckpt_types.specs.declared.identities.Who.TheVariants.{Actor, Call}
 use Rattle.cluster_record.specs.Calls.{left, same_actor, same_call}
 use Rattle.cluster_record.specs.Places.{or_none}
 use Rattle.cluster_record.proofs.Places.{get_set, there_is}
-use Rattle.call_dispatch.specs.PendingCalls.{PendingCalls, no_pending}
-use Rattle.ckpt_machine.specs.Steps.{goes_with}
+use Rattle.call_dispatch.specs.PendingCalls.{PendingCalls, find_async, no_pending}
+use Rattle.ckpt_machine.specs.Steps.{goes_with, is_over}
 use Rattle.ckpt_machine.specs.Whose.{is_of, put_who}
-use Rattle.ckpt_machine.proofs.Actors.{same_call-refl, same_call-true}
+use Rattle.ckpt_machine.proofs.Actors.{same_actor-true, same_call-refl, same_call-true}
 use Rattle.world_core.specs.declared.hands.InHand.{InHand}
 use Rattle.world_core.specs.declared.world.World.{World}
 use Rattle.world_core.specs.Alone.{calls_gone, ended_at, syncs_gone}
 use Rattle.world_core.specs.TableState.{pending_by}
-use Rattle.world_core.specs.HandsState.{HandsState, IsPlaceOf, changed_alone, found_alone, hand_at, has_call, has_other, left_at, meets, set_at, with_alone, without_call, without_those}
+use Rattle.world_core.specs.HandsState.{HandsState, HasAlone, IsPlaceOf, alone_in, changed_alone, found_alone, hand_at, has_call, has_other, left_at, set_at, with_alone, with_alone_in, without_all, without_call, without_met, without_those}
+use Rattle.world_core.proofs.AloneLists.{LacksAlone, alone_at, alone_same, alone_twice, lacks_none}
 
 -- ---- two calls
 
@@ -37,6 +38,10 @@ same_call-sym a b = bools_agree (same_call a b) (same_call b a)
 -- a call that is one of two is the other just where both are one
 pub same_call-shared : (a b c : CallId) → same_call a c ≡ true → same_call a b ≡ same_call c b
 same_call-shared a b c e = ap (λ z. same_call z b) (same_call-true a c e)
+
+-- calls of two actors are two
+pub apart_call : (call other : CallId) → same_actor other.actor call.actor ≡ false → same_call other call ≡ false
+apart_call call other apart = ap (λ b. b && (other.number == call.number)) apart
 
 -- ---- what is found among the asynchronous calls
 
@@ -114,7 +119,7 @@ module _ (call : CallId) where
       by_test false apart more = ap (λ b. cond (not b) (Some x ∷ filter (has_other call) (changed_alone call o xs)) (filter (has_other call) (changed_alone call o xs))) apart ∙ ap (λ zs. Some x ∷ zs) more
 
 -- without those whose names meet a test, each call
-pub found-without_those : (test : Who → Bool) (xs : List (Option InHand)) (other : CallId) → found_alone other (filter (λ x. not (meets test x)) xs) ≡ cond (test (Call other)) None (found_alone other xs)
+pub found-without_those : (test : Who → Bool) (xs : List (Option InHand)) (other : CallId) → found_alone other (without_met test xs) ≡ cond (test (Call other)) None (found_alone other xs)
 found-without_those test [] other = by_test (test (Call other)) where
   by_test : (b : Bool) → ◌≡◌ {A = Option InHand} None (cond b None None)
   by_test true = refl
@@ -126,7 +131,7 @@ found-without_those test (Some x ∷ xs) other =
     (λ is. ap (λ z. test (Call z)) (same_call-true x.call other is)) (found-without_those test xs other)
   where
     rest : List (Option InHand)
-    rest = filter (λ x. not (meets test x)) xs
+    rest = without_met test xs
 
     by_test : (b : Bool) → found_alone other (cond (not b) (Some x ∷ rest) rest) ≡ cond b (found_alone other rest) (cond (same_call x.call other) (Some x) (found_alone other rest))
     by_test true = refl
@@ -145,6 +150,19 @@ found-with_alone h (Some x ∷ xs) none other = by_test (same_call x.call h.call
         ap (λ o. cond (same_call x.call other) (Some x) o) (more none)
         ∙ both (same_call other h.call) (same_call x.call other) (Some x) (Some h) (found_alone other xs)
         (λ is. ap (λ z. same_call x.call z) (same_call-true other h.call is) ∙ apart)
+
+-- ---- where the calls of one actor are changed
+
+-- what is found of one that is of that actor is so among those, and what is found of another is as it was: the call under each name
+pub found_in : (a : ActorName) (change : List (Option InHand) → List (Option InHand)) (hands : HandsState) → (LacksAlone a hands.alone → change [] ≡ []) → (test : CallId → Bool) (o : Option InHand)
+    → ((other : CallId) → same_actor other.actor a ≡ true → found_alone other (change (alone_in hands.alone a)) ≡ cond (test other) o (found_alone other (alone_in hands.alone a)))
+    → ((other : CallId) → same_actor other.actor a ≡ false → test other ≡ false)
+    → (other : CallId) → hand_at (with_alone_in a change hands) (Call other) ≡ cond (test other) o (hand_at hands (Call other))
+found_in a change hands none test o law apart other = ap (found_alone other) (alone_at a other.actor change hands.alone none) ∙ by_test (same_actor other.actor a) refl
+  where
+    by_test : (b : Bool) → same_actor other.actor a ≡ b → found_alone other (cond b (change (alone_in hands.alone a)) (alone_in hands.alone other.actor)) ≡ cond (test other) o (found_alone other (alone_in hands.alone other.actor))
+    by_test true is = law other is ∙ ap (λ b. cond (test other) o (found_alone other (alone_in hands.alone b))) (sym (same_actor-true other.actor a is))
+    by_test false is = ap (λ b. cond b o (found_alone other (alone_in hands.alone other.actor))) (sym (apart other is))
 
 -- ---- what is in hand, by name
 
@@ -175,17 +193,19 @@ next_set hands (Actor (Client c)) hand next held same u = client_set hands c (cl
 next_set hands (Actor (Node r)) hand next held same u = absurd (cc held)
 next_set hands (Call call) hand next held same (Actor (Client d)) = refl
 next_set hands (Call call) hand next held same (Actor (Node r)) = refl
-next_set hands (Call call) hand next held same (Call other) = found-changed call hand next (ap (λ z. same_call z call) same ∙ found-call call hands.alone hand held) hands.alone held other
+next_set hands (Call call) hand next held same (Call other) =
+    let is : same_call next.call call ≡ true = ap (λ z. same_call z call) same ∙ found-call call (alone_in hands.alone call.actor) hand held in
+    found_in call.actor (changed_alone call (Some next)) hands (λ lacks. refl) (λ other. same_call other call) (Some next) (λ other own. found-changed call hand next is (alone_in hands.alone call.actor) held other) (apart_call call) other
 
 -- without an asynchronous call, the call under each name
 pub without_call-at : (call : CallId) (hands : HandsState) (u : Who) → hand_at (without_call call hands) u ≡ put_who (hand_at hands) (Call call) None u
 without_call-at call hands (Actor (Client c)) = refl
 without_call-at call hands (Actor (Node r)) = refl
-without_call-at call hands (Call other) = found-without_call call hands.alone other
+without_call-at call hands (Call other) = found_in call.actor (filter (has_other call)) hands (λ lacks. refl) (λ other. same_call other call) None (λ other own. found-without_call call (alone_in hands.alone call.actor) other) (apart_call call) other
 
 -- what was left in its place goes with it
 pub without_call-set : (call : CallId) (hands : HandsState) → without_call call (set_at hands (Call call) None) ≡ without_call call hands
-without_call-set call hands = ap (λ xs. record hands { alone = xs }) (without_call-changed call hands.alone None refl)
+without_call-set call hands = ap (λ lists. record hands { alone = lists }) (alone_twice call.actor (filter (has_other call)) (changed_alone call None) hands.alone (without_call-changed call (alone_in hands.alone call.actor) None refl))
 
 -- with what a step leaves of the call in hand under a name, the call under each name
 pub left_set : (hands : HandsState) (v : Who) (hand : InHand) (o : Option InHand) → hand_at hands v ≡ Some hand → IfSome o (λ next. next.call ≡ hand.call) → (u : Who) → hand_at (left_at hands v o) u ≡ put_who (hand_at hands) v o u
@@ -201,15 +221,23 @@ ended_hands w (Call call) None next = refl
 ended_hands w (Call call) (Some end) next = without_call-set call w.hands
 
 -- with an asynchronous call more, the call under each name
-pub with_alone-at : (h : InHand) (hands : HandsState) → hand_at hands (Call h.call) ≡ None → (u : Who) → hand_at (with_alone h hands) u ≡ put_who (hand_at hands) (Call h.call) (Some h) u
-with_alone-at h hands none (Actor (Client c)) = refl
-with_alone-at h hands none (Actor (Node r)) = refl
-with_alone-at h hands none (Call other) = found-with_alone h hands.alone none other
+pub with_alone-at : (h : InHand) (hands : HandsState) → HasAlone h.call.actor hands → hand_at hands (Call h.call) ≡ None → (u : Who) → hand_at (with_alone h hands) u ≡ put_who (hand_at hands) (Call h.call) (Some h) u
+with_alone-at h hands has none (Actor (Client c)) = refl
+with_alone-at h hands has none (Actor (Node r)) = refl
+with_alone-at h hands has none (Call other) = found_in h.call.actor (λ xs. xs ++ Some h ∷ []) hands (λ lacks. absurd (lacks_none h.call.actor hands has lacks)) (λ other. same_call other h.call) (Some h) (λ other own. found-with_alone h (alone_in hands.alone h.call.actor) none other) (apart_call h.call) other
 
--- without the asynchronous calls whose names meet a test that no actor's meets, the call under each name
-pub without_those-at : (test : Who → Bool) → ((a : ActorName) → test (Actor a) ≡ false) → (hands : HandsState) (u : Who) → hand_at (without_those test hands) u ≡ cond (test u) None (hand_at hands u)
-without_those-at test none hands (Actor a) = ap (λ b. cond b None (hand_at hands (Actor a))) (sym (none a))
-without_those-at test none hands (Call other) = found-without_those test hands.alone other
+-- without the asynchronous calls of a client whose names meet a test that only names of such calls meet, the call under each name
+pub without_those-at : (c : ℕ) (test : Who → Bool) → ((a : ActorName) → test (Actor a) ≡ false) → ((other : CallId) → same_actor other.actor (Client c) ≡ false → test (Call other) ≡ false) → (hands : HandsState) (u : Who) →
+    hand_at (without_those c test hands) u ≡ cond (test u) None (hand_at hands u)
+without_those-at c test none apart hands (Actor (Client d)) = ap (λ b. cond b None (hand_at hands (Actor (Client d)))) (sym (none (Client d)))
+without_those-at c test none apart hands (Actor (Node r)) = ap (λ b. cond b None (hand_at hands (Actor (Node r)))) (sym (none (Node r)))
+without_those-at c test none apart hands (Call other) = found_in (Client c) (without_met test) hands (λ lacks. refl) (λ other. test (Call other)) None (λ other own. found-without_those test (alone_in hands.alone (Client c)) other) apart other
+
+-- and without all of a client
+pub without_all-at : (c : ℕ) (hands : HandsState) (u : Who) → hand_at (without_all c hands) u ≡ cond (is_of (Client c) u) None (hand_at hands u)
+without_all-at c hands (Actor (Client d)) = refl
+without_all-at c hands (Actor (Node r)) = refl
+without_all-at c hands (Call other) = found_in (Client c) (λ xs. []) hands (λ lacks. refl) (λ other. same_actor other.actor (Client c)) None (λ other own. ap (λ b. cond b None (found_alone other (alone_in hands.alone (Client c)))) (sym own)) (λ other apart. apart) other
 
 -- ---- the place of an asynchronous call
 
@@ -256,13 +284,18 @@ pub goes_with-actor : (handle : Option ℕ) (a : ActorName) (p : PendingCalls) (
 goes_with-actor None a p b = refl
 goes_with-actor (Some handle) a p b = refl
 
+-- nor does a call of another actor
+pub goes_with-apart : (handle : Option ℕ) (a : ActorName) (p : PendingCalls) (other : CallId) → same_actor other.actor a ≡ false → goes_with handle a p (Call other) ≡ false
+goes_with-apart None a p other apart = refl
+goes_with-apart (Some handle) a p other apart = ap (λ b. b && is_over handle (find_async other p.unfinished)) apart
+
 -- where a client's handle is closed, the call under each name
 pub syncs_gone-at : (c : ℕ) (handle : Option ℕ) (w : World) (u : Who) → hand_at (syncs_gone c handle w).hands u ≡ cond (goes_with handle (Client c) (pending_by w.tables c) u) None (hand_at w.hands u)
-syncs_gone-at c handle w u = without_those-at (λ v. goes_with handle (Client c) (pending_by w.tables c) v) (goes_with-actor handle (Client c) (pending_by w.tables c)) w.hands u
+syncs_gone-at c handle w u = without_those-at c (λ v. goes_with handle (Client c) (pending_by w.tables c) v) (goes_with-actor handle (Client c) (pending_by w.tables c)) (goes_with-apart handle (Client c) (pending_by w.tables c)) w.hands u
 
 -- and where it leaves
 pub calls_gone-at : (c : ℕ) (w : World) (u : Who) → hand_at (calls_gone c w).hands u ≡ cond (is_of (Client c) u) None (hand_at w.hands u)
-calls_gone-at c w u = without_those-at (λ v. is_of (Client c) v) (λ b. refl) w.hands u
+calls_gone-at c w u = without_all-at c w.hands u
 
 -- ---- where a client has no asynchronous calls
 
@@ -275,15 +308,15 @@ goes_with-none (Some handle) a (Call call) = by_test (same_actor call.actor a) w
   by_test true = refl
   by_test false = refl
 
-all_left : (test : Who → Bool) → ((v : Who) → test v ≡ false) → (xs : List (Option InHand)) → filter (λ x. not (meets test x)) xs ≡ xs
+all_left : (test : Who → Bool) → ((v : Who) → test v ≡ false) → (xs : List (Option InHand)) → without_met test xs ≡ xs
 all_left test none [] = refl
 all_left test none (None ∷ xs) = ap (λ zs. None ∷ zs) (all_left test none xs)
 all_left test none (Some h ∷ xs) =
-    let rest = filter (λ (x : Option InHand). not (meets test x)) xs in
+    let rest = without_met test xs in
     ap (λ b. cond (not b) (Some h ∷ rest) rest) (none (Call h.call)) ∙ ap (λ zs. Some h ∷ zs) (all_left test none xs)
 
 -- so all are in hand as they were
-pub none_over : (handle : Option ℕ) (a : ActorName) (p : PendingCalls) → p ≡ no_pending → (hands : HandsState) → hands ≡ without_those (λ v. goes_with handle a p v) hands
-none_over handle a p none hands =
-    sym (ap (λ p. without_those (λ v. goes_with handle a p v) hands) none
-    ∙ ap (λ xs. record hands { alone = xs }) (all_left (λ v. goes_with handle a no_pending v) (goes_with-none handle a) hands.alone))
+pub none_over : (handle : Option ℕ) (c : ℕ) (p : PendingCalls) → p ≡ no_pending → (hands : HandsState) → hands ≡ without_those c (λ v. goes_with handle (Client c) p v) hands
+none_over handle c p none hands =
+    sym (ap (λ p. without_those c (λ v. goes_with handle (Client c) p v) hands) none
+    ∙ ap (λ lists. record hands { alone = lists }) (alone_same (Client c) (without_met (λ v. goes_with handle (Client c) no_pending v)) hands.alone (all_left (λ v. goes_with handle (Client c) no_pending v) (goes_with-none handle (Client c)) (alone_in hands.alone (Client c)))))

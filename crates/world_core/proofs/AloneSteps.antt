@@ -1,9 +1,7 @@
 -- What becomes of asynchronous calls where a handle is closed or a client leaves: the world that the code makes is the one of the machine.
 use Rattle.std.proofs.Common.{◌≡◌, ℕ, Bool, true, false, List, [], ◌∷◌, Option, Some, None, refl, sym, ap, subst, ◌∙◌, cond, not}
-use Rattle.std.specs.Prelude.{filter}
 use Rattle.ckpt_types.specs.declared.answers.Outcome.{Outcome}
 use Rattle.ckpt_types.specs.declared.answers.Outcome.TheVariants.{Done}
-use Rattle.ckpt_types.specs.declared.identities.ActorName.{ActorName}
 use Rattle.ckpt_types.specs.declared.identities.ActorName.TheVariants.{Client, Node}
 use Rattle.ckpt_types.specs.declared.identities.Who.{Who}
 use Rattle.ckpt_types.specs.declared.identities.Who.TheVariants.{Actor, Call}
@@ -16,11 +14,12 @@ use Rattle.ckpt_machine.specs.Whose.{is_of}
 use Rattle.world_core.specs.declared.hands.InHand.{InHand}
 use Rattle.world_core.specs.declared.world.World.{World}
 use Rattle.world_core.specs.Alone.{syncs_gone, calls_gone, hands_behind, tables_behind, gone_with, hands_looked, tables_looked, gone_with_look}
-use Rattle.world_core.specs.HandsState.{HandsState, hand_at, meets, set_at, without_those}
+use Rattle.world_core.specs.HandsState.{HandsState, alone_in, hand_at, set_at, without_met, without_those}
 use Rattle.world_core.specs.Shows.{History, HistoryFits, FitsHand, hand_of, machine_of, shown_hand}
 use Rattle.world_core.specs.TableState.{pending_by}
 use Rattle.world_core.specs.LiveRooms.{LiveHaveRoom}
-use Rattle.world_core.proofs.AloneLaws.{without_those-at}
+use Rattle.world_core.proofs.AloneLaws.{calls_gone-at, syncs_gone-at}
+use Rattle.world_core.proofs.AloneLists.{alone_same}
 use Rattle.world_core.proofs.LiveRooms.{rooms_calls}
 use Rattle.world_core.proofs.TableFields.{calls_is}
 
@@ -34,14 +33,14 @@ fits_without : (b : Bool) (h : History) (v : Who) (o : Option InHand) → FitsHa
 fits_without true h v o fits = tt
 fits_without false h v o fits = fits
 
-module _ (test : Who → Bool) (actors : (a : ActorName) → test (Actor a) ≡ false) (h : History) (hands : HandsState) where
+module _ (test : Who → Bool) (h : History) (hands new : HandsState) (at : (v : Who) → hand_at new v ≡ cond (test v) None (hand_at hands v)) where
   -- as the machine has them
-  hands_without : (v : Who) → hand_of h (without_those test hands) v ≡ cond (test v) None (hand_of h hands v)
-  hands_without v = ap (shown_hand (h.beginnings v) (h.steps v) (h.created v) (h.pulled v)) (without_those-at test actors hands v) ∙ shown_without (test v) h v (hand_at hands v)
+  hands_without : (v : Who) → hand_of h new v ≡ cond (test v) None (hand_of h hands v)
+  hands_without v = ap (shown_hand (h.beginnings v) (h.steps v) (h.created v) (h.pulled v)) (at v) ∙ shown_without (test v) h v (hand_at hands v)
 
   -- and they are where their steps have led them
-  hands_fit : ((v : Who) → FitsHand (h.beginnings v) (h.steps v) (h.pulled v) (hand_at hands v)) → (v : Who) → FitsHand (h.beginnings v) (h.steps v) (h.pulled v) (hand_at (without_those test hands) v)
-  hands_fit fits v = subst (FitsHand (h.beginnings v) (h.steps v) (h.pulled v)) (sym (without_those-at test actors hands v)) (fits_without (test v) h v (hand_at hands v) (fits v))
+  hands_fit : ((v : Who) → FitsHand (h.beginnings v) (h.steps v) (h.pulled v) (hand_at hands v)) → (v : Who) → FitsHand (h.beginnings v) (h.steps v) (h.pulled v) (hand_at new v)
+  hands_fit fits v = subst (FitsHand (h.beginnings v) (h.steps v) (h.pulled v)) (sym (at v)) (fits_without (test v) h v (hand_at hands v) (fits v))
 
 -- ---- both together
 
@@ -49,15 +48,11 @@ left_none : (handle : Option ℕ) → left_over handle no_pending ≡ no_pending
 left_none None = refl
 left_none (Some handle) = refl
 
-goes_actor : (handle : Option ℕ) (c : ℕ) (p : PendingCalls) (a : ActorName) → goes_with handle (Client c) p (Actor a) ≡ false
-goes_actor None c p a = refl
-goes_actor (Some handle) c p a = refl
-
 module _ (w : World) (h : History) (c : ℕ) where
   -- without the synchronisations over a handle, if one is closed
   pub syncs_are : (handle : Option ℕ) → without_syncs handle (Client c) (machine_of w h) ≡ machine_of (syncs_gone c handle w) h
   syncs_are handle =
-      let hands = hands_without (goes_with handle (Client c) (pending_by w.tables c)) (goes_actor handle c (pending_by w.tables c)) h w.hands in
+      let hands = hands_without (goes_with handle (Client c) (pending_by w.tables c)) h w.hands (syncs_gone c handle w).hands (syncs_gone-at c handle w) in
       let calls = calls_is w h c (left_over handle) (left_none handle) in
       λ i. record (calls i) { in_hand = λ v. sym (hands v) i }
 
@@ -65,18 +60,18 @@ module _ (w : World) (h : History) (c : ℕ) where
   syncs_fit handle fits = record {
     replicas = fits.replicas;
     copies = fits.copies;
-    hands = hands_fit (goes_with handle (Client c) (pending_by w.tables c)) (goes_actor handle c (pending_by w.tables c)) h w.hands fits.hands;
+    hands = hands_fit (goes_with handle (Client c) (pending_by w.tables c)) h w.hands (syncs_gone c handle w).hands (syncs_gone-at c handle w) fits.hands;
   }
 
   -- without all
   pub all_gone : without_calls (Client c) (machine_of w h) ≡ machine_of (calls_gone c w) h
   all_gone =
-      let hands = hands_without (is_of (Client c)) (λ a. refl) h w.hands in
+      let hands = hands_without (is_of (Client c)) h w.hands (calls_gone c w).hands (calls_gone-at c w) in
       let calls = calls_is w h c (λ p. no_pending) refl in
       λ i. record (calls i) { in_hand = λ v. sym (hands v) i }
 
   pub all_fit : HistoryFits w h → HistoryFits (calls_gone c w) h
-  all_fit fits = record { replicas = fits.replicas; copies = fits.copies; hands = hands_fit (is_of (Client c)) (λ a. refl) h w.hands fits.hands }
+  all_fit fits = record { replicas = fits.replicas; copies = fits.copies; hands = hands_fit (is_of (Client c)) h w.hands (calls_gone c w).hands (calls_gone-at c w) fits.hands }
 
 -- ---- behind a step of the record
 
@@ -132,13 +127,13 @@ module _ (w : World) (c : ℕ) (handle : Option ℕ) where
 -- ---- behind a look
 
 -- where no handle is closed nothing goes with it
-none_left : (p : PendingCalls) (c : ℕ) (xs : List (Option InHand)) → filter (λ x. not (meets (goes_with None (Client c) p) x)) xs ≡ xs
+none_left : (p : PendingCalls) (c : ℕ) (xs : List (Option InHand)) → without_met (goes_with None (Client c) p) xs ≡ xs
 none_left p c [] = refl
 none_left p c (None ∷ xs) = ap (λ ys. None ∷ ys) (none_left p c xs)
 none_left p c (Some h ∷ xs) = ap (λ ys. Some h ∷ ys) (none_left p c xs)
 
-hands_same : (p : PendingCalls) (c : ℕ) (hands : HandsState) → without_those (goes_with None (Client c) p) hands ≡ hands
-hands_same p c hands = ap (λ xs. record hands { alone = xs }) (none_left p c hands.alone)
+hands_same : (p : PendingCalls) (c : ℕ) (hands : HandsState) → without_those c (goes_with None (Client c) p) hands ≡ hands
+hands_same p c hands = ap (λ lists. record hands { alone = lists }) (alone_same (Client c) (without_met (goes_with None (Client c) p)) hands.alone (none_left p c (alone_in hands.alone (Client c))))
 
 -- a look closes only a handle of a call that its client waits for
 abbrev pub MayClose : Option ℕ → Who → Type 0

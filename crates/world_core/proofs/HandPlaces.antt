@@ -8,7 +8,8 @@ use Rattle.ckpt_types.specs.declared.identities.CallId.{CallId}
 use Rattle.ckpt_types.specs.declared.identities.Who.{Who}
 use Rattle.ckpt_types.specs.declared.identities.Who.TheVariants.{Actor, Call}
 use Rattle.world_core.specs.declared.hands.InHand.{InHand}
-use Rattle.world_core.specs.HandsState.{HandsState, changed_alone, found_alone, hand_at, has_call, set_at}
+use Rattle.world_core.specs.HandsState.{HandsState, alone_in, changed_alone, found_alone, hand_at, has_call, set_at}
+use Rattle.world_core.proofs.AloneLists.{alone_same}
 use Rattle.world_core.specs.declared.world.World.{World}
 
 client_same : (xs : List (Option InHand)) (c : ℕ) (place : Option InHand) → or_none (slice_get xs c) ≡ place → slice_set xs c place ≡ xs
@@ -16,9 +17,9 @@ client_same [] c place is = refl
 client_same (x ∷ xs) zero place is = ap (λ (z : Option InHand). z ∷ xs) (sym is)
 client_same (x ∷ xs) (suc c) place is = ap (λ zs. x ∷ zs) (client_same xs c place is)
 
-alone_same : (call : CallId) (xs : List (Option InHand)) (place : Option InHand) → found_alone call xs ≡ place → changed_alone call place xs ≡ xs
-alone_same call [] place is = refl
-alone_same call (x ∷ xs) place is = by_test (has_call call x) (alone_same call xs place) is
+call_same : (call : CallId) (xs : List (Option InHand)) (place : Option InHand) → found_alone call xs ≡ place → changed_alone call place xs ≡ xs
+call_same call [] place is = refl
+call_same call (x ∷ xs) place is = by_test (has_call call x) (call_same call xs place) is
   where
     by_test : (b : Bool) → (found_alone call xs ≡ place → changed_alone call place xs ≡ xs) → cond b x (found_alone call xs) ≡ place → cond b (place ∷ xs) (x ∷ changed_alone call place xs) ≡ x ∷ xs
     by_test true more is = ap (λ (z : Option InHand). z ∷ xs) (sym is)
@@ -28,7 +29,7 @@ alone_same call (x ∷ xs) place is = by_test (has_call call x) (alone_same call
 pub come_back_same : (hands : HandsState) (v : Who) (place : Option InHand) → hand_at hands v ≡ place → set_at hands v place ≡ hands
 come_back_same hands (Actor (Client c)) place is = ap (λ (xs : List (Option InHand)). record hands { clients = xs }) (client_same hands.clients c place is)
 come_back_same hands (Actor (Node r)) place is = refl
-come_back_same hands (Call call) place is = ap (λ (xs : List (Option InHand)). record hands { alone = xs }) (alone_same call hands.alone place is)
+come_back_same hands (Call call) place is = ap (λ (lists : List (List (Option InHand))). record hands { alone = lists }) (alone_same call.actor (changed_alone call place) hands.alone (call_same call (alone_in hands.alone call.actor) place is))
 
 -- and the world is as it was
 pub same_world : (w : World) (v : Who) (place : Option InHand) → hand_at w.hands v ≡ place → record w { hands = set_at w.hands v place } ≡ w

@@ -2,10 +2,10 @@
 use Rattle.std.proofs.Common.{◌≡◌, ℕ, ◌<◌, List, [], length, Bool, true, false, cond, refl, sym, ap, subst, ◌∙◌}
 use Rattle.std.specs.Prelude.{Option, Some, None, IsSome, is_some, ◌==◌, ◌&&◌, slice_index, slice_set}
 use Rattle.cluster_record.specs.declared.entries.Entry.{Entry}
-use Rattle.cluster_record.specs.Places.{change_key, find_key, list_or, put2}
+use Rattle.cluster_record.specs.Places.{change_key, list_or, put2}
 use Rattle.cluster_record.specs.RecordState.{entry_of, complete_of}
 use Rattle.cluster_record.specs.StepDone.{generation_in}
-use Rattle.cluster_record.proofs.Places.{not_changed, there_is}
+use Rattle.cluster_record.proofs.Places.{there_is}
 use Rattle.ckpt_types.specs.declared.identities.CallId.{CallId}
 use Rattle.node_core.specs.Nodes.{replica_key}
 use Rattle.replica.specs.Replicas.{Replica}
@@ -18,8 +18,9 @@ use Rattle.world_core.specs.Leading.{copy_held, leading, nodes_led}
 use Rattle.world_core.specs.Nodes.{replica_in, with_changed}
 use Rattle.world_core.specs.Shows.{History, HistoryFits, FitsCopy, FitsReplica, FitsSlot, FitsSnapshot, complete_replica, machine_of, shown_copy, shown_replica, shown_slot, shown_snapshot, where_complete}
 use Rattle.world_core.proofs.HoldingLaws.{holds_changed}
-use Rattle.world_core.proofs.Maps.{changed_here, complete_at_node, fits_replica, put_replica, reserved_same, set_again}
+use Rattle.world_core.proofs.Maps.{changed_here, complete_at_node, fits_replica, put_replica, reserved_same}
 use Rattle.world_core.proofs.Recording.{zero_there}
+use Rattle.world_core.proofs.ReplicaSteps.{unchanged}
 use Rattle.world_core.proofs.Serve.{node_within}
 
 -- ---- what is held
@@ -123,11 +124,7 @@ module _ (v : World) (h : History) (fitting : HistoryFits v h) (standing : Holds
 
     -- without a replica its nodes are as they were
     none_changed : replica_in v.nodes k r ≡ None → with_changed k r f v.nodes ≡ v.nodes
-    none_changed none =
-        let (xs, at) = there_is v.nodes r (subst (λ n. r < n) (sym eight) within) in
-        ap (λ o. slice_set v.nodes r (change_key replica_key k f (list_or o))) at
-        ∙ ap (slice_set v.nodes r) (not_changed replica_key k f xs (ap (λ o. find_key replica_key k (list_or o)) (sym at) ∙ none))
-        ∙ set_again v.nodes r xs at
+    none_changed none = unchanged v.nodes k r f none
 
     module _ (x : Replica) (there : replica_in v.nodes k r ≡ Some x) where
       abbrev nodes : List (List Replica)

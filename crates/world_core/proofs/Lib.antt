@@ -1,6 +1,7 @@
 pub mod Adding
 pub mod AloneSteps
 pub mod AloneLaws
+pub mod AloneLists
 pub mod Begin
 pub mod CallSteps
 pub mod Answered
@@ -38,6 +39,7 @@ pub mod RecordSteps
 pub mod Recording
 pub mod RequestRows
 mod CopySteps
+mod ReplicaSteps
 pub mod Reserve
 pub mod Rows
 pub mod Running
@@ -48,6 +50,7 @@ pub mod SnapshotRooms
 pub mod Stepping
 pub mod TableFields
 pub mod TablePlaces
+pub mod TableSteps
 pub mod Taken
 pub mod TakenRoom
 pub mod Taking
@@ -56,5 +59,6 @@ pub mod Waits
 pub mod WaitedFor
 pub mod Words
 mod Staging
+mod Reading
 mod Granted
 pub mod EventEnds

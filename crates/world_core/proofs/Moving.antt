@@ -1,6 +1,8 @@
 -- The moment: how the world shows that it is set, and that nothing else changes it.
-use Rattle.std.proofs.Common.{◌≡◌, ℕ, Option, Some, None, Bool, ℤ, refl, sym, ap, subst, ◌∙◌}
-use Rattle.std.specs.Prelude.{filter}
+use Rattle.std.proofs.Common.{◌≡◌, inl, inr, ℕ, suc, ◌≤◌, Option, Some, None, Bool, true, false, cond, List, [], ◌∷◌, length, ℤ, refl, sym, ap, subst, ◌∙◌, arith}
+use Rattle.std.specs.Prelude.{filter, nat_lt}
+use Rattle.std.proofs.lemmas.Bool.{cases_lt, lt-ltb}
+use Rattle.std.proofs.lemmas.List.Sums.{length-filter, count_by-le-length}
 use Rattle.ckpt_types.specs.declared.answers.Outcome.{Outcome}
 use Rattle.ckpt_types.specs.declared.identities.ActorName.{ActorName}
 use Rattle.ckpt_types.specs.declared.identities.CallId.{CallId}
@@ -18,6 +20,7 @@ use Rattle.run_labels.specs.declared.labels.PullReply.TheVariants as pulls
 use Rattle.run_labels.specs.declared.labels.PutReply.{PutReply}
 use Rattle.run_labels.specs.declared.labels.PutReply.TheVariants as puts
 use Rattle.cluster_record.specs.Makings.{making_of}
+use Rattle.cluster_record.specs.declared.entries.Entry.{Entry}
 use Rattle.cluster_record.specs.RecordState.{RecordState, entry_of, stays, active_set, IsMomentFrom, moved}
 use Rattle.cluster_record.specs.StepDone.{generation_in}
 use Rattle.cluster_record.proofs.IdentityLaws.{filter_leaves}
@@ -34,11 +37,12 @@ use Rattle.world_core.specs.declared.world.Event.TheVariants as happenings
 use Rattle.world_core.specs.declared.world.World.{World}
 use Rattle.world_core.specs.Backgrounds.{background_in, pulled_in, HaveRooms}
 use Rattle.world_core.specs.Freeing.{freed_world}
+use Rattle.world_core.specs.Holding.{HoldsOnlyWhatStands}
 use Rattle.world_core.specs.Happenings.{SetsMoment}
 use Rattle.world_core.specs.Runs.{Answers, AnswersBegin, AnswersStep, IsShownOf, IsPulledOf, IsPutOf, moment_of}
 use Rattle.world_core.specs.Shows.{Does, Shows, History, machine_of}
 use Rattle.world_core.specs.HandsState.{hand_at}
-use Rattle.world_core.proofs.Freeing.{DoesBefore, does_freed, holds_freed}
+use Rattle.world_core.proofs.Freeing.{DoesBefore, does_before, does_freed, holds_freed}
 use Rattle.world_core.proofs.Going.{goes_same, goes_left}
 use Rattle.world_core.proofs.Recording.{GoesAt, none_pulled, with_effects, record_is, record_fits}
 use Rattle.world_core.proofs.SnapshotRooms.{moved_has}
@@ -71,7 +75,28 @@ moved_done w t R may R_is = subst (λ (R : RecordState). Does w (freed_world (re
     (λ m s f. let facts = subst Facts s.same f in moved_has w.cluster w.snapshots s.keeps facts.rises facts.up_to t)
     (λ m s f. s.rooms))
 
--- the moment is set, and the nodes are freed of what is gone, with the label as the code names it
+-- and where none is gone by that, nothing is freed
+moved_kept : (w : World) (t : ℤ) (R : RecordState) → IsMomentFrom w.cluster.moment t → R ≡ moved t w.cluster → filter (stays t) w.cluster.entries ≡ w.cluster.entries → Does w (record w { cluster = R }) (labels.Moved t)
+moved_kept w t R may R_is all = subst (λ (R : RecordState). Does w (record w { cluster = R }) (labels.Moved t)) (sym R_is)
+    (does_before w (record w { cluster = moved t w.cluster }) (labels.Moved t) (moved_before w t may)
+    (λ m s f. subst (λ (entries : List Entry). HoldsOnlyWhatStands (record w.cluster { moment = t; entries = entries }) w.nodes) (sym all)
+        (record { each = λ r x at. let held = s.holds.each r x at in record { up = held.up; stands = held.stands }; once = s.holds.once }))
+    (λ m s f. subst (λ (entries : List Entry). HaveRooms entries w.snapshots) (sym all) s.keeps)
+    (λ m s f. s.rooms))
+
+-- where a filter leaves no fewer, it leaves all
+pub left_whole : {X : Type 0} (p : X → Bool) (xs : List X) → length xs ≤ length (filter p xs) → filter p xs ≡ xs
+left_whole p [] no_fewer = refl
+left_whole p (x ∷ xs) no_fewer = by_test (λ fewer. left_whole p xs fewer) (p x) no_fewer
+  where
+    few : length (filter p xs) ≤ length xs
+    few = subst (λ n. n ≤ length xs) (sym (length-filter p xs)) (count_by-le-length p xs)
+
+    by_test : (length xs ≤ length (filter p xs) → filter p xs ≡ xs) → (b : Bool) → suc (length xs) ≤ length (cond b (x ∷ filter p xs) (filter p xs)) → cond b (x ∷ filter p xs) (filter p xs) ≡ x ∷ xs
+    by_test rest true no_fewer = ap (λ ys. x ∷ ys) (rest (omega (arith, no_fewer)))
+    by_test rest false no_fewer = absurd (omega (arith, few, no_fewer))
+
+-- the moment is set, with the label as the code names it, and where a checkpoint is gone by that, the nodes are freed of it
 pub sets_moment : (w : World) (t u : ℤ) (R : RecordState) (freed_of : World) → u ≡ t → IsMomentFrom w.cluster.moment t → R ≡ moved u w.cluster → freed_of ≡ freed_world (record w { cluster = R }) → SetsMoment t w freed_of (labels.Moved u)
 sets_moment w t u R freed_of same may R_is freed_is = record {
   label_is = ap labels.Moved same;
@@ -79,6 +104,21 @@ sets_moment w t u R freed_of same may R_is freed_is = record {
   does = subst (λ (v : World). Does w v (labels.Moved u)) (sym freed_is)
       (moved_done w u R (subst (IsMomentFrom w.cluster.moment) (sym same) may) R_is);
 }
+
+-- what is not less is as much at least
+not_less : (a b : ℕ) → nat_lt a b ≡ false → b ≤ a
+not_less a b none = elim (cases_lt a b) [ inl lt ↦ absurd (let it : false ≡ true = sym none ∙ lt-ltb a b lt in cc it) | inr ge ↦ ge ]
+
+-- and where none is, that is all
+pub sets_moment_alone : (w : World) (t u : ℤ) (R : RecordState) (left_of : World) → u ≡ t → IsMomentFrom w.cluster.moment t → R ≡ moved u w.cluster → nat_lt (length R.entries) (length w.cluster.entries) ≡ false → left_of ≡ record w { cluster = R } → SetsMoment t w left_of (labels.Moved u)
+sets_moment_alone w t u R left_of same may R_is none left_is =
+    let left : length w.cluster.entries ≤ length (filter (stays u) w.cluster.entries) = subst (λ (R : RecordState). length w.cluster.entries ≤ length R.entries) R_is (not_less (length R.entries) (length w.cluster.entries) none) in
+    record {
+      label_is = ap labels.Moved same;
+      hands = ap (λ (v : World). v.hands) left_is;
+      does = subst (λ (v : World). Does w v (labels.Moved u)) (sym left_is)
+          (moved_kept w u R (subst (IsMomentFrom w.cluster.moment) (sym same) may) R_is (left_whole (stays u) w.cluster.entries left));
+    }
 
 -- ---- the moment after a label
 

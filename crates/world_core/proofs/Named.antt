@@ -1,19 +1,26 @@
 -- A call in hand is a client's, by whichever name it is stepped; and a step of it answers its line.
-use Rattle.std.proofs.Common.{◌≡◌, ◌⊎◌, ◌<◌, inl, Some, subst}
-use Rattle.std.specs.Prelude.{Result, Ok, Err, OnOk, Bool}
+use Rattle.std.proofs.Common.{◌≡◌, ◌⊎◌, ℕ, ◌<◌, inl, Some, sym, ap, subst, ◌∙◌}
+use Rattle.std.specs.Prelude.{Result, Ok, Err, OnOk, Bool, slice_get}
 use Rattle.ckpt_types.specs.declared.identities.ActorName.TheVariants.{Client, Node}
 use Rattle.ckpt_types.specs.declared.identities.Who.{Who}
 use Rattle.ckpt_types.specs.declared.identities.Who.TheVariants.{Actor, Call}
 use Rattle.ckpt_types.specs.Limits.{client_numbers}
+use Rattle.node_msgs.specs.declared.next.Next.{Next}
+use Rattle.client_handles.specs.ClientState.{ClientState}
 use Rattle.run_labels.specs.Kept.{KeptLabels}
 use Rattle.cluster_record.specs.Calls.{IsClient}
+use Rattle.cluster_record.specs.Makings.{makings_of}
+use Rattle.ckpt_machine.specs.Driving.{driver_next}
 use Rattle.ckpt_machine.specs.Facts.{Facts}
+use Rattle.ckpt_machine.specs.Tables.{rooms_in}
 use Rattle.world_core.specs.declared.hands.InHand.{InHand}
 use Rattle.world_core.specs.declared.world.World.{World}
 use Rattle.world_core.specs.HandsState.{IsClientName, client_by, hand_at}
-use Rattle.world_core.specs.Happenings.{Adds, IsStep, IsIdle}
+use Rattle.world_core.specs.Happenings.{Adds, IsNext, IsStep, IsIdle, rooms_at}
 use Rattle.world_core.specs.Shows.{IsShown}
+use Rattle.world_core.specs.TableState.{TableState}
 use Rattle.world_core.proofs.Held.{state_in, in_hand_is, actor_is}
+use Rattle.world_core.proofs.TableSteps.{kept_is}
 
 -- by its client, which a script may name
 is_name : (w : World) (v : Who) (hand : InHand) → hand_at w.hands v ≡ Some hand → client_by v < client_numbers → IsClientName v
@@ -30,6 +37,14 @@ client_below w v hand shown held =
 
 pub client_name : (w : World) (v : Who) (hand : InHand) → IsShown w → hand_at w.hands v ≡ Some hand → IsClientName v
 client_name w v hand shown held = is_name w v hand held (client_below w v hand shown held)
+
+-- what is next for it, by its client's table
+pub next_there : (w : World) (v : Who) (hand : InHand) (c : ℕ) (t : TableState) (next : Next) → hand_at w.hands v ≡ Some hand → c ≡ client_by v → slice_get w.tables c ≡ Some t → next ≡ driver_next w.cluster (rooms_in (makings_of c w.cluster.entries) t.client) hand.driver → IsNext w v next
+next_there w v hand c t next held same there is = record {
+  hand = hand;
+  held = held;
+  next_is = ap (λ d. driver_next w.cluster (rooms_at w d) hand.driver) (sym same) ∙ ap (λ (s : ClientState). driver_next w.cluster (rooms_in (makings_of c w.cluster.entries) s) hand.driver) (kept_is w.tables c t there) ∙ sym is;
+}
 
 -- where the call is there, its line is answered by its step
 pub by_step : {E : Type 0} (result : Result (Unit {0}) E) (old new : KeptLabels) (v : Who) (finish : Bool) (w w' : World) → OnOk result (Adds old new (IsStep v w w')) → OnOk result (Adds old new (λ label. IsStep v w w' label ⊎ IsIdle v finish w w' label))

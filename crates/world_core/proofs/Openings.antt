@@ -2,14 +2,15 @@
 use Rattle.std.proofs.Common.{◌≡◌, ℕ, zero, suc, List, [], refl, ap, ◌∙◌}
 use Rattle.std.specs.Prelude.{Option, Some, None, replicate, slice_get}
 use Rattle.call_dispatch.specs.PendingCalls.{no_pending}
+use Rattle.ckpt_types.specs.declared.identities.ActorName.{ActorName}
 use Rattle.ckpt_types.specs.declared.identities.ActorName.TheVariants.{Client, Node}
 use Rattle.ckpt_types.specs.declared.identities.Who.{Who}
 use Rattle.ckpt_types.specs.declared.identities.Who.TheVariants.{Actor, Call}
 use Rattle.world_core.specs.declared.hands.InHand.{InHand}
 use Rattle.world_core.specs.declared.world.World.{World}
-use Rattle.cluster_record.specs.Places.{or_none}
+use Rattle.cluster_record.specs.Places.{list_or, or_none}
 use Rattle.cluster_record.specs.RecordState.{empty_record}
-use Rattle.world_core.specs.HandsState.{HandsState, found_alone, hand_at}
+use Rattle.world_core.specs.HandsState.{HandsState, alone_in, found_alone, hand_at}
 use Rattle.world_core.specs.TableState.{TableState, next_in, kept_in, pending_in}
 use Rattle.world_core.specs.NewTable.{new_table}
 use Rattle.ckpt_machine.specs.Machine.{no_tables}
@@ -21,14 +22,19 @@ slice_get-replicate P x none some zero i = none
 slice_get-replicate P x none some (suc n) zero = some
 slice_get-replicate P x none some (suc n) (suc i) = slice_get-replicate P x none some n i
 
+-- no actor has an asynchronous call
+none_alone : (a : ActorName) → alone_in (replicate 100 []) a ≡ []
+none_alone (Client c) = slice_get-replicate (λ (o : Option (List (Option InHand))). list_or o ≡ []) [] refl refl 100 c
+none_alone (Node r) = refl
+
 -- under no name a call is in hand
-none_in_hand : (hands : HandsState) → hands.clients ≡ replicate 100 None → hands.alone ≡ [] → (v : Who) → hand_at hands v ≡ None
+none_in_hand : (hands : HandsState) → hands.clients ≡ replicate 100 None → hands.alone ≡ replicate 100 [] → (v : Who) → hand_at hands v ≡ None
 none_in_hand hands clients alone (Actor (Client c)) = ap (λ (hs : List (Option InHand)). or_none (slice_get hs c)) clients ∙ slice_get-replicate (λ (o : Option (Option InHand)). or_none o ≡ None) None refl refl 100 c
 none_in_hand hands clients alone (Actor (Node r)) = refl
-none_in_hand hands clients alone (Call call) = ap (found_alone call) alone
+none_in_hand hands clients alone (Call call) = ap (λ lists. found_alone call (alone_in lists call.actor)) alone ∙ ap (found_alone call) (none_alone call.actor)
 
 -- a world whose parts are new is new
-pub is_new : (w : World) → w.cluster ≡ empty_record → w.nodes ≡ replicate 8 [] → w.snapshots ≡ [] → w.tables ≡ replicate 100 new_table → w.hands.clients ≡ replicate 100 None → w.hands.alone ≡ [] → IsNew w
+pub is_new : (w : World) → w.cluster ≡ empty_record → w.nodes ≡ replicate 8 [] → w.snapshots ≡ [] → w.tables ≡ replicate 100 new_table → w.hands.clients ≡ replicate 100 None → w.hands.alone ≡ replicate 100 [] → IsNew w
 is_new w cluster nodes snapshots tables clients alone = record {
   cluster = cluster;
   nodes = nodes;

@@ -32,6 +32,7 @@ use Rattle.world_core.specs.Shows.{Does, IsShown, History, HistoryFits, FitsRepl
 use Rattle.world_core.proofs.CallSteps.{IsKnown, known, known_by}
 use Rattle.world_core.proofs.HoldingLaws.{holds_changed}
 use Rattle.world_core.proofs.Maps.{changed_here, complete_at_node, put_replica, fits_replica, reserved_same, set_again}
+use Rattle.world_core.proofs.ReplicaSteps.{change_alike}
 use Rattle.world_core.proofs.Serve.{node_within}
 
 -- ---- changes of the one that is found
@@ -43,15 +44,6 @@ change_same key k f (y ∷ xs) x found same = by_test (key y == k) found (change
   where
     by_test : (b : Bool) → cond b (Some y) (find_key key k xs) ≡ Some x → (find_key key k xs ≡ Some x → f x ≡ x → change_key key k f xs ≡ xs) → cond b (f y ∷ xs) (y ∷ change_key key k f xs) ≡ y ∷ xs
     by_test true found rest = let e : y ≡ x = same_Some y x found in ap (λ z. z ∷ xs) (ap f e ∙ same ∙ sym e)
-    by_test false found rest = ap (λ xs. y ∷ xs) (rest found same)
-
--- two changes that make the same of the one that is found are alike
-change_alike : {X : Type 0} (key : X → ℕ) (k : ℕ) (f g : X → X) (xs : List X) (x : X) → find_key key k xs ≡ Some x → f x ≡ g x → change_key key k f xs ≡ change_key key k g xs
-change_alike key k f g [] x found same = refl
-change_alike key k f g (y ∷ xs) x found same = by_test (key y == k) found (change_alike key k f g xs x)
-  where
-    by_test : (b : Bool) → cond b (Some y) (find_key key k xs) ≡ Some x → (find_key key k xs ≡ Some x → f x ≡ g x → change_key key k f xs ≡ change_key key k g xs) → cond b (f y ∷ xs) (y ∷ change_key key k f xs) ≡ cond b (g y ∷ xs) (y ∷ change_key key k g xs)
-    by_test true found rest = let e : y ≡ x = same_Some y x found in ap (λ z. z ∷ xs) (ap f e ∙ same ∙ ap g (sym e))
     by_test false found rest = ap (λ xs. y ∷ xs) (rest found same)
 
 -- ---- what a put is about

@@ -1,6 +1,6 @@
 -- The step that a node serves, with the parts as the code names them.
 use Rattle.std.proofs.Common.{◌≡◌, ℕ, ◌<◌, List, length, refl, sym, ap, subst, ◌∙◌}
-use Rattle.std.specs.Prelude.{Option, Some, None}
+use Rattle.std.specs.Prelude.{Option, Some, None, slice_get, slice_set}
 use Rattle.std.proofs.lemmas.Option.{same_Some}
 use Rattle.ckpt_types.specs.declared.answers.Answer.TheVariants as answers
 use Rattle.ckpt_types.specs.declared.answers.Outcome.{Outcome}
@@ -36,7 +36,7 @@ use Rattle.world_core.specs.declared.hands.InHand.{InHand}
 use Rattle.world_core.specs.declared.world.World.{World}
 use Rattle.world_core.specs.Alone.{ended_at}
 use Rattle.world_core.specs.Nodes.{node_at, nodes_after}
-use Rattle.world_core.specs.Lending.{IsLentBy, IsValidFor, CanKeep, hand_lending, iteration_lent, tables_lending, tables_keeping}
+use Rattle.world_core.specs.Lending.{IsLentBy, IsValidFor, CanKeep, CanLend, hand_lending, iteration_lent, table_lending, table_keeping, tables_lending, tables_keeping}
 use Rattle.cluster_record.specs.Ends.{served_done}
 use Rattle.world_core.specs.HandSteps.{AsksNode, hand_taken, hand_end}
 use Rattle.world_core.specs.Happenings.{IsNext, IsStep, rooms_at}
@@ -48,7 +48,8 @@ use Rattle.world_core.proofs.Serve.{its_copy, its_done, its_end, its_details, it
 use Rattle.world_core.proofs.Held.{with_copy}
 use Rattle.world_core.specs.HandsState.{hand_at, set_at, client_by}
 use Rattle.ckpt_types.specs.declared.identities.Who.{Who}
-use Rattle.world_core.proofs.Stepping.{with_own, keeps, fits_lent, serve_is, ends_its}
+use Rattle.world_core.proofs.Stepping.{with_own, lends, keeps, fits_lent, serve_is, ends_its}
+use Rattle.world_core.proofs.TableSteps.{kept_is, lending_is, keeping_is}
 
 -- the iteration and the snapshot that travel beside are told by no label
 pub told_still : (reply : Reply) (lent : Lent) (it : Option KeptIds) (copy : Option Snapshot) → details_told reply (record lent { iteration = it; snap = copy }) ≡ details_told reply lent
@@ -92,17 +93,28 @@ lent_snapshot : (request : Request) (hand : InHand) → (hand_lending request ha
 lent_snapshot (requests.Iterate call k choice) hand = refl
 lent_snapshot request hand = refl
 
+-- the iteration with which a call goes on may go out of its client's table
+pub lends_at : (w : World) (v : Who) (r : ℕ) (request : Request) (hand : InHand) → hand_at w.hands v ≡ Some hand → IsNext w v (Serve r request) → IsShown w → (c : ℕ) → c ≡ client_by v → (t : TableState) → slice_get w.tables c ≡ Some t → CanLend request hand.op t.client
+lends_at w v r request hand held next shown c c_is t there = subst (CanLend request hand.op) (ap (kept_by w.tables) (sym c_is) ∙ kept_is w.tables c t there) (lends w v r request hand held next shown)
+
 module _ (w : World) (v : Who) (r : ℕ) (request : Request) (hand : InHand) (held : hand_at w.hands v ≡ Some hand) (next : IsNext w v (Serve r request)) (shown : IsShown w) (room : HasNumbersLeft w) (lent : Lent) (is_lent : IsLentBy hand.op request lent) where
   abbrev whole : Lent
   whole = with_own w v r request hand held next lent
 
   -- while the iteration and the snapshot are lent
-  module _ (c : ℕ) (c_is : c ≡ client_by v) (hand1 hand2 : InHand) (it1 : Option KeptIds) (copy1 : Option Snapshot) (tables1 : List TableState) (hand_is : hand1 ≡ hand_lending request hand) (lent_is : hand2 ≡ record hand1 { snapshot = None }) (it1_is : it1 ≡ iteration_lent request hand (kept_by w.tables c)) (copy1_is : copy1 ≡ hand1.snapshot) (tables_are : tables1 ≡ tables_lending request c hand.op w.tables) where
+  module _ (c : ℕ) (c_is : c ≡ client_by v) (t t1 : TableState) (there : slice_get w.tables c ≡ Some t) (hand1 hand2 : InHand) (it1 : Option KeptIds) (copy1 : Option Snapshot) (hand_is : hand1 ≡ hand_lending request hand) (lent_is : hand2 ≡ record hand1 { snapshot = None }) (it1_is : it1 ≡ iteration_lent request hand t.client) (copy1_is : copy1 ≡ hand1.snapshot)
+      (table_is : t1 ≡ table_lending request hand.op t) where
+    kept_here : kept_by w.tables (client_by v) ≡ t.client
+    kept_here = ap (kept_by w.tables) (sym c_is) ∙ kept_is w.tables c t there
+
     its_it : it1 ≡ iteration_lent request hand (kept_by w.tables (client_by v))
-    its_it = it1_is ∙ ap (λ d. iteration_lent request hand (kept_by w.tables d)) c_is
+    its_it = it1_is ∙ ap (iteration_lent request hand) (sym kept_here)
+
+    abbrev tables1 : List TableState
+    tables1 = slice_set w.tables c t1
 
     its_tables : tables1 ≡ tables_lending request (client_by v) hand.op w.tables
-    its_tables = tables_are ∙ ap (λ d. tables_lending request d hand.op w.tables) c_is
+    its_tables = ap (slice_set w.tables c) table_is ∙ lending_is w.tables c t there request hand.op ∙ ap (λ d. tables_lending request d hand.op w.tables) c_is
 
     abbrev lent1 : Lent
     lent1 = record lent { iteration = it1; snap = copy1 }
@@ -116,26 +128,30 @@ module _ (w : World) (v : Who) (r : ℕ) (request : Request) (hand : InHand) (he
     same_op : hand2.op ≡ hand.op
     same_op = ap (λ (h : InHand). h.op) lent_is ∙ ap (λ (h : InHand). h.op) hand_is ∙ lent_op request hand
 
-    pub keeps_at : CanKeep request hand2.op (kept_by tables1 c)
-    keeps_at = subst (λ (z : List TableState × Op × ℕ). CanKeep request z.1 (kept_by z.0 z.2)) (λ i. (sym its_tables i, sym same_op i, sym c_is i)) (keeps w v r request hand held next shown room)
+    pub keeps_at : (t2 : TableState) → slice_get tables1 c ≡ Some t2 → CanKeep request hand2.op t2.client
+    keeps_at t2 there2 =
+        subst (CanKeep request hand2.op) (kept_is tables1 c t2 there2)
+        (subst (λ (z : List TableState × Op × ℕ). CanKeep request z.1 (kept_by z.0 z.2)) (λ i. (sym its_tables i, sym same_op i, sym c_is i)) (keeps w v r request hand held next shown room))
 
-    pub step_is : (reply : Reply) (nodes : List (List Replica)) (back : Lent) (it : Option KeptIds) (copy : Option Snapshot) (tables : List TableState) (taken : InHand) (place : Option InHand) (end : Option Outcome) (word : OpWord) (verb : Verb) (k : ℕ) (said : StepReply) (details : Details) → IsValidFor request (kept_by w.tables c) → ServedAs w r request lent1 back reply nodes → it ≡ back.iteration → copy ≡ back.snap →
-        tables ≡ tables_keeping request c hand2.op reply it tables1 → taken ≡ hand_taken (served_done w.cluster request r reply) (with_copy hand2 copy) → end ≡ hand_end (served_done w.cluster request r reply) reply taken → place ≡ left end taken →
-        word ≡ word_of_op hand.op → verb ≡ verb_of request → k ≡ ckpt_of request → said ≡ word_of reply → details ≡ ended_details end (details_told reply back) → IsStep v w (ended_at v end (record w { nodes = nodes; tables = tables; hands = set_at w.hands v place })) (Stepped hand.call word verb (Some k) (Some r) said end details)
-    step_is reply nodes back it copy tables taken place end word verb k said details valid served it_is copy_is kept_are taken_is end_is place_is word_is verb_is k_is said_is details_are =
+    pub step_is : (reply : Reply) (nodes : List (List Replica)) (back : Lent) (it : Option KeptIds) (copy : Option Snapshot) (t2 t3 : TableState) (taken : InHand) (place : Option InHand) (end : Option Outcome) (word : OpWord) (verb : Verb) (k : ℕ) (said : StepReply) (details : Details) → IsValidFor request t.client → ServedAs w r request lent1 back reply nodes →
+        slice_get tables1 c ≡ Some t2 → it ≡ back.iteration → copy ≡ back.snap → t3 ≡ table_keeping request hand2.op reply it t2 → taken ≡ hand_taken (served_done w.cluster request r reply) (with_copy hand2 copy) → end ≡ hand_end (served_done w.cluster request r reply) reply taken → place ≡ left end taken →
+        word ≡ word_of_op hand.op → verb ≡ verb_of request → k ≡ ckpt_of request → said ≡ word_of reply → details ≡ ended_details end (details_told reply back) →
+        IsStep v w (ended_at v end (record w { nodes = nodes; tables = slice_set tables1 c t3; hands = set_at w.hands v place })) (Stepped hand.call word verb (Some k) (Some r) said end details)
+    step_is reply nodes back it copy t2 t3 taken place end word verb k said details valid served there2 it_is copy_is kept_are taken_is end_is place_is word_is verb_is k_is said_is details_are =
         let p : Payload = payload_of whole in
         let done : StepDone = its_done w v r request hand p reply in
         let got : ServedAs w r request whole back reply nodes = subst (λ (z : Lent). ServedAs w r request z back reply nodes) whole_is served in
         let kept : it ≡ its_iteration w v r request hand p reply = it_is ∙ got.iteration in
-        let then_tables : tables ≡ tables_keeping request (client_by v) hand.op reply (its_iteration w v r request hand p reply) (tables_lending request (client_by v) hand.op w.tables) = kept_are ∙ (λ i. tables_keeping request (c_is i) (same_op i) reply (kept i) (its_tables i)) in
+        let then_tables : slice_set tables1 c t3 ≡ tables_keeping request (client_by v) hand.op reply (its_iteration w v r request hand p reply) (tables_lending request (client_by v) hand.op w.tables)
+        = ap (slice_set tables1 c) kept_are ∙ keeping_is tables1 c t2 there2 request hand2.op reply it ∙ (λ i. tables_keeping request (c_is i) (same_op i) reply (kept i) (its_tables i)) in
         let its : Option Snapshot = its_copy w v r request hand p reply in
         let copied : copy ≡ its = copy_is ∙ got.snapshot in
         let takes : taken ≡ hand_taken done (hand_lending request (with_copy hand its)) = taken_is ∙ ap (λ (h : InHand). hand_taken done (with_copy h copy)) lent_is ∙ (λ i. hand_taken done (with_copy (hand_is i) (copied i))) ∙ ap (hand_taken done) (lent_copy request hand its) in
         let ends : end ≡ its_end w v r request hand p reply = end_is ∙ ap (hand_end done reply) takes ∙ lent_end request (with_copy hand its) done reply in
         let left_is : place ≡ left (its_end w v r request hand p reply) (hand_taken done (with_copy hand its))
         = place_is ∙ (λ i. left (ends i) (takes i)) ∙ lent_left request (with_copy hand its) done (its_end w v r request hand p reply) (ends_its w v r request hand held next shown p reply got.may) in
-        let new_is : ended_at v end (record w { nodes = nodes; tables = tables; hands = set_at w.hands v place }) ≡ served_world w v r request hand p reply = λ i. ended_at v (ends i) (record w { nodes = got.nodes_are i; tables = then_tables i; hands = set_at w.hands v (left_is i) }) in
+        let new_is : ended_at v end (record w { nodes = nodes; tables = slice_set tables1 c t3; hands = set_at w.hands v place }) ≡ served_world w v r request hand p reply = λ i. ended_at v (ends i) (record w { nodes = got.nodes_are i; tables = then_tables i; hands = set_at w.hands v (left_is i) }) in
         let told : details ≡ ended_details (its_end w v r request hand p reply) (its_details w v r request hand p reply) = details_are ∙ (λ i. ended_details (ends i) (got.details i)) in
         subst (λ (z : World × OpWord × Verb × ℕ × StepReply × Option Outcome × Details). IsStep v w z.0 (Stepped hand.call z.1 z.2 (Some z.3) (Some r) z.4 z.5 z.6))
         (λ i. (sym new_is i, sym word_is i, sym verb_is i, sym k_is i, sym said_is i, sym ends i, sym told i))
-        (serve_is w v r request hand held next shown p reply (lent_carries request hand (kept_by w.tables (client_by v)) lent is_lent) got.may (subst (λ d. IsValidFor request (kept_by w.tables d)) c_is valid) got.there)
+        (serve_is w v r request hand held next shown p reply (lent_carries request hand (kept_by w.tables (client_by v)) lent is_lent) got.may (subst (IsValidFor request) (sym kept_here) valid) got.there)

@@ -97,7 +97,7 @@ stage_goes_on R k r a (drivers.Update u) is = refl
 stage_goes_on R k r a x is = absurd is
 
 -- what pulls nothing leaves the copy in the hand
-copy_kept : (request : Request) → ((x : Replica) (s : Snapshot) → snapshot_after request x s ≡ s) → (y : Option Replica) (s : Option Snapshot) → snapshot_behind request y s ≡ s
+pub copy_kept : (request : Request) → ((x : Replica) (s : Snapshot) → snapshot_after request x s ≡ s) → (y : Option Replica) (s : Option Snapshot) → snapshot_behind request y s ≡ s
 copy_kept request same None s = refl
 copy_kept request same (Some x) None = refl
 copy_kept request same (Some x) (Some s) = ap Some (same x s)

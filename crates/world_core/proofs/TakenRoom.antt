@@ -1,5 +1,5 @@
 -- A client whose room is taken is shown as before.
-use Rattle.std.proofs.Common.{◌≡◌, ℕ, ◌-◌, ◌^◌, ◌<◌, Bool, true, false, List, Option, Some, IsSomeAnd, refl, sym, ap, subst, ◌∙◌, cond, ◌==◌}
+use Rattle.std.proofs.Common.{◌≡◌, ℕ, ◌-◌, ◌^◌, ◌<◌, Bool, true, false, Option, Some, refl, sym, ap, subst, ◌∙◌, cond, ◌==◌}
 use Rattle.std.proofs.lemmas.Bool.{eq-eqb}
 use Rattle.std.specs.Prelude.{slice_get, slice_set}
 use Rattle.ckpt_types.specs.declared.identities.ActorName.{ActorName}
@@ -11,7 +11,6 @@ use Rattle.cluster_record.specs.Makings.{makings_of}
 use Rattle.ckpt_machine.specs.Driving.{driver_next}
 use Rattle.ckpt_machine.specs.Machine.{Machine}
 use Rattle.ckpt_machine.specs.Tables.{rooms_in}
-use Rattle.ckpt_machine.proofs.OptionLemmas.{IsSomeAnd-at}
 use Rattle.world_core.specs.declared.world.World.{World}
 use Rattle.world_core.specs.Happenings.{IsNext, IsStep}
 use Rattle.world_core.specs.LiveRooms.{room_is_taken}
@@ -104,8 +103,8 @@ module _ (w : World) (v : Who) (t : TableState) (table : slice_get w.tables (cli
     };
   }
 
--- with the tables as the code names them
-pub keeps_taken : (w : World) (v : Who) (c : ℕ) (tables : List TableState) → c ≡ client_by v → IsSomeAnd (slice_get w.tables c) (λ t. tables ≡ slice_set w.tables c (with_room t)) → KeepsWithRoom w v (record w { tables = tables })
-keeps_taken w v c tables its taken =
-    let (t, table, tables_are) = IsSomeAnd-at (slice_get w.tables (client_by v)) _ (subst (λ n. IsSomeAnd (slice_get w.tables n) (λ t. tables ≡ slice_set w.tables n (with_room t))) its taken) in
-    subst (λ (ts : List TableState). KeepsWithRoom w v (record w { tables = ts })) (sym tables_are) (keeps w v t table)
+-- with the table as the code names it
+pub keeps_taken : (w : World) (v : Who) (c : ℕ) (t taken : TableState) → c ≡ client_by v → slice_get w.tables c ≡ Some t → taken ≡ with_room t → KeepsWithRoom w v (record w { tables = slice_set w.tables c taken })
+keeps_taken w v c t taken its table taken_is =
+    subst (λ (z : ℕ × TableState). KeepsWithRoom w v (record w { tables = slice_set w.tables z.0 z.1 })) (λ i. (sym its i, sym taken_is i))
+    (keeps w v t (subst (λ n. slice_get w.tables n ≡ Some t) its table))

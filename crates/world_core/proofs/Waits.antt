@@ -31,7 +31,7 @@ use Rattle.world_core.specs.declared.world.World.{World}
 use Rattle.world_core.specs.Answering.{IsAnsweredAtOnce}
 use Rattle.world_core.specs.Begun.{IsHandBegun}
 use Rattle.world_core.specs.HandRooms.{room_for, copy_room_for}
-use Rattle.world_core.specs.HandsState.{HandsState, hand_at, set_at, with_alone}
+use Rattle.world_core.specs.HandsState.{HandsState, HasAlone, hand_at, set_at, with_alone}
 use Rattle.world_core.specs.Happenings.{Begins}
 use Rattle.world_core.specs.Shows.{IsShown}
 use Rattle.world_core.specs.Standings.{standing_in}
@@ -98,14 +98,14 @@ waits w c number op h hand tables is begun within tables_are =
 
 -- it is in hand under its own name
 pub goes_alone : (w : World) (c : ℕ) (call : CallId) (op : Op) (h : Option HandleView) (hand : InHand) (hands : HandsState) (new : World) → IsShown w → IsAnsweredAtOnce w c call op h (Done answers.Nothing) → is_async (word_of_op op) ≡ true → IsHandBegun call op (kept_at_beginning w.cluster (client_of call) h) hand
-    → hands ≡ with_alone hand w.hands → new ≡ record w { tables = at_client c (begun_with (Some (Done answers.Nothing)) call op h) w.tables; hands = hands } → Begins c op w new (Began call op (Some (Done answers.Nothing)) beside.Nothing)
-goes_alone w c call op h hand hands new shown is async begun hands_are new_is =
+    → HasAlone hand.call.actor w.hands → hands ≡ with_alone hand w.hands → new ≡ record w { tables = at_client c (begun_with (Some (Done answers.Nothing)) call op h) w.tables; hands = hands } → Begins c op w new (Began call op (Some (Done answers.Nothing)) beside.Nothing)
+goes_alone w c call op h hand hands new shown is async begun there hands_are new_is =
     let name = stepped_as-async call (word_of_op op) async in
     let client : client_of call ≡ c = ap client_of is.call_is in
     let own : Call hand.call ≡ stepped_as call (word_of_op op) = ap Call begun.call_is ∙ sym name in
     let none = ap (hand_at w.hands) own ∙ idle w c call (word_of_op op) shown is.call_is is.none in
     let under : IsPutUnder w.hands (stepped_as call (word_of_op op)) (Some hand) hands
-    = subst (λ (hands : HandsState). IsPutUnder w.hands (stepped_as call (word_of_op op)) (Some hand) hands) (sym hands_are) (subst (λ v. IsPutUnder w.hands v (Some hand) (with_alone hand w.hands)) own (with_alone-at hand w.hands none)) in
+    = subst (λ (hands : HandsState). IsPutUnder w.hands (stepped_as call (word_of_op op)) (Some hand) hands) (sym hands_are) (subst (λ v. IsPutUnder w.hands v (Some hand) (with_alone hand w.hands)) own (with_alone-at hand w.hands there none)) in
     subst (λ x. Begins c op w x (Began call op (Some (Done answers.Nothing)) beside.Nothing)) (sym new_is)
     (call_begins w c call op h (Some (Done answers.Nothing)) beside.Nothing (Some hand) (at_client c (begun_with (Some (Done answers.Nothing)) call op h) w.tables) hands (at_once w c call op h (Done answers.Nothing) is) (sym (told_alone op async (Some (Done answers.Nothing)) (pending_by w.tables c)))
     (subst (λ b. IsBegunAs b call op (kept_at_beginning w.cluster c h) (Some hand)) (sym async) (subst (λ c. IsHandBegun call op (kept_at_beginning w.cluster c h) hand) client begun)) under refl)

@@ -10,9 +10,8 @@ use Rattle.node_msgs.specs.declared.next.RecordStep.TheVariants as events
 use Rattle.call_dispatch.specs.PendingCalls.{no_pending}
 use Rattle.cluster_record.specs.Calls.{client_of}
 use Rattle.ckpt_machine.specs.Steps.{goes_with, left_over}
-use Rattle.ckpt_machine.specs.Whose.{is_of}
 use Rattle.world_core.specs.declared.world.World.{World}
-use Rattle.world_core.specs.HandsState.{HandsState, without_call, without_those}
+use Rattle.world_core.specs.HandsState.{HandsState, without_all, without_call, without_those}
 use Rattle.world_core.specs.TableEnds.{table_ended}
 use Rattle.world_core.specs.TableState.{TableState, pending_by, with_calls, at_client}
 
@@ -35,14 +34,14 @@ ended_at v end w = record w { hands = ended_hands v end w.hands; tables = ended_
 -- where a client's handle of a number is closed, the asynchronous synchronisations over it go
 abbrev pub syncs_gone : ℕ → Option ℕ → World → World
 syncs_gone c handle w = record w {
-  hands = without_those (λ v. goes_with handle (Client c) (pending_by w.tables c) v) w.hands;
+  hands = without_those c (λ v. goes_with handle (Client c) (pending_by w.tables c) v) w.hands;
   tables = at_client c (with_calls (left_over handle)) w.tables;
 }
 
 -- where a client leaves, all its asynchronous calls go
 abbrev pub calls_gone : ℕ → World → World
 calls_gone c w = record w {
-  hands = without_those (λ v. is_of (Client c) v) w.hands;
+  hands = without_all c w.hands;
   tables = at_client c (with_calls (λ p. no_pending)) w.tables;
 }
 

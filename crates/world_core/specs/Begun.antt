@@ -6,7 +6,7 @@ use Rattle.ckpt_types.specs.Asks.{asked}
 use Rattle.ckpt_machine.specs.Driving.{Kept, driver_start}
 use Rattle.world_core.specs.declared.hands.InHand.{InHand}
 use Rattle.world_core.specs.HandRooms.{room_for, copy_room_for}
-use Rattle.world_core.specs.HandsState.{HandsState, with_alone}
+use Rattle.world_core.specs.HandsState.{HandsState, HasAlone, with_alone}
 
 -- a call is in hand as it begins, with the room that it takes, and with what drives it
 pub record IsHandBegun (call : CallId) (op : Op) (kept : Kept) (hand : InHand) : Type 0 where
@@ -20,4 +20,5 @@ pub record IsHandBegun (call : CallId) (op : Op) (kept : Kept) (hand : InHand) :
 pub record IsPutAlone (call : CallId) (op : Op) (kept : Kept) (old new : HandsState) : Type 0 where
   pub hand : InHand
   pub begun : IsHandBegun call op kept hand
+  pub there : HasAlone hand.call.actor old
   pub hands : new ≡ with_alone hand old

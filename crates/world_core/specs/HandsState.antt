@@ -1,5 +1,6 @@
 -- The calls in hand: one of each client, and the asynchronous ones; each under the name by which it is stepped.
 use Rattle.std.specs.Prelude.{◌≡◌, ℕ, ◌<◌, length, List, [], ◌∷◌, ◌++◌, filter, not, Option, Some, None, Bool, false, if◌then◌else◌, slice_get, slice_set}
+use Rattle.ckpt_types.specs.declared.identities.ActorName.{ActorName}
 use Rattle.ckpt_types.specs.declared.identities.ActorName.TheVariants.{Client, Node}
 use Rattle.ckpt_types.specs.declared.identities.CallId.{CallId}
 use Rattle.ckpt_types.specs.declared.identities.Who.{Who}
@@ -7,13 +8,13 @@ use Rattle.ckpt_types.specs.declared.identities.Who.TheVariants.{Actor, Call}
 use Rattle.ckpt_types.specs.Limits.{client_numbers}
 use Rattle.ckpt_types.specs.OpWord.{word_of_op, stepped_as}
 use Rattle.cluster_record.specs.Calls.{number_of, client_of, same_call}
-use Rattle.cluster_record.specs.Places.{or_none}
+use Rattle.cluster_record.specs.Places.{list_or, or_none}
 use Rattle.world_core.specs.declared.hands.InHand.{InHand}
 
--- the call in hand of each client, and the asynchronous calls that go on by themselves
+-- the call in hand of each client, and the asynchronous calls of each that go on by themselves
 pub record HandsState : Type 0 where
   pub clients : List (Option InHand)
-  pub alone : List (Option InHand)
+  pub alone : List (List (Option InHand))
 
 -- by whose name a call in hand is stepped
 abbrev pub name_of : InHand → Who
@@ -42,13 +43,32 @@ abbrev pub found_alone : CallId → List (Option InHand) → Option InHand
 found_alone call [] = None
 found_alone call (x ∷ xs) = if has_call call x then x else found_alone call xs
 
+-- the asynchronous calls of an actor; no node has one
+abbrev pub alone_in : List (List (Option InHand)) → ActorName → List (Option InHand)
+alone_in lists (Client c) = list_or (slice_get lists c)
+alone_in lists (Node r) = []
+
 -- the call in hand under a name; no node has one yet
 abbrev pub hand_at : HandsState → Who → Option InHand
 hand_at hands (Actor (Client c)) = or_none (slice_get hands.clients c)
 hand_at hands (Actor (Node r)) = None
-hand_at hands (Call call) = found_alone call hands.alone
+hand_at hands (Call call) = found_alone call (alone_in hands.alone call.actor)
 
 -- ---- what changes
+
+-- the actor has its list of asynchronous calls
+abbrev pub HasAlone : ActorName → HandsState → Type 0
+HasAlone (Client c) hands = c < length hands.alone
+HasAlone (Node r) hands = ⊥
+
+-- the asynchronous calls of an actor changed
+abbrev pub alone_with : ActorName → (List (Option InHand) → List (Option InHand)) → List (List (Option InHand)) → List (List (Option InHand))
+alone_with (Client c) change lists = slice_set lists c (change (list_or (slice_get lists c)))
+alone_with (Node r) change lists = lists
+
+-- so they are in hand
+abbrev pub with_alone_in : ActorName → (List (Option InHand) → List (Option InHand)) → HandsState → HandsState
+with_alone_in a change hands = record hands { alone = alone_with a change hands.alone }
 
 -- another in its place
 abbrev pub changed_alone : CallId → Option InHand → List (Option InHand) → List (Option InHand)
@@ -65,7 +85,7 @@ pub record IsPlaceOf (call : CallId) (xs : List (Option InHand)) (place : ℕ) :
 abbrev pub set_at : HandsState → Who → Option InHand → HandsState
 set_at hands (Actor (Client c)) o = record hands { clients = slice_set hands.clients c o }
 set_at hands (Actor (Node r)) o = hands
-set_at hands (Call call) o = record hands { alone = changed_alone call o hands.alone }
+set_at hands (Call call) o = with_alone_in call.actor (changed_alone call o) hands
 
 -- the place has another call
 abbrev pub has_other : CallId → Option InHand → Bool
@@ -74,7 +94,7 @@ has_other call (Some h) = not (same_call h.call call)
 
 -- without an asynchronous call, and without the place that one has left
 abbrev pub without_call : CallId → HandsState → HandsState
-without_call call hands = record hands { alone = filter (has_other call) hands.alone }
+without_call call hands = with_alone_in call.actor (filter (has_other call)) hands
 
 -- what is left of a call stands under its name; an asynchronous one that has ended is gone
 abbrev pub left_at : HandsState → Who → Option InHand → HandsState
@@ -84,13 +104,21 @@ left_at hands (Call call) (Some h) = set_at hands (Call call) (Some h)
 
 -- an asynchronous call more
 abbrev pub with_alone : InHand → HandsState → HandsState
-with_alone h hands = record hands { alone = hands.alone ++ Some h ∷ [] }
+with_alone h hands = with_alone_in h.call.actor (λ xs. xs ++ Some h ∷ []) hands
 
 -- the place has an asynchronous call for whose name a test holds
 abbrev pub meets : (Who → Bool) → Option InHand → Bool
 meets test None = false
 meets test (Some h) = test (Call h.call)
 
--- without the asynchronous calls for which it holds
-abbrev pub without_those : (Who → Bool) → HandsState → HandsState
-without_those test hands = record hands { alone = filter (λ x. not (meets test x)) hands.alone }
+-- without the calls for which it holds
+abbrev pub without_met : (Who → Bool) → List (Option InHand) → List (Option InHand)
+without_met test xs = filter (λ x. not (meets test x)) xs
+
+-- without the asynchronous calls of a client for which it holds
+abbrev pub without_those : ℕ → (Who → Bool) → HandsState → HandsState
+without_those c test hands = with_alone_in (Client c) (without_met test) hands
+
+-- without all asynchronous calls of a client
+abbrev pub without_all : ℕ → HandsState → HandsState
+without_all c hands = with_alone_in (Client c) (λ xs. []) hands

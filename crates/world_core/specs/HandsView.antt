@@ -1,4 +1,4 @@
--- How the calls in hand are kept: those of clients by client, and the asynchronous ones in the order of their beginning.
+-- How the calls in hand are kept: by client the one that it waits for, and its asynchronous ones in the order of their beginning.
 use Rattle.std.specs.Prelude.{◌≡◌, length}
 use Rattle.ckpt_types.specs.Limits.{client_numbers}
 use Rattle.world_core.specs.declared.hands.Hands.TheInside.{Inside}
@@ -8,6 +8,7 @@ use Rattle.world_core.specs.HandsState.{HandsState}
 abbrev pub hands_shown : Inside → HandsState
 hands_shown hands = record { clients = hands.clients.items; alone = hands.alone.items }
 
--- each client has its place
-abbrev pub HasEachPlace : Inside → Type 0
-HasEachPlace hands = length hands.clients.items ≡ client_numbers
+-- each client has its place, and its list
+pub record HasEachPlace (hands : Inside) : Type 0 where
+  pub clients : length hands.clients.items ≡ client_numbers
+  pub alone : length hands.alone.items ≡ client_numbers

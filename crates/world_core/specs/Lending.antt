@@ -67,12 +67,22 @@ abbrev pub lending : Ask → ClientState → ClientState
 lending (asks.Next iteration) t = lent iteration t
 lending ask t = t
 
--- the tables without the iteration that goes with a request
+-- the client's table without the iteration that goes with a request
+abbrev pub table_lending : Request → Op → TableState → TableState
+table_lending (requests.Next call k) op t = with_client (lending (asked op)) t
+table_lending request op t = t
+
+-- the tables without it
 abbrev pub tables_lending : Request → ℕ → Op → List TableState → List TableState
 tables_lending (requests.Next call k) c op tables = at_client c (with_client (lending (asked op))) tables
 tables_lending request c op tables = tables
 
 -- an iteration that was started is the client's from then on
+abbrev pub table_started : Op → Reply → KeptIds → TableState → TableState
+table_started op (replies.Done answer) kept t = with_client (started (asked op) kept.room (λ choice. kept.ids)) t
+table_started op reply kept t = t
+
+-- the tables behind that
 abbrev pub tables_started : ℕ → Op → Reply → Option KeptIds → List TableState → List TableState
 tables_started c op (replies.Done answer) (Some kept) tables = at_client c (with_client (started (asked op) kept.room (λ choice. kept.ids))) tables
 tables_started c op reply kept tables = tables
@@ -87,7 +97,14 @@ abbrev pub tables_returned : ℕ → Op → Option KeptIds → List TableState �
 tables_returned c op (Some kept) tables = at_client c (with_client (come_back (asked op) kept)) tables
 tables_returned c op None tables = tables
 
--- the tables behind the reply to a request, with the iteration that came back with it
+-- the client's table behind the reply to a request, with the iteration that came back with it
+abbrev pub table_keeping : Request → Op → Reply → Option KeptIds → TableState → TableState
+table_keeping request op reply None t = t
+table_keeping (requests.Iterate call k choice) op reply (Some kept) t = table_started op reply kept t
+table_keeping (requests.Next call k) op reply (Some kept) t = with_client (come_back (asked op) kept) t
+table_keeping request op reply (Some kept) t = t
+
+-- the tables behind it
 abbrev pub tables_keeping : Request → ℕ → Op → Reply → Option KeptIds → List TableState → List TableState
 tables_keeping (requests.Iterate call k choice) c op reply kept tables = tables_started c op reply kept tables
 tables_keeping (requests.Next call k) c op reply kept tables = tables_returned c op kept tables

@@ -1,13 +1,16 @@
 pub mod Backgrounds
 pub mod Begun
+pub mod ReadTold
 pub mod RecordReady
 pub mod RecordAfter
 pub mod TableState
+pub mod TableLending
 pub mod LiveRooms
 pub mod TableEnds
 pub mod TableView
 pub mod NewTable
 pub mod Nodes
+pub mod ReplicaLending
 pub mod Freeing
 pub mod Listing
 pub mod Holding

@@ -5,7 +5,7 @@ use Rattle.call_dispatch.specs.PendingCalls.{PendingCalls, no_pending}
 use Rattle.client_handles.specs.ClientState.{ClientState, IsValid}
 use Rattle.ckpt_machine.specs.Machine.{no_tables}
 use Rattle.world_core.specs.TableState.{TableState}
-use Rattle.world_core.specs.declared.tables.Table.TheInside.{Inside}
+use Rattle.world_core.specs.declared.table.Table.TheInside.{Inside}
 
 -- before its room was taken a client keeps nothing
 abbrev pub client_in : Option (Box ClientState) → ClientState

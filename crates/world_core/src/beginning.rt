@@ -5,13 +5,12 @@ ghost use Rattle.ckpt_types.specs.Attributes.{has_bad_open_flags, is_malformed};
 ghost use Rattle.ckpt_types.specs.Asks.{asked, takes_room};
 ghost use Rattle.ckpt_machine.specs.Beginning.{refused, if_live, version_is_bad, name_is_bad, attributes_are_bad, open_begin, vector_is_bad, update_is_bad, on_handle, may_write, may_read, may_always, choice_is_bad, end_iteration, update_begin, are_of_all, are_not_collocated, timeout_is_bad, if_registered, goes_on_alone, sync_alone, dispatch_begin, sync_begin, begin_end};
 ghost use Rattle.std.specs.Option.{option_or};
-ghost use Rattle.ckpt_types.specs.Limits.{client_numbers};
 ghost use Rattle.call_dispatch.specs.PendingCalls.{PendingCalls, given_answer};
-ghost use Rattle.world_core.specs.Standings.{standing_in};
+ghost use Rattle.world_core.specs.Standings.{standing};
 ghost use Rattle.ckpt_machine.specs.Tables.{ckpt_of_handle, choice_of};
 ghost use Rattle.world_core.specs.IterationPlaces.{gone_on_place};
 
-use crate::tables::Tables;
+use crate::table::Table;
 use ckpt_types::{
     AisError, Answer, Bytes, CHECKPOINT_COLLOCATED, CHECKPOINT_CREATE, Cause, Choice, CkptId,
     CreationAttributes, Given, MAJOR_MAX, MAJOR_MIN, Moment, OPEN_FLAGS_ALL, Op, Outcome,
@@ -26,11 +25,9 @@ pub(crate) fn begin_end(
     live: bool,
     handle: &Option<HandleView>,
     op: &Op,
-    tables: &Tables,
-    c: u8,
+    table: &Table,
 ) -> Option<Outcome>
-    requires { c < client_numbers }
-    ensures { result ≡ begin_end (standing_in live handle.now c tables.now) (asked op.now) }
+    ensures { result ≡ begin_end (standing live handle.now table.now) (asked op.now) }
 {
     match op {
         Op::Client(_, version, _) => client_begin(version),
@@ -44,7 +41,7 @@ pub(crate) fn begin_end(
             let refusal = open_begin(name.value(), *flags, None, attributes.value());
             if_live(
                 live,
-                alone(tables.callbacks(c).opens, refusal, tables.pending_count(c)),
+                alone(table.callbacks().opens, refusal, table.pending_count()),
             )
         }
         Op::Create(_, update)
@@ -62,9 +59,9 @@ pub(crate) fn begin_end(
         Op::Retain(_, duration) => if_live(live, retain_begin(handle, *duration)),
         Op::Unlink(_) | Op::Finalize => if_live(live, None),
         Op::Sync(_, timeout) => if_live(live, synchronize_begin(handle, *timeout)),
-        Op::SyncAsync(_, _) => if_live(live, sync_alone(handle, tables, c)),
+        Op::SyncAsync(_, _) => if_live(live, sync_alone(handle, table)),
         Op::Active(_) => if_live(live, set_active_begin(handle)),
-        Op::Dispatch(flags) => if_live(live, dispatch_begin(tables.given(c, *flags))),
+        Op::Dispatch(flags) => if_live(live, dispatch_begin(table.given(*flags))),
         Op::Copy => None,
     }
 }
@@ -99,15 +96,14 @@ fn alone(registered: bool, refusal: Option<Outcome>, pending: usize) -> Option<O
 }
 
 // A synchronisation that goes on by itself.
-fn sync_alone(handle: &Option<HandleView>, tables: &Tables, c: u8) -> Option<Outcome>
-    requires { c < client_numbers }
-    ensures { (live : Bool) → result ≡ sync_alone (standing_in live handle.now c tables.now) handle.now }
+fn sync_alone(handle: &Option<HandleView>, table: &Table) -> Option<Outcome>
+    ensures { (live : Bool) → result ≡ sync_alone (standing live handle.now table.now) handle.now }
 {
     if handle.is_none() {
         return refused(AisError::BadHandle);
     }
     let refusal = synchronize_begin(handle, 0);
-    alone(tables.callbacks(c).syncs, refusal, tables.pending_count(c))
+    alone(table.callbacks().syncs, refusal, table.pending_count())
 }
 
 // A dispatch answers what it gives and leaves.

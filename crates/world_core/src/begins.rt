@@ -16,7 +16,7 @@ ghost use Rattle.run_labels.specs.declared.words.LineWord.TheVariants as linewor
 ghost use Rattle.run_labels.specs.declared.labels.Label.TheVariants as labels;
 ghost use Rattle.cluster_record.specs.RecordState.{empty_record};
 ghost use Rattle.ckpt_types.specs.Asks.{asked, IsBuilt};
-ghost use Rattle.cluster_record.specs.Calls.{client_of};
+ghost use Rattle.cluster_record.specs.Calls.{client_of, IsClient};
 ghost use Rattle.ckpt_machine.specs.Driving.{driver_start};
 ghost use Rattle.ckpt_machine.specs.Steps.{MayBegin, IsBeginEnd, kept_at_beginning, declared_at, room_at};
 ghost use Rattle.ckpt_machine.specs.Tables.{ckpt_of_handle};
@@ -100,20 +100,21 @@ impl World {
         ensures ok { OnOk result (Adds log.old log.new (Begins c op self.old self.new)) }
         ensures err { OnErr result ((self.new ≡ self.old) × (log.new.labels ≡ log.old.labels)) }
     {
+        let table = self.tables.get(c);
         let call = CallId {
             actor: ActorName::Client(c),
-            number: self.tables.number(c),
+            number: table.number(),
         };
-        let handle = self.tables.handle_asked(c, &op);
+        let handle = table.handle_asked(&op);
         let live = self.cluster.is_live_client(c);
-        let due = begin_end(live, &handle, &op, &self.tables, c);
+        let due = begin_end(live, &handle, &op, table);
         let (end, rooms) = take_room(alloc, &op, &self.cluster, &handle, due);
         if let Some(end) = end {
             return self.begin_answered(alloc, c, call, op, &handle, end, log);
         }
         let slot = self.hands.at_client(c);
         let hand = in_hand(call, &op, &handle, &self.cluster, rooms)?;
-        self.tables.begin(c, call, &op, &handle, &None);
+        self.tables.at(c).begin(call, &op, &handle, &None);
         take_place(slot, hand);
         log.push(Label::Began {
             call,
@@ -184,7 +185,7 @@ impl World {
         ensures label { log.new.labels ≡ log.old.labels ++ labels.Began call op (Some end) details ∷ [] }
     {
         let end = Some(end);
-        self.tables.begin(c, call, &op, handle, &end);
+        self.tables.at(c).begin(call, &op, handle, &end);
         log.push(Label::Began {
             call,
             op,
@@ -231,11 +232,12 @@ impl World {
         requires client { c < client_numbers }
         ensures { IfOk result (λ details. details ≡ beside.Callbacks (map callback_of (given_by flags (pending_by self.now.tables c)))) }
     {
-        let count = match self.tables.given(c, flags) {
+        let table = self.tables.get(c);
+        let count = match table.given(flags) {
             Ok(given) => given.given as usize,
             Err(_) => 0,
         };
-        let callbacks = self.tables.callbacks_given(alloc, c, count)?;
+        let callbacks = table.callbacks_given(alloc, count)?;
         Ok(Details::Callbacks(Apart::new(alloc, Vector::from_vec(callbacks))?))
     }
 }
@@ -249,6 +251,7 @@ fn put_alone(
     handle: &Option<HandleView>,
     cluster: &Record,
 ) -> Result<(), AllocError>
+    requires client { IsClient call.actor }
     requires goes_on { IsSome (driver_start call (asked op.now) (kept_at_beginning cluster.now (client_of call) handle.now)) }
     ensures ok { OnOk result (IsPutAlone call op.now (kept_at_beginning cluster.now (client_of call) handle.now) hands.old hands.new) }
     ensures err { OnErr result (hands.new ≡ hands.old) }

@@ -2,6 +2,7 @@
 ghost use Rattle.std.specs.Prelude.{◌≡◌};
 ghost use Rattle.ckpt_machine.specs.Steps.{ended_details};
 ghost use Rattle.node_core.specs.Details.{details_told, pieces_told, section_told, status_told};
+ghost use Rattle.world_core.specs.ReadTold.{read_told};
 
 use ckpt_types::{
     Answer, Apart, CheckpointDescriptor, Outcome, Pieces, ReadBuf, SectionDescriptor,
@@ -18,6 +19,17 @@ pub fn told_details(end: &Option<Outcome>, reply: &Reply, lent: Lent) -> Details
         (Some(_), Reply::Done(Answer::Pieces | Answer::Created)) => { told_pieces(lent.read) }
         (Some(_), Reply::Done(Answer::Status)) => told_status(lent.status),
         (Some(_), Reply::Done(Answer::Section)) => told_section(lent.section),
+        _ => Details::Nothing,
+    }
+}
+
+/// What the label of a read tells beside its end, where it ended its call and was done: its pieces.
+#[inline(always)]
+pub fn told_read(end: &Option<Outcome>, reply: &Reply, read: ReadBuf) -> Details
+    ensures { result ≡ ended_details end.now (read_told reply.now read) }
+{
+    match (end, reply) {
+        (Some(_), Reply::Done(Answer::Pieces)) => Details::Pieces(Pieces::from_buf(read)),
         _ => Details::Nothing,
     }
 }

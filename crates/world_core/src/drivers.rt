@@ -28,7 +28,7 @@ ghost use Rattle.cluster_record.specs.DueOnce.{Close, Retain};
 use crate::beginning::{choice_of, ckpt_of_handle};
 use crate::one_step::OneStep;
 use crate::options::{is_all, is_weak};
-use crate::tables::Tables;
+use crate::table::Table;
 use ckpt_types::{
     Answer, CallId, Cause, CkptId, NodeId, Op, Outcome, SharedAttributes, SharedName, Update,
 };
@@ -168,17 +168,17 @@ impl Driver {
 
     /// What the call does next, by the record and by what its client's tables have a free place for.
     #[inline(always)]
-    pub fn next(&self, cluster: &Record, tables: &Tables, c: u8) -> Next
+    pub fn next(&self, cluster: &Record, table: &Table, c: u8) -> Next
         requires { c < client_numbers }
-        ensures { result ≡ driver_next cluster.now (rooms_in (makings_of c cluster.now.entries) (kept_by tables.now c)) self.now }
+        ensures { result ≡ driver_next cluster.now (rooms_in (makings_of c cluster.now.entries) table.now.client) self.now }
     {
         match &self.kind {
             DriverKind::Once(step) => step.next(cluster),
             DriverKind::Open(open_call) => {
-                open_call.next(cluster, tables.has_place(c, cluster.makings(c)))
+                open_call.next(cluster, table.has_place(cluster.makings(c)))
             }
             DriverKind::Update(update) => update.next(cluster),
-            DriverKind::Active(active) => active.next(cluster, tables.has_iteration_room(c)),
+            DriverKind::Active(active) => active.next(cluster, table.has_iteration_room()),
             DriverKind::Sync(sync) => sync.next(cluster),
         }
     }

@@ -1,5 +1,5 @@
 //! The calls in hand.
-ghost use Rattle.std.specs.Prelude.{◌≡◌, ◌<◌, length, replicate, Some, None, is_some, [], IfNone, IfOk, IfSome, OnOk, OnErr, slice_get, IsSome, IsSomeAnd, MatchOption};
+ghost use Rattle.std.specs.Prelude.{◌≡◌, ◌<◌, ◌∷◌, ◌++◌, filter, length, replicate, Some, None, is_some, [], IfNone, IfOk, IfSome, OnOk, OnErr, slice_get, IsSome, IsSomeAnd, MatchOption};
 ghost use Rattle.std.specs.Borrow.{sem};
 ghost use Rattle.std.specs.Option.{option_and_then, option_map};
 ghost use Rattle.ckpt_types.specs.OpWord.{word_of_op};
@@ -16,20 +16,20 @@ ghost use Rattle.world_core.specs.HandSteps.{hand_taken, hand_end};
 ghost use Rattle.world_core.specs.Taking.{hand_outcome, hand_told};
 ghost use Rattle.replica.specs.Replicas.{pull_result, pulled_unless};
 ghost use Rattle.weak_marks.specs.Marks.{call_of};
-ghost use Rattle.world_core.specs.HandLending.{LendsHand};
+ghost use Rattle.world_core.specs.HandLending.{LendsAlone, LendsHand};
 ghost use Rattle.world_core.specs.Leading.{synchronized_by};
 ghost use Rattle.world_core.specs.Nodes.{replica_in};
 ghost use Rattle.ckpt_types.specs.declared.identities.ActorName.TheVariants.{Client};
 ghost use Rattle.ckpt_types.specs.declared.identities.Who.TheVariants.{Actor};
 ghost use Rattle.call_dispatch.specs.PendingCalls.{find_async};
-ghost use Rattle.cluster_record.specs.Calls.{same_actor};
+ghost use Rattle.cluster_record.specs.Calls.{client_of, same_actor, IsClient};
 ghost use Rattle.cluster_record.specs.Places.{or_none};
 ghost use Rattle.ckpt_machine.specs.Steps.{goes_with, is_over};
-ghost use Rattle.ckpt_machine.specs.Whose.{is_of};
-ghost use Rattle.world_core.specs.HandsState.{client_by, found_alone, hand_at, has_call, has_other, meets, with_alone, without_call, without_those, IsPlaceOf};
+ghost use Rattle.world_core.specs.HandsState.{alone_in, client_by, found_alone, hand_at, has_call, has_other, meets, with_alone, without_all, without_call, without_met, without_those, HasAlone, IsPlaceOf};
 
 use crate::drivers::Driver;
 use crate::nodes::Nodes;
+use crate::snapshots::pull_whole;
 use call_dispatch::Pending;
 use ckpt_types::{
     ActorName, AsyncKind, CLIENT_NUMBERS, CallId, CkptId, Held, NodeId, Op, Outcome, Who,
@@ -57,13 +57,28 @@ pub struct InHand {
     pub snapshot: Option<Snap>,
 }
 
+/// The asynchronous calls of one client that go on by themselves, in the order of their beginning.
+#[derive(Drop)]
+pub struct AloneCalls {
+    list: Vec<Option<InHand>>,
+}
+
+impl Model for AloneCalls {
+    ghost use Rattle.std.specs.Prelude.{List, Option};
+    ghost use Rattle.world_core.specs.declared.hands.InHand.{InHand};
+
+    ghost Value = { List (Option InHand) };
+
+    ghost view = { λ calls. calls.list.items };
+}
+
 /// The call in hand of each client, c0 to c99, and the asynchronous calls that go on by themselves.
 #[derive(Drop)]
 pub struct Hands {
     /// By client, a place for each.
     clients: Vec<Option<InHand>>,
-    /// The asynchronous calls, in the order of their beginning.
-    alone: Vec<Option<InHand>>,
+    /// By client, its asynchronous calls.
+    alone: Vec<AloneCalls>,
 }
 
 impl Model for Hands {
@@ -163,7 +178,10 @@ impl InHand {
         let Some(snap) = &mut self.snapshot else {
             unreachable!()
         };
-        nodes.lend(r, ckpt, snap)
+        let Some(replica) = nodes.find(r, ckpt) else {
+            unreachable!()
+        };
+        pull_whole(replica, snap)
     }
 
     /// The room that it has for an iteration is taken out of it.
@@ -175,15 +193,76 @@ impl InHand {
     }
 }
 
+impl AloneCalls {
+    /// There is none.
+    fn new(alloc: Global) -> AloneCalls
+        ensures { result ≡ [] }
+    {
+        AloneCalls {
+            list: Vec::new(alloc),
+        }
+    }
+
+    /// The call of that name.
+    fn find(&self, call: CallId) -> Option<&InHand>
+        ensures { MatchOption result (found_alone call self.now ≡ None) (λ hand. found_alone call self.now ≡ Some hand.now) }
+    {
+        find_alone(self.list.as_slice(), call)
+    }
+
+    /// The place of a call that is there.
+    fn at(&mut self, call: CallId) -> &mut Option<InHand>
+        requires { IsSome (found_alone call self.old) }
+        ensures* lends { sem 𝓛 (LendsAlone self.entry call result) }
+        ensures value { found_alone call self.old ≡ result.now }
+    {
+        let Some(place) = place_alone(self.list.as_slice(), call) else {
+            unreachable!()
+        };
+        &mut self.list[place]
+    }
+
+    /// One more goes on by itself.
+    fn add(&mut self, hand: InHand) -> Result<(), AllocError>
+        ensures ok { OnOk result (self.new ≡ self.old ++ Some hand ∷ []) }
+        ensures err { OnErr result (self.new ≡ self.old) }
+    {
+        self.list.push(Some(hand))?;
+        Ok(())
+    }
+
+    /// The call of that name goes.
+    fn forget(&mut self, call: CallId)
+        ensures { self.new ≡ filter (has_other call) self.old }
+    {
+        self.list.retain(|place| has_other(place, call));
+    }
+
+    /// All go.
+    fn clear(&mut self)
+        ensures { self.new ≡ [] }
+    {
+        self.list.clear();
+    }
+
+    /// The synchronisations of this client over a handle that is closed, if one is, go.
+    fn forget_over(&mut self, c: u8, handle: Option<u32>, pending: &Pending)
+        ensures { self.new ≡ without_met (λ v. goes_with handle (Client c) pending.now v) self.old }
+    {
+        self.list
+            .retain(|place| !goes_with(place, c, handle, pending));
+    }
+}
+
 impl Hands {
     /// No call is in hand. The places of all clients are there from here on.
     pub fn new(alloc: Global) -> Result<Hands, AllocError>
         ensures clients { IfOk result (λ hands. hands.clients ≡ replicate client_numbers None) }
-        ensures alone { IfOk result (λ hands. hands.alone ≡ []) }
+        ensures alone { IfOk result (λ hands. hands.alone ≡ replicate client_numbers []) }
     {
         Ok(Hands {
             clients: new_places(alloc)?,
-            alone: Vec::new(alloc),
+            alone: new_lists(alloc)?,
         })
     }
 
@@ -195,7 +274,7 @@ impl Hands {
         match who {
             Who::Actor(ActorName::Client(c)) => find(self.clients.as_slice(), c as usize),
             Who::Actor(ActorName::Node(_)) => None,
-            Who::Call(call) => find_alone(self.alone.as_slice(), call),
+            Who::Call(call) => find_kept(self.alone.as_slice(), call),
         }
     }
 
@@ -228,43 +307,52 @@ impl Hands {
             Who::Actor(ActorName::Client(c)) => &mut self.clients[c as usize],
             Who::Actor(ActorName::Node(_)) => unreachable!(),
             Who::Call(call) => {
-                let Some(place) = place_alone(self.alone.as_slice(), call) else {
+                let ActorName::Client(c) = call.actor else {
                     unreachable!()
                 };
-                &mut self.alone[place]
+                self.alone[c as usize].at(call)
             }
         }
     }
 
     /// An asynchronous call goes on by itself.
     pub fn add(&mut self, hand: InHand) -> Result<(), AllocError>
+        requires { IsClient hand.call.actor }
         ensures ok { OnOk result (self.new ≡ with_alone hand self.old) }
         ensures err { OnErr result (self.new ≡ self.old) }
+        ensures there { HasAlone hand.call.actor self.old }
     {
-        self.alone.push(Some(hand))?;
-        Ok(())
+        let ActorName::Client(c) = hand.call.actor else {
+            unreachable!()
+        };
+        self.alone[c as usize].add(hand)
     }
 
     /// An asynchronous call is in hand no more.
     pub fn forget(&mut self, call: CallId)
+        requires { client_of call < client_numbers }
         ensures { self.new ≡ without_call call self.old }
     {
-        self.alone.retain(|place| has_other(place, call));
+        let ActorName::Client(c) = call.actor else {
+            return;
+        };
+        self.alone[c as usize].forget(call);
     }
 
     /// All asynchronous calls of a client are in hand no more.
     pub fn forget_of(&mut self, c: u8)
-        ensures { self.new ≡ without_those (λ v. is_of (Client c) v) self.old }
+        requires { c < client_numbers }
+        ensures { self.new ≡ without_all c self.old }
     {
-        self.alone.retain(|place| !is_of(place, c));
+        self.alone[c as usize].clear();
     }
 
     /// The asynchronous synchronisations of a client over a handle that is closed, if one is, are in hand no more.
     pub fn forget_over(&mut self, c: u8, handle: Option<u32>, pending: &Pending)
-        ensures { self.new ≡ without_those (λ v. goes_with handle (Client c) pending.now v) self.old }
+        requires { c < client_numbers }
+        ensures { self.new ≡ without_those c (λ v. goes_with handle (Client c) pending.now v) self.old }
     {
-        self.alone
-            .retain(|place| !goes_with(place, c, handle, pending));
+        self.alone[c as usize].forget_over(c, handle, pending);
     }
 }
 
@@ -285,16 +373,6 @@ fn has_other(place: &Option<InHand>, call: CallId) -> bool
     match place {
         None => false,
         Some(hand) => hand.call != call,
-    }
-}
-
-// Whether a place has a call of this client.
-fn is_of(place: &Option<InHand>, c: u8) -> bool
-    ensures { result ≡ meets (λ v. is_of (Client c) v) place.now }
-{
-    match place {
-        None => false,
-        Some(hand) => is_client(hand.call.actor, c),
     }
 }
 
@@ -393,12 +471,35 @@ fn new_places(alloc: Global) -> Result<Vec<Option<InHand>>, AllocError>
     Ok(places)
 }
 
+fn new_lists(alloc: Global) -> Result<Vec<AloneCalls>, AllocError>
+    ensures { IfOk result (λ lists. lists.items ≡ replicate client_numbers []) }
+{
+    let mut lists = Vec::with_capacity(alloc, CLIENT_NUMBERS)?;
+    for _n in 0..CLIENT_NUMBERS {
+        lists.push_reserved(AloneCalls::new(alloc));
+    }
+    Ok(lists)
+}
+
 fn find(list: &[Option<InHand>], c: usize) -> Option<&InHand>
     ensures { MatchOption result (or_none (slice_get list.now c) ≡ None) (λ hand. or_none (slice_get list.now c) ≡ Some hand.now) }
 {
     match list.get(c) {
         None => None,
         Some(hand) => hand.as_ref(),
+    }
+}
+
+// The asynchronous call of that name, among those of each client; no node has one.
+fn find_kept(lists: &[AloneCalls], call: CallId) -> Option<&InHand>
+    ensures { MatchOption result (found_alone call (alone_in lists.now call.actor) ≡ None) (λ hand. found_alone call (alone_in lists.now call.actor) ≡ Some hand.now) }
+{
+    let ActorName::Client(c) = call.actor else {
+        return None;
+    };
+    match lists.get(c as usize) {
+        None => None,
+        Some(calls) => calls.find(call),
     }
 }
 

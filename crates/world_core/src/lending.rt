@@ -1,5 +1,5 @@
 //! What the call of a client lends to a request, and what comes back of it.
-ghost use Rattle.std.specs.Prelude.{◌≡◌, ◌<◌, [], length, None, Some, IfOk, IsSome, MatchOption, OnOk};
+ghost use Rattle.std.specs.Prelude.{◌≡◌, ◌^◌, ◌<◌, [], length, None, Some, IfOk, IsSome, MatchOption, OnOk};
 ghost use Rattle.ckpt_types.specs.Asks.{update_of, elements_of};
 ghost use Rattle.ckpt_types.specs.declared.update.Update.TheVariants as updates;
 ghost use Rattle.node_core.specs.Lending.{bytes_asked, HasRoomToTell};
@@ -155,7 +155,8 @@ fn no_section() -> SectionDescriptor {
     }
 }
 
-fn reserve_for(alloc: Global, elements: &[ReadElement]) -> Result<ReadBuf, AllocError>
+/// An empty buffer with room for what the elements of a read ask for.
+pub fn reserve_for(alloc: Global, elements: &[ReadElement]) -> Result<ReadBuf, AllocError>
     ensures { IfOk result (λ read. read ≡ record { pieces = []; spare_pieces = length elements.now; spare_bytes = bytes_asked elements.now }) }
 {
     let Some(bytes) = bytes_asked(elements) else {
@@ -176,6 +177,18 @@ pub fn share_update(alloc: Global, op: &Op) -> Result<SharedUpdate, AllocError>
         | Op::Write(_, update)
         | Op::Over(_, update) => update.share(),
         _ => SharedUpdate::new(alloc, Update::Nothing),
+    }
+}
+
+/// The elements of the read that an operation asks for.
+#[inline(always)]
+pub fn elements_in(op: &Op) -> &[ReadElement]
+    ensures is { result.now ≡ elements_of op.now }
+    ensures few { length result.now < 2 ^ 32 }
+{
+    match op {
+        Op::Read(_, elements) => elements.value().as_slice(),
+        _ => &[],
     }
 }
 

@@ -23,6 +23,7 @@ mod setting;
 mod showing;
 mod snapshots;
 mod steps;
+mod table;
 mod tables;
 mod updating;
 mod world;

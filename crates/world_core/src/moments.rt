@@ -14,8 +14,9 @@ impl World {
         requires spare { 1 ≤ log.old.spare }
         ensures { Adds log.old log.new (SetsMoment t self.old self.new) }
     {
-        self.cluster.set_moment(t);
-        self.free_gone();
+        if self.cluster.set_moment(t) {
+            self.free_gone();
+        }
         log.push(Label::Moved(t));
     }
 }

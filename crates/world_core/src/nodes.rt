@@ -1,27 +1,27 @@
 //! The nodes n0 to n7, and the requests that they serve.
-ghost use Rattle.std.specs.Prelude.{◌≡◌, ◌<◌, [], None, Some, IfOk, IfSome, IsSomeAnd, MatchOption, OnErr, OnOk, false, length, replicate};
+ghost use Rattle.std.specs.Prelude.{◌≡◌, ◌^◌, ◌<◌, [], None, Some, IfOk, IfSome, IsSome, MatchOption, OnErr, OnOk, false, length, replicate};
+ghost use Rattle.std.specs.Borrow.{sem};
 ghost use Rattle.ckpt_types.specs.Attributes.{is_malformed};
+ghost use Rattle.ckpt_types.specs.declared.answers.Answer.TheVariants as answers;
 ghost use Rattle.ckpt_types.specs.Limits.{nodes_max};
+ghost use Rattle.ckpt_types.specs.Reads.{read};
+ghost use Rattle.node_msgs.specs.declared.replies.Reply.TheVariants as replies;
 ghost use Rattle.cluster_record.specs.RecordState.{entry_of};
 ghost use Rattle.node_core.specs.Details.{details_told};
-ghost use Rattle.node_core.specs.Changing.{taken_over};
-ghost use Rattle.node_core.specs.Fitting.{TakesSnapshot, TakesUpdate};
 ghost use Rattle.world_core.specs.Asking.{MayCome, KeepsToDeclared};
+ghost use Rattle.node_core.specs.Lending.{HasRoomToRead};
 ghost use Rattle.node_core.specs.Nodes.{MayReply, seen_for, served_for};
 ghost use Rattle.node_core.specs.Payloads.{payload_of};
-ghost use Rattle.node_core.specs.Serving.{details_at, iteration_behind, snapshot_behind};
-ghost use Rattle.replica.specs.Replicas.{answer_unless, committed, install_answer, installed, outcome_on, pull_result, pulled_unless, staged};
-ghost use Rattle.stage_slot.specs.Slots.{IsOwnedBy, owner_of};
-ghost use Rattle.weak_marks.specs.Marks.{call_of};
+ghost use Rattle.node_core.specs.Serving.{details_at, done_or_refused, iteration_behind, snapshot_behind};
 ghost use Rattle.world_core.specs.Freeing.{freed};
-ghost use Rattle.world_core.specs.Nodes.{node_at, nodes_after, nodes_shown, replica_in, with_added, with_changed, StandByNumber};
+ghost use Rattle.world_core.specs.Nodes.{node_at, nodes_after, nodes_shown, replica_in, with_added, StandByNumber};
+ghost use Rattle.world_core.specs.ReplicaLending.{LendsReplica};
 
-use ckpt_types::{CallId, CkptId, Held, Moment, NODES_MAX, NodeId, SharedUpdate};
+use ckpt_types::{CkptId, Moment, NODES_MAX, NodeId, ReadBuf, ReadElement};
 use cluster_record::{Entry, Record};
 use node_core::{Lent, Node};
 use node_msgs::{Reply, Request};
-use replica::{Older, Replica, StageRefused};
-use snap_copy::Snap;
+use replica::Replica;
 use std::alloc::{AllocError, Global};
 use std::marker::Model;
 
@@ -76,73 +76,36 @@ impl Nodes {
         serve_node(self.list.as_mut_slice(), alloc, r, seen, request, lent)
     }
 
-    /// The replica of a checkpoint on a node stages an update of a call, as it does where `serve` asks for it.
+    /// The replica of a checkpoint on a node, which has one.
     #[inline(always)]
-    pub fn stage(
-        &mut self,
+    pub fn at(&mut self, r: NodeId, ckpt: CkptId) -> &mut Replica
+        requires node { r < nodes_max }
+        requires there { IsSome (replica_in self.old ckpt r) }
+        ensures* lends { sem 𝓛 (LendsReplica self.entry r ckpt result) }
+        ensures value { replica_in self.old ckpt r ≡ Some result.now }
+    {
+        self.list[r as usize].at(ckpt)
+    }
+
+    /// The replica of a checkpoint on a node reads, as it does where `serve` asks for it: the pieces come into the empty
+    /// buffer. It takes no memory.
+    #[inline(always)]
+    pub fn read(
+        &self,
         r: NodeId,
-        call: CallId,
         ckpt: CkptId,
-        moment: Moment,
-        update: SharedUpdate,
-    ) -> Result<(), StageRefused>
+        elements: &[ReadElement],
+        now: Moment,
+        out: &mut ReadBuf,
+    ) -> Reply
         requires node { r < nodes_max }
-        requires there { IsSomeAnd (replica_in self.old ckpt r) TakesUpdate }
-        ensures answer { IfSome (replica_in self.old ckpt r) (λ x. result ≡ answer_unless (owner_of x.slot) (outcome_on x update moment)) }
-        ensures new { self.new ≡ with_changed ckpt r (staged call update moment) self.old }
+        requires there { IsSome (replica_in self.now ckpt r) }
+        requires few { length elements.now < 2 ^ 32 }
+        requires room { HasRoomToRead elements.now out.old }
+        ensures answer { IfSome (replica_in self.now ckpt r) (λ x. result ≡ done_or_refused (replies.Done answers.Pieces) (read elements.now now x.sections)) }
+        ensures pieces { IfSome (replica_in self.now ckpt r) (λ x. IfOk (read elements.now now x.sections) (λ pieces. out.new.pieces ≡ pieces)) }
     {
-        stage_node(self.list.as_mut_slice(), r, call, ckpt, moment, update)
-    }
-
-    /// The replica of a checkpoint on a node commits what a call has staged there, as it does where `serve` asks for
-    /// it, and no identifier is told.
-    #[inline(always)]
-    pub fn commit(&mut self, r: NodeId, call: CallId, ckpt: CkptId)
-        requires node { r < nodes_max }
-        requires own { IsSomeAnd (replica_in self.old ckpt r) (λ x. IsOwnedBy call x.slot) }
-        ensures { self.new ≡ with_changed ckpt r (λ x. committed x x.slot) self.old }
-    {
-        commit_node(self.list.as_mut_slice(), r, call, ckpt);
-    }
-
-    /// The replica of a checkpoint on a node has what a snapshot has from then on, where it is older. Any other stays as
-    /// it was, and the answer tells its generation and its count. It takes no memory.
-    pub fn install(&mut self, r: NodeId, ckpt: CkptId, snap: &Snap) -> Result<(), Older>
-        requires node { r < nodes_max }
-        requires there { IsSomeAnd (replica_in self.old ckpt r) (TakesSnapshot snap.now) }
-        ensures answer { IfSome (replica_in self.old ckpt r) (λ x. result ≡ install_answer x snap.now) }
-        ensures new { self.new ≡ with_changed ckpt r (installed snap.now) self.old }
-    {
-        install_at(self.list.as_mut_slice(), r, ckpt, snap)
-    }
-
-    /// The snapshot has what the replica of a checkpoint on a node has, and which it has room for, since it declares the
-    /// same. The marks of a weak write keep it as it was. It takes no memory.
-    pub fn lend(&self, r: NodeId, ckpt: CkptId, snap: &mut Snap) -> Result<(), Held>
-        requires node { r < nodes_max }
-        requires there { IsSomeAnd (replica_in self.now ckpt r) (λ x. snap.old.attributes ≡ x.attributes) }
-        ensures answer { IfSome (replica_in self.now ckpt r) (λ x. result ≡ pull_result (call_of x.marks)) }
-        ensures snap { IfSome (replica_in self.now ckpt r) (λ x. snap.new ≡ pulled_unless (call_of x.marks) x snap.old) }
-    {
-        lend_at(self.list.as_slice(), r, ckpt, snap)
-    }
-
-    /// The replica of a checkpoint on a node has the sections and the count of a snapshot from then on, with this
-    /// generation, whichever of the two is older. It takes no memory.
-    pub fn take_over(&mut self, r: NodeId, ckpt: CkptId, snap: &Snap, generation: u64)
-        requires node { r < nodes_max }
-        requires there { IsSomeAnd (replica_in self.old ckpt r) (TakesSnapshot snap.now) }
-        ensures { self.new ≡ with_changed ckpt r (taken_over generation snap.now) self.old }
-    {
-        take_at(self.list.as_mut_slice(), r, ckpt, snap, generation);
-    }
-
-    /// The replica of a checkpoint on a node has this generation from then on. Where the node has none, nothing changes.
-    pub fn lead(&mut self, r: NodeId, ckpt: CkptId, generation: u64)
-        requires { r < nodes_max }
-        ensures { self.new ≡ with_changed ckpt r (λ x. record x { generation = generation }) self.old }
-    {
-        lead_at(self.list.as_mut_slice(), r, ckpt, generation);
+        read_at(self.list.as_slice(), r, ckpt, elements, now, out)
     }
 
     /// A node gets the replica of a checkpoint, as the record has it. Where memory is refused, nothing changes.
@@ -235,77 +198,22 @@ fn see_declared(node: &Node, request: &Request, lent: &Lent)
 }
 
 #[inline(always)]
-fn stage_node(
-    nodes: &mut [Node],
+fn read_at(
+    nodes: &[Node],
     r: NodeId,
-    call: CallId,
     ckpt: CkptId,
-    moment: Moment,
-    update: SharedUpdate,
-) -> Result<(), StageRefused>
-    requires numbered { StandByNumber nodes.old }
-    requires node { r < length nodes.old }
-    requires there { IsSomeAnd (replica_in (nodes_shown nodes.old) ckpt r) TakesUpdate }
-    ensures numbered { StandByNumber nodes.new }
-    ensures answer { IfSome (replica_in (nodes_shown nodes.old) ckpt r) (λ x. result ≡ answer_unless (owner_of x.slot) (outcome_on x update moment)) }
-    ensures new { nodes_shown nodes.new ≡ with_changed ckpt r (staged call update moment) (nodes_shown nodes.old) }
-{
-    let node = &mut nodes[r as usize];
-    node.stage(call, ckpt, moment, update)
-}
-
-#[inline(always)]
-fn commit_node(nodes: &mut [Node], r: NodeId, call: CallId, ckpt: CkptId)
-    requires numbered { StandByNumber nodes.old }
-    requires node { r < length nodes.old }
-    requires own { IsSomeAnd (replica_in (nodes_shown nodes.old) ckpt r) (λ x. IsOwnedBy call x.slot) }
-    ensures numbered { StandByNumber nodes.new }
-    ensures new { nodes_shown nodes.new ≡ with_changed ckpt r (λ x. committed x x.slot) (nodes_shown nodes.old) }
-{
-    let node = &mut nodes[r as usize];
-    node.commit(call, ckpt);
-}
-
-fn install_at(nodes: &mut [Node], r: NodeId, ckpt: CkptId, snap: &Snap) -> Result<(), Older>
-    requires numbered { StandByNumber nodes.old }
-    requires node { r < length nodes.old }
-    requires there { IsSomeAnd (replica_in (nodes_shown nodes.old) ckpt r) (TakesSnapshot snap.now) }
-    ensures numbered { StandByNumber nodes.new }
-    ensures answer { IfSome (replica_in (nodes_shown nodes.old) ckpt r) (λ x. result ≡ install_answer x snap.now) }
-    ensures new { nodes_shown nodes.new ≡ with_changed ckpt r (installed snap.now) (nodes_shown nodes.old) }
-{
-    let node = &mut nodes[r as usize];
-    node.install(ckpt, snap)
-}
-
-fn lend_at(nodes: &[Node], r: NodeId, ckpt: CkptId, snap: &mut Snap) -> Result<(), Held>
+    elements: &[ReadElement],
+    now: Moment,
+    out: &mut ReadBuf,
+) -> Reply
     requires node { r < length nodes.now }
-    requires there { IsSomeAnd (replica_in (nodes_shown nodes.now) ckpt r) (λ x. snap.old.attributes ≡ x.attributes) }
-    ensures answer { IfSome (replica_in (nodes_shown nodes.now) ckpt r) (λ x. result ≡ pull_result (call_of x.marks)) }
-    ensures snap { IfSome (replica_in (nodes_shown nodes.now) ckpt r) (λ x. snap.new ≡ pulled_unless (call_of x.marks) x snap.old) }
+    requires there { IsSome (replica_in (nodes_shown nodes.now) ckpt r) }
+    requires few { length elements.now < 2 ^ 32 }
+    requires room { HasRoomToRead elements.now out.old }
+    ensures answer { IfSome (replica_in (nodes_shown nodes.now) ckpt r) (λ x. result ≡ done_or_refused (replies.Done answers.Pieces) (read elements.now now x.sections)) }
+    ensures pieces { IfSome (replica_in (nodes_shown nodes.now) ckpt r) (λ x. IfOk (read elements.now now x.sections) (λ pieces. out.new.pieces ≡ pieces)) }
 {
-    nodes[r as usize].lend(ckpt, snap)
-}
-
-fn take_at(nodes: &mut [Node], r: NodeId, ckpt: CkptId, snap: &Snap, generation: u64)
-    requires numbered { StandByNumber nodes.old }
-    requires node { r < length nodes.old }
-    requires there { IsSomeAnd (replica_in (nodes_shown nodes.old) ckpt r) (TakesSnapshot snap.now) }
-    ensures numbered { StandByNumber nodes.new }
-    ensures new { nodes_shown nodes.new ≡ with_changed ckpt r (taken_over generation snap.now) (nodes_shown nodes.old) }
-{
-    let node = &mut nodes[r as usize];
-    node.take_over(ckpt, snap, generation);
-}
-
-fn lead_at(nodes: &mut [Node], r: NodeId, ckpt: CkptId, generation: u64)
-    requires numbered { StandByNumber nodes.old }
-    requires node { r < length nodes.old }
-    ensures numbered { StandByNumber nodes.new }
-    ensures new { nodes_shown nodes.new ≡ with_changed ckpt r (λ x. record x { generation = generation }) (nodes_shown nodes.old) }
-{
-    let node = &mut nodes[r as usize];
-    node.lead(ckpt, generation);
+    nodes[r as usize].read(ckpt, elements, now, out)
 }
 
 fn add_to(

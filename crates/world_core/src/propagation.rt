@@ -106,7 +106,7 @@ fn put_snapshot(
     if snap.generation() != entry.generation {
         return PutReply::Stale(snap.generation(), entry.generation);
     }
-    match nodes.install(r, ckpt, snap) {
+    match nodes.at(r, ckpt).install(snap) {
         Ok(()) => PutReply::Ok(snap.count()),
         Err(older) => PutReply::Old(older.generation, older.count),
     }

@@ -127,11 +127,16 @@ fn lead(cluster: &Record, nodes: &mut Nodes, ckpt: CkptId, r: NodeId, held: &Opt
         return;
     }
     match held {
-        None => nodes.lead(r, ckpt, entry.generation),
+        None => {
+            let Some(_) = nodes.find(r, ckpt) else {
+                return;
+            };
+            nodes.at(r, ckpt).lead(entry.generation);
+        }
         Some(snap) => {
             // The clause of `attributes` tells that its sections keep to them.
             let _declared = snap.attributes();
-            nodes.take_over(r, ckpt, snap, entry.generation);
+            nodes.at(r, ckpt).complete_from(snap, entry.generation);
         }
     }
 }

@@ -8,7 +8,7 @@ ghost use Rattle.node_msgs.specs.declared.requests.Request.{Request};
 ghost use Rattle.node_msgs.specs.declared.requests.Request.TheVariants as requests;
 ghost use Rattle.run_labels.specs.declared.labels.Label.TheVariants as labels;
 ghost use Rattle.run_labels.specs.declared.words.Said.TheVariants.{Idle};
-ghost use Rattle.world_core.specs.Settling.{tables_given, settled, looked, without_making_of, CanGive, CanSettle};
+ghost use Rattle.world_core.specs.Settling.{table_given, table_settled, table_looked, without_making_of, MayGive, MaySettle};
 ghost use Rattle.cluster_record.specs.LookUps.{creation_flags_of};
 ghost use Rattle.cluster_record.specs.RecordState.{entry_of};
 ghost use Rattle.ckpt_machine.specs.Driving.{event_ckpt, event_refusal};
@@ -18,7 +18,6 @@ ghost use Rattle.world_core.specs.LiveRooms.{room_is_taken};
 ghost use Rattle.world_core.specs.Runs.{step_word};
 ghost use Rattle.world_core.specs.Alone.{calls_gone, ended_at, gone_with, gone_with_look, syncs_gone};
 ghost use Rattle.ckpt_machine.specs.Steps.{goes_with};
-ghost use Rattle.world_core.specs.TableState.{pending_by};
 ghost use Rattle.world_core.specs.HandsState.{client_by, hand_at, without_those, IsClientName};
 ghost use Rattle.world_core.specs.Shows.{IsShown, HasNumbersLeft};
 ghost use Rattle.world_core.specs.Happenings.{Adds, IsNext, IsStep, IsIdle};
@@ -27,13 +26,13 @@ ghost use Rattle.ckpt_types.specs.declared.sections.Choice.{Choice};
 ghost use Rattle.ckpt_types.specs.Limits.{client_numbers, nodes_max};
 
 use crate::applying::apply;
-use crate::details::told_details;
+use crate::details::{told_details, told_read};
 use crate::drivers::{DriverKind, event_ckpt, event_granted, event_node};
 use crate::hands::{Hands, clear, client_by, hand_over, let_go};
 use crate::iterating::{keep_iteration, lend_iteration};
-use crate::lending::lent_by;
+use crate::lending::{elements_in, lent_by, reserve_for};
 use crate::messages::{look_word, refusal_word, served, stepped};
-use crate::tables::Tables;
+use crate::table::Table;
 use crate::world::World;
 use ckpt_types::{ActorName, CallId, CkptId, NodeId, Op, Outcome, Who};
 use cluster_record::Record;
@@ -67,7 +66,7 @@ impl World {
             let next = update.next(&self.cluster);
             return self.update_step(alloc, c, next, log);
         }
-        let next = hand.driver.next(&self.cluster, &self.tables, c);
+        let next = hand.driver.next(&self.cluster, self.tables.get(c), c);
         self.take_next(alloc, who, next, log)
     }
 
@@ -91,9 +90,8 @@ impl World {
             log.push(idle_label(who, finish));
             return Ok(());
         };
-        let next = hand
-            .driver
-            .next(&self.cluster, &self.tables, client_by(who));
+        let c = client_by(who);
+        let next = hand.driver.next(&self.cluster, self.tables.get(c), c);
         self.take_next(alloc, who, next, log)
     }
 
@@ -115,6 +113,7 @@ impl World {
         ensures err { OnErr result ((self.new ≡ self.old) × (log.new.labels ≡ log.old.labels)) }
     {
         match next {
+            Next::Serve(r, Request::Read(ckpt)) => self.read_step(alloc, who, r, ckpt, log),
             Next::Serve(r, request) => self.serve_step(alloc, who, r, &request, log),
             Next::Event(step) => {
                 self.take_event(alloc, who, step, log);
@@ -125,6 +124,40 @@ impl World {
                 Ok(())
             }
         }
+    }
+
+    // The active reads for the call. Nothing is lent but the room for what it gives.
+    #[inline(never)]
+    fn read_step(
+        &mut self,
+        alloc: Global,
+        who: Who,
+        r: NodeId,
+        ckpt: CkptId,
+        log: &mut RunLog,
+    ) -> Result<(), AllocError>
+        requires next { IsNext self.old who (nexts.Serve r (requests.Read ckpt)) }
+        requires client { IsClientName who }
+        requires shown { IsShown self.old }
+        requires roomy { HasNumbersLeft self.old }
+        requires spare { 1 ≤ log.old.spare }
+        ensures ok { OnOk result (Adds log.old log.new (IsStep who self.old self.new)) }
+        ensures err { OnErr result ((self.new ≡ self.old) × (log.new.labels ≡ log.old.labels)) }
+    {
+        let slot = self.hands.at(who);
+        let Some(hand) = slot else { unreachable!() };
+        let call = hand.call;
+        let op = hand.word();
+        let elements = elements_in(&hand.op);
+        let mut read = reserve_for(alloc, elements)?;
+        let reply = self
+            .nodes
+            .read(r, ckpt, elements, self.cluster.now(), &mut read);
+        let end = hand.take(&self.cluster, &reply);
+        let_go(slot, &end);
+        let details = told_read(&end, &reply, read);
+        log.push(served(call, op, &Request::Read(ckpt), r, &reply, end, details));
+        Ok(())
     }
 
     /// A node answers a request of the call.
@@ -151,14 +184,13 @@ impl World {
         let op = hand.word();
         let c = client_by(who);
         let mut lent = lent_by(alloc, &hand.op, request)?;
-        lent.iteration = lend_iteration(&mut self.tables, c, hand, request);
+        lent.iteration = lend_iteration(self.tables.at(c), hand, request);
         hand_over(&mut hand.snapshot, &mut lent.snap);
         let reply = self
             .nodes
             .serve(alloc, r, &self.cluster, request, &mut lent);
         keep_iteration(
-            &mut self.tables,
-            c,
+            self.tables.at(c),
             &hand.op,
             request,
             &reply,
@@ -199,7 +231,7 @@ impl World {
         requires spare { 1 ≤ log.old.spare }
         ensures { Adds log.old log.new (IsStep who self.old self.new) }
     {
-        match self.tables.take_room(alloc, client_by(who)) {
+        match self.tables.at(client_by(who)).take_room(alloc) {
             Ok(()) => self.record_step(alloc, who, RecordStep::Enter, None, log),
             Err(AllocError) => self.refuse_step(who, RecordStep::Enter, &Reply::NoMemory, log),
         }
@@ -302,8 +334,9 @@ impl World {
             return;
         }
         let c = client_by(who);
-        let closed = self.tables.handle_closed(c, &hand.op);
-        settle(&mut self.tables, &self.cluster, c, &hand.op, &step, ckpt);
+        let table = self.tables.at(c);
+        let closed = table.handle_closed(&hand.op);
+        settle(table, &self.cluster, &hand.op, &step, ckpt);
         let end = hand.take_done(&self.cluster, ckpt);
         let_go(slot, &end);
         self.let_go_with(c, &step, closed);
@@ -327,8 +360,9 @@ impl World {
         let reply = look_word(&end);
         let making = hand.driver.making();
         let c = client_by(who);
-        let closed = self.tables.handle_closed(c, &hand.op);
-        settle_look(&mut self.tables, c, &hand.op, &end);
+        let table = self.tables.at(c);
+        let closed = table.handle_closed(&hand.op);
+        settle_look(table, &hand.op, &end);
         clear(slot);
         self.let_go_with_look(c, &end, closed);
         self.unmake(making);
@@ -345,7 +379,7 @@ impl World {
     {
         if let (Who::Call(call), Some(end)) = (who, end) {
             self.hands.forget(call);
-            self.tables.finish(client_by(who), call, *end);
+            self.tables.at(client_by(who)).finish(call, *end);
         }
     }
 
@@ -378,8 +412,9 @@ impl World {
         requires { c < client_numbers }
         ensures { self.new ≡ syncs_gone c closed self.old }
     {
-        forget_syncs(&mut self.hands, &self.tables, c, closed);
-        self.tables.forget_over(c, closed);
+        let table = self.tables.at(c);
+        forget_syncs(&mut self.hands, table, c, closed);
+        table.forget_over(closed);
     }
 
     // All asynchronous calls of a client go.
@@ -388,7 +423,7 @@ impl World {
         ensures { self.new ≡ calls_gone c self.old }
     {
         self.hands.forget_of(c);
-        self.tables.forget_all(c);
+        self.tables.at(c).forget_all();
     }
 
     // What a call is making is undone, if it is making something; what is over goes too, and what was kept for it.
@@ -404,11 +439,11 @@ impl World {
 }
 
 // Those that go are in hand no more.
-fn forget_syncs(hands: &mut Hands, tables: &Tables, c: u8, closed: Option<u32>)
+fn forget_syncs(hands: &mut Hands, table: &Table, c: u8, closed: Option<u32>)
     requires { c < client_numbers }
-    ensures { hands.new ≡ without_those (λ v. goes_with closed (Client c) (pending_by tables.now c) v) hands.old }
+    ensures { hands.new ≡ without_those c (λ v. goes_with closed (Client c) table.now.pending v) hands.old }
 {
-    let Some(pending) = tables.pending(c) else {
+    let Some(pending) = table.pending() else {
         return;
     };
     hands.forget_over(c, closed, pending);
@@ -426,46 +461,36 @@ fn idle_label(who: Who, finish: bool) -> Label
 }
 
 // What a step of the record makes of its client's table.
-fn settle(
-    tables: &mut Tables,
-    cluster: &Record,
-    c: u8,
-    op: &Op,
-    step: &RecordStep,
-    ckpt: Option<CkptId>,
-)
-    requires client { c < client_numbers }
-    requires can { CanSettle c op.now step.now tables.old }
-    ensures { tables.new ≡ settled cluster.now c op.now step.now ckpt tables.old }
+fn settle(table: &mut Table, cluster: &Record, op: &Op, step: &RecordStep, ckpt: Option<CkptId>)
+    requires { MaySettle op.now step.now table.old }
+    ensures { table.new ≡ table_settled cluster.now op.now step.now ckpt table.old }
 {
     match step {
-        RecordStep::Enter => tables.register(c, op),
-        RecordStep::Open | RecordStep::Finish => give(tables, cluster, c, op, ckpt),
-        RecordStep::Close => tables.close(c, op),
-        RecordStep::Leave => tables.leave(c),
+        RecordStep::Enter => table.register(op),
+        RecordStep::Open | RecordStep::Finish => give(table, cluster, op, ckpt),
+        RecordStep::Close => table.close(op),
+        RecordStep::Leave => table.leave(),
         _ => {}
     }
 }
 
 // Where the record alone says that a call is done, the handle that it closes is closed.
-fn settle_look(tables: &mut Tables, c: u8, op: &Op, end: &Outcome)
-    requires { c < client_numbers }
-    ensures { tables.new ≡ looked end.now c op.now tables.old }
+fn settle_look(table: &mut Table, op: &Op, end: &Outcome)
+    ensures { table.new ≡ table_looked end.now op.now table.old }
 {
     match end {
-        Outcome::Done(_) => tables.close(c, op),
+        Outcome::Done(_) => table.close(op),
         _ => {}
     }
 }
 
 // The client gets the handle that its open gives of the checkpoint, if there is one.
-fn give(tables: &mut Tables, cluster: &Record, c: u8, op: &Op, ckpt: Option<CkptId>)
-    requires client { c < client_numbers }
-    requires can { CanGive c op.now tables.old }
-    ensures { tables.new ≡ tables_given cluster.now c op.now ckpt tables.old }
+fn give(table: &mut Table, cluster: &Record, op: &Op, ckpt: Option<CkptId>)
+    requires { MayGive op.now table.old }
+    ensures { table.new ≡ table_given cluster.now op.now ckpt table.old }
 {
     if let Some(ckpt) = ckpt {
-        tables.give(c, op, ckpt, creation_flags(cluster, ckpt));
+        table.give(op, ckpt, creation_flags(cluster, ckpt));
     }
 }
 

@@ -93,7 +93,8 @@ impl World {
         let call = hand.call;
         let op = hand.word();
         let update = share_update(alloc, &hand.op)?;
-        if let Err(refused) = self.nodes.stage(r, asked, ckpt, moment, update) {
+        let replica = self.nodes.at(r, ckpt);
+        if let Err(refused) = replica.stage(asked, update, moment) {
             let request = Request::Stage(asked, ckpt, moment);
             refuse_stage(slot, &self.cluster, r, &request, refused, log);
             return Ok(());
@@ -136,7 +137,7 @@ impl World {
         }
         let call = hand.call;
         let op = hand.word();
-        self.nodes.commit(r, asked, ckpt);
+        self.nodes.at(r, ckpt).commit(asked);
         if hand.committed(&self.cluster, ckpt, r) {
             log.push(goes_on(call, op, Verb::Commit, ckpt, r));
         } else {

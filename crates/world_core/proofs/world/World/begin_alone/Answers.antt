@@ -28,5 +28,5 @@ returns c =
     record {
       label = _;
       labels = c.begin_ended-2.ensures.label;
-      is = goes_alone w c.args.c c.args.call c.args.op c.args.handle.now put.hand _ c.begin_ended-2.new.self c.requires.shown c.requires.begins c.requires.alone put.begun put.hands c.begin_ended-2.ensures.world;
+      is = goes_alone w c.args.c c.args.call c.args.op c.args.handle.now put.hand _ c.begin_ended-2.new.self c.requires.shown c.requires.begins c.requires.alone put.begun put.there put.hands c.begin_ended-2.ensures.world;
     }

@@ -1,7 +1,9 @@
 use Rattle.std.proofs.Common.{sym, subst, ap, ◌∙◌}
-use Rattle.std.specs.Prelude.{Option, Some}
+use Rattle.std.specs.Prelude.{Option, Some, slice_set}
 use Rattle.node_msgs.specs.declared.next.Next.TheVariants.{End}
 use Rattle.run_labels.specs.declared.labels.Label.{Label}
+use Rattle.ckpt_types.specs.Asks.{asked}
+use Rattle.ckpt_machine.specs.Tables.{handle_closed}
 use Rattle.world_core.specs.declared.hands.InHand.{InHand}
 use Rattle.world_core.specs.Alone.{ended_at, gone_with_look}
 use Rattle.world_core.specs.Happenings.{IsStep}
@@ -9,6 +11,7 @@ use Rattle.world_core.specs.HandsState.{set_at}
 use Rattle.world_core.specs.Settling.{without_making_of}
 use Rattle.world_core.proofs.Held.{next_for}
 use Rattle.world_core.proofs.Look.{look_is}
+use Rattle.world_core.proofs.TableSteps.{kept_is, looked_is}
 use Rattle.world_core.proofs.world.World.look_step.Goals as goal
 
 pub returns : goal.returns
@@ -16,12 +19,17 @@ returns c =
     let w = c.args.self.now in
     let hand = c.in-Some.hand in
     let held = c.at-slot.ensures.value ∙ c.in-Some.is in
+    let n = c.client_by-c.result in
+    let t = c.at-table.result.now in
+    let there = c.at-table.ensures.value in
+    let tables = slice_set w.tables n c.settle_look.new.table in
     record {
       label = _;
       labels = c.push.ensures.labels;
       is = subst (λ (label : Label). IsStep c.args.who w c.end_alone.new.self label) (sym c.stepped.ensures)
-          (look_is w c.args.who c.args.end hand held (next_for w c.args.who (End c.args.end) hand held c.requires.next) c.end_alone.new.self c.making-making.result c.settle_look.new.tables c.client_by-c.result c.handle_closed-closed.result c.word-op.result c.look_word-reply.result
-          c.requires.shown c.making-making.ensures c.client_by-c.ensures c.handle_closed-closed.ensures c.settle_look.ensures c.word-op.ensures c.look_word-reply.ensures
+          (look_is w c.args.who c.args.end hand held (next_for w c.args.who (End c.args.end) hand held c.requires.next) c.end_alone.new.self c.making-making.result tables n c.handle_closed-closed.result c.word-op.result c.look_word-reply.result
+          c.requires.shown c.making-making.ensures c.client_by-c.ensures (c.handle_closed-closed.ensures ∙ ap (handle_closed (asked hand.op)) (sym (kept_is w.tables n t there)))
+          (ap (slice_set w.tables n) c.settle_look.ensures ∙ looked_is w.tables n t there c.args.end hand.op) c.word-op.ensures c.look_word-reply.ensures
           (c.end_alone.ensures ∙ ap (ended_at c.args.who (Some c.args.end)) (c.unmake.ensures ∙ ap (without_making_of c.making-making.result)
-          (c.let_go_with_look.ensures ∙ ap (λ (place : Option InHand). gone_with_look c.args.end c.client_by-c.result c.handle_closed-closed.result (record w { tables = c.settle_look.new.tables; hands = set_at w.hands c.args.who place })) c.clear.ensures))));
+          (c.let_go_with_look.ensures ∙ ap (λ (place : Option InHand). gone_with_look c.args.end n c.handle_closed-closed.result (record w { tables = tables; hands = set_at w.hands c.args.who place })) c.clear.ensures))));
     }

@@ -1,5 +1,6 @@
 use Rattle.std.proofs.Common.{◌≡◌, length, Some, None, sym, ap, subst, ◌∙◌}
-use Rattle.std.specs.Prelude.{Option, IsTrue}
+use Rattle.std.specs.Prelude.{Option, IsTrue, slice_set}
+use Rattle.ckpt_types.specs.Asks.{asked}
 use Rattle.ckpt_types.specs.declared.answers.Outcome.{Outcome}
 use Rattle.node_msgs.specs.declared.details.Details.TheVariants.{Nothing}
 use Rattle.node_msgs.specs.declared.replies.Reply.TheVariants.{NoMemory}
@@ -14,6 +15,7 @@ use Rattle.world_core.specs.RecordReady.{IsRefusedAs}
 use Rattle.world_core.specs.Taking.{hand_outcome}
 use Rattle.node_msgs.specs.declared.next.Next.TheVariants.{Event}
 use Rattle.ckpt_machine.specs.Driving.{takes_memory}
+use Rattle.ckpt_machine.specs.Tables.{handle_closed}
 use Rattle.world_core.specs.RecordAfter.{event_after, nodes_behind, snapshots_behind}
 use Rattle.world_core.specs.HandsState.{hand_at, set_at}
 use Rattle.world_core.specs.Alone.{ended_at}
@@ -22,6 +24,7 @@ use Rattle.world_core.proofs.EventEnds.{done_ends, done_keeps, refused_ends}
 use Rattle.world_core.proofs.Going.{length-behind}
 use Rattle.world_core.proofs.Held.{next_for}
 use Rattle.world_core.proofs.RecordSteps.{can_add, can_settle, is_found, is_ready, when_ok, when_err, event_step, refused_step}
+use Rattle.world_core.proofs.TableSteps.{kept_is, may_settle, settled_is}
 use Rattle.world_core.proofs.world.World.record_step.Goals as goal
 
 pub apply-applied-requires-clause-ready : goal.apply-applied-requires-clause-ready
@@ -45,12 +48,13 @@ apply-applied-requires-clause-found c =
     let held : hand_at w.hands c.args.who ≡ Some hand = c.at-slot.ensures.value ∙ c.in-Some.is in
     is_found w c.args.who c.args.step hand held (next_for w c.args.who (Event c.args.step) hand held c.requires.next) c.requires.shown c.args.ckpt (c.requires.granted hand held) c.requires.roomy (c.requires.ckpt hand held)
 
-pub settle-requires-clause-can : goal.settle-requires-clause-can
-settle-requires-clause-can c =
+pub settle-requires : goal.settle-requires
+settle-requires c =
     let w = c.args.self.now in
     let hand = c.in-Some.hand in
     let held : hand_at w.hands c.args.who ≡ Some hand = c.at-slot.ensures.value ∙ c.in-Some.is in
-    subst (λ n. CanSettle n hand.op c.args.step w.tables) (sym c.client_by-c.ensures) (can_settle w c.args.who c.args.step hand held (next_for w c.args.who (Event c.args.step) hand held c.requires.next) c.requires.shown (c.requires.granted hand held) c.requires.roomy c.requires.has_room)
+    may_settle w.tables c.client_by-c.result _ c.at-table.ensures.value hand.op c.args.step
+    (subst (λ n. CanSettle n hand.op c.args.step w.tables) (sym c.client_by-c.ensures) (can_settle w c.args.who c.args.step hand held (next_for w c.args.who (Event c.args.step) hand held c.requires.next) c.requires.shown (c.requires.granted hand held) c.requires.roomy c.requires.has_room))
 
 pub returns-then-is_err : goal.returns-then-is_err
 returns-then-is_err c =
@@ -83,12 +87,15 @@ returns c =
     let nodes_are : c.apply-applied.new.nodes ≡ nodes_behind hand.driver c.args.step w.cluster w.nodes = when_ok (c.apply-applied.new.nodes ≡ nodes_behind hand.driver c.args.step w.cluster w.nodes) c.apply-applied.result ok c.apply-applied.ensures.nodes in
     let snapshots_are : c.apply-applied.new.snapshots ≡ snapshots_behind hand.driver c.args.step w.cluster w.snapshots = when_ok (c.apply-applied.new.snapshots ≡ snapshots_behind hand.driver c.args.step w.cluster w.snapshots) c.apply-applied.result ok c.apply-applied.ensures.snapshots in
     let eight : length w.nodes ≡ 8 = sym (ap length nodes_are ∙ length-behind hand.driver c.args.step w.cluster w.nodes) ∙ sym (ap (λ (x : World). length x.nodes) c.let_go_with.ensures) ∙ c.free_gone.ensures.eight in
+    let there = c.at-table.ensures.value in
+    let tables_are = ap (slice_set w.tables c.client_by-c.result) c.settle.ensures ∙ settled_is w.tables c.client_by-c.result _ there c.apply-applied.new.cluster hand.op c.args.step c.args.ckpt in
+    let closed_is = c.handle_closed-closed.ensures ∙ ap (handle_closed (asked hand.op)) (sym (kept_is w.tables c.client_by-c.result _ there)) in
     let new_is = c.end_alone-2.ensures ∙ ap (ended_at c.args.who c.take_done-end.result) (c.free_gone.ensures.new ∙ ap freed_world c.let_go_with.ensures) in
     record {
       label = _;
       labels = c.push-2.ensures.labels;
       is = subst (λ (label : Label). IsStep c.args.who w c.end_alone-2.new.self label) (sym c.stepped-2.ensures)
-          (event_step w c.args.who c.args.step hand held next c.requires.shown c.end_alone-2.new.self c.apply-applied.new.cluster c.apply-applied.new.nodes c.apply-applied.new.snapshots c.settle.new.tables c.take_done-end.new.self c.let_go-2.new.slot c.client_by-c.result c.handle_closed-closed.result c.word-op.result c.verb-verb.result c.args.ckpt c.event_node-node.result c.take_done-end.result
-          (c.requires.granted hand held) c.requires.plain c.requires.roomy c.requires.has_room eight record_is (c.requires.ckpt hand held) c.event_node-node.ensures (c.take_done-end.ensures.outcome ∙ done_ends w c.args.who c.args.step hand held next c.requires.shown (c.requires.granted hand held) c.apply-applied.new.cluster c.args.ckpt record_is (c.requires.ckpt hand held)) c.settle.ensures
-          (c.take_done-end.ensures.new ∙ done_keeps w c.args.who c.args.step hand held next c.requires.shown (c.requires.granted hand held) c.apply-applied.new.cluster c.args.ckpt c.event_node-node.result record_is (c.requires.ckpt hand held) c.event_node-node.ensures) c.let_go-2.ensures nodes_are snapshots_are c.client_by-c.ensures c.handle_closed-closed.ensures new_is c.word-op.ensures c.verb-verb.ensures);
+          (event_step w c.args.who c.args.step hand held next c.requires.shown c.end_alone-2.new.self c.apply-applied.new.cluster c.apply-applied.new.nodes c.apply-applied.new.snapshots (slice_set w.tables c.client_by-c.result c.settle.new.table) c.take_done-end.new.self c.let_go-2.new.slot c.client_by-c.result c.handle_closed-closed.result c.word-op.result c.verb-verb.result c.args.ckpt c.event_node-node.result c.take_done-end.result
+          (c.requires.granted hand held) c.requires.plain c.requires.roomy c.requires.has_room eight record_is (c.requires.ckpt hand held) c.event_node-node.ensures (c.take_done-end.ensures.outcome ∙ done_ends w c.args.who c.args.step hand held next c.requires.shown (c.requires.granted hand held) c.apply-applied.new.cluster c.args.ckpt record_is (c.requires.ckpt hand held)) tables_are
+          (c.take_done-end.ensures.new ∙ done_keeps w c.args.who c.args.step hand held next c.requires.shown (c.requires.granted hand held) c.apply-applied.new.cluster c.args.ckpt c.event_node-node.result record_is (c.requires.ckpt hand held) c.event_node-node.ensures) c.let_go-2.ensures nodes_are snapshots_are c.client_by-c.ensures closed_is new_is c.word-op.ensures c.verb-verb.ensures);
     }

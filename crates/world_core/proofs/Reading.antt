@@ -1,0 +1,140 @@
+-- The step in which the active reads, as the code takes it.
+use Rattle.std.proofs.Common.{◌≡◌, ℕ, zero, suc, ℤ, Bool, true, false, List, [], ◌∷◌, cond, ◌==◌, refl, sym, ap, subst, ◌∙◌}
+use Rattle.std.specs.Prelude.{Option, Some, None, Result, Ok, Err, IfOk, IfSome, IsSome, slice_get, slice_set}
+use Rattle.ckpt_types.specs.declared.answers.Answer.TheVariants as answers
+use Rattle.ckpt_types.specs.declared.answers.Outcome.{Outcome}
+use Rattle.ckpt_types.specs.declared.identities.Who.{Who}
+use Rattle.ckpt_types.specs.declared.update.ReadElement.{ReadElement}
+use Rattle.ckpt_types.specs.declared.update.Update.TheVariants as updates
+use Rattle.ckpt_types.specs.declared.words.OpWord.{OpWord}
+use Rattle.ckpt_types.specs.Asks.{elements_of}
+use Rattle.ckpt_types.specs.Buffer.{Buffer}
+use Rattle.ckpt_types.specs.OpWord.{word_of_op}
+use Rattle.ckpt_types.specs.Reads.{read}
+use Rattle.ckpt_types.specs.Updates.{Refusal}
+use Rattle.node_msgs.specs.declared.details.Details.{Details}
+use Rattle.node_msgs.specs.declared.details.Details.TheVariants as beside
+use Rattle.node_msgs.specs.declared.next.Next.TheVariants.{Serve}
+use Rattle.node_msgs.specs.declared.replies.Reply.{Reply}
+use Rattle.node_msgs.specs.declared.replies.Reply.TheVariants as replies
+use Rattle.node_msgs.specs.declared.requests.Request.{Request}
+use Rattle.node_msgs.specs.declared.requests.Request.TheVariants as requests
+use Rattle.node_msgs.specs.Steps.{verb_of, word_of}
+use Rattle.run_labels.specs.declared.labels.Label.TheVariants.{Stepped}
+use Rattle.cluster_record.specs.Calls.{left}
+use Rattle.cluster_record.specs.Ends.{served_done}
+use Rattle.cluster_record.specs.Places.{change_key, list_or}
+use Rattle.cluster_record.specs.StepDone.{StepDone}
+use Rattle.replica.specs.Replicas.{Replica}
+use Rattle.node_core.specs.Nodes.{replica_key, replica_served}
+use Rattle.node_core.specs.Payloads.{Payload}
+use Rattle.node_core.specs.Seen.{record_seen}
+use Rattle.node_core.specs.Serving.{details_at, done_or_refused, read_details, reply_at}
+use Rattle.ckpt_machine.specs.Driving.{driver_next}
+use Rattle.ckpt_machine.specs.Machine.{CallState}
+use Rattle.ckpt_machine.specs.Steps.{ended_details}
+use Rattle.snap_copy.specs.Snapshots.{Snapshot}
+use Rattle.world_core.specs.declared.hands.InHand.{InHand}
+use Rattle.world_core.specs.declared.world.World.{World}
+use Rattle.world_core.specs.Alone.{ended_at}
+use Rattle.world_core.specs.HandsState.{hand_at, set_at, client_by}
+use Rattle.world_core.specs.HandSteps.{hand_end, hand_taken}
+use Rattle.world_core.specs.Happenings.{IsNext, IsStep, rooms_at}
+use Rattle.world_core.specs.Nodes.{node_at, nodes_after, replica_in, with_changed}
+use Rattle.world_core.specs.ReadTold.{read_told}
+use Rattle.world_core.specs.Shows.{IsShown, History}
+use Rattle.world_core.proofs.AloneSteps.{IsWaitedFor}
+use Rattle.world_core.proofs.CallSteps.{IsKnown, known}
+use Rattle.world_core.proofs.Held.{driver_is, in_hand_is, next_for, state_in, with_copy}
+use Rattle.world_core.proofs.Serve.{its_copy, its_details, its_end, served_world}
+use Rattle.world_core.proofs.Staging.{copy_kept}
+use Rattle.world_core.proofs.Stepping.{answered_is, its_nodes, its_replica, its_served, its_there}
+use Rattle.world_core.proofs.WaitedFor.{ended_waited, read_waits}
+
+-- ---- nothing changes on the nodes
+
+change_stays : (k : ℕ) (xs : List Replica) → change_key replica_key k (λ x. x) xs ≡ xs
+change_stays k [] = refl
+change_stays k (x ∷ xs) = by_test (x.ckpt == k) (change_stays k xs)
+  where
+    by_test : (b : Bool) → change_key replica_key k (λ x. x) xs ≡ xs → cond b (x ∷ xs) (x ∷ change_key replica_key k (λ x. x) xs) ≡ x ∷ xs
+    by_test true more = refl
+    by_test false more = ap (λ (ys : List Replica). x ∷ ys) more
+
+set_stays : (nodes : List (List Replica)) (r : ℕ) (xs : List Replica) → xs ≡ list_or (slice_get nodes r) → slice_set nodes r xs ≡ nodes
+set_stays [] r xs is = refl
+set_stays (ys ∷ nodes) zero xs is = ap (λ (zs : List Replica). zs ∷ nodes) is
+set_stays (ys ∷ nodes) (suc r) xs is = ap (λ (rest : List (List Replica)). ys ∷ rest) (set_stays nodes r xs is)
+
+nodes_stay : (k r : ℕ) (nodes : List (List Replica)) → with_changed k r (λ x. x) nodes ≡ nodes
+nodes_stay k r nodes = set_stays nodes r (change_key replica_key k (λ x. x) (list_or (slice_get nodes r))) (change_stays k (list_or (slice_get nodes r)))
+
+-- ---- what is told beside it
+
+told_beside : (result : Result (List (List ℕ)) Refusal) (buffer : Buffer) → IfOk result (λ pieces. buffer.pieces ≡ pieces) → read_told (done_or_refused (replies.Done answers.Pieces) result) buffer ≡ read_details result
+told_beside (Ok pieces) buffer is = ap beside.Pieces is
+told_beside (Err why) buffer is = refl
+
+-- ---- the step
+
+module _ (w : World) (v : Who) (r k : ℕ) (hand : InHand) (held : hand_at w.hands v ≡ Some hand) (next : IsNext w v (Serve r (requests.Read k))) (shown : IsShown w) where
+  abbrev asks : Request
+  asks = requests.Read k
+
+  abbrev its : Replica
+  its = its_replica w v r asks hand held next shown tt
+
+  -- the node has the replica
+  pub reads_there : IsSome (replica_in w.nodes k r)
+  reads_there = subst (λ (o : Option Replica). IsSome o) (sym (its_there w v r asks hand held next shown tt)) refl
+
+  -- its client waits for the call
+  waits : IsWaitedFor v
+  waits =
+      let h : History = shown.shows.history in
+      let is : IsKnown w h = known w shown in
+      let s : CallState = state_in h v hand in
+      read_waits s v w.cluster (rooms_at w (client_by v)) r k (ap (driver_next w.cluster (rooms_at w (client_by v))) (sym (driver_is w h v hand held is.fits)) ∙ next_for w v (Serve r asks) hand held next)
+      (is.facts.driven v s (in_hand_is w h v hand held)) (is.facts.callers v s (in_hand_is w h v hand held))
+
+  -- the replica has answered so
+  module _ (elements : List ReadElement) (elements_are : elements ≡ elements_of hand.op) (t : ℤ) (t_is : t ≡ w.cluster.moment) (reply : Reply) (buffer : Buffer) (answer : IfSome (replica_in w.nodes k r) (λ x. reply ≡ done_or_refused (replies.Done answers.Pieces) (read elements t x.sections)))
+      (pieces : IfSome (replica_in w.nodes k r) (λ x. IfOk (read elements t x.sections) (λ pieces. buffer.pieces ≡ pieces))) where
+    abbrev p : Payload
+    p = record { update = updates.Nothing; elements = elements; ids = []; snapshot = None }
+
+    abbrev gives : Result (List (List ℕ)) Refusal
+    gives = read elements w.cluster.moment its.sections
+
+    answer_is : reply ≡ done_or_refused (replies.Done answers.Pieces) gives
+    answer_is =
+        subst (λ (z : Option Replica × ℤ). IfSome z.0 (λ x. reply ≡ done_or_refused (replies.Done answers.Pieces) (read elements z.1 x.sections)))
+        (λ i. (its_there w v r asks hand held next shown tt i, t_is i)) answer
+
+    pieces_are : IfOk gives (λ pieces. buffer.pieces ≡ pieces)
+    pieces_are =
+        subst (λ (z : Option Replica × ℤ). IfSome z.0 (λ x. IfOk (read elements z.1 x.sections) (λ pieces. buffer.pieces ≡ pieces)))
+        (λ i. (its_there w v r asks hand held next shown tt i, t_is i)) pieces
+
+    answered : reply ≡ reply_at asks p (record_seen w.cluster k r) (replica_served (record_seen w.cluster k r) (node_at w.nodes r) k)
+    answered = answer_is ∙ ap (reply_at asks p (record_seen w.cluster k r)) (sym (its_served w v r asks hand held next shown tt))
+
+    told : read_told reply buffer ≡ its_details w v r asks hand p reply
+    told = ap (λ (a : Reply). read_told a buffer) answer_is ∙ told_beside gives buffer pieces_are ∙ ap (details_at asks p (record_seen w.cluster k r)) (sym (its_served w v r asks hand held next shown tt))
+
+    nodes_are : w.nodes ≡ nodes_after w.cluster w.nodes r asks p reply
+    nodes_are = sym (nodes_stay k r w.nodes) ∙ its_nodes w v r asks hand held next shown tt p reply
+
+    pub read_is : (taken : InHand) (place : Option InHand) (end : Option Outcome) (word : OpWord) (details : Details) → taken ≡ hand_taken (served_done w.cluster asks r reply) hand → end ≡ hand_end (served_done w.cluster asks r reply) reply taken → place ≡ left end taken → word ≡ word_of_op hand.op →
+        details ≡ ended_details end (read_told reply buffer) → IsStep v w (record w { hands = set_at w.hands v place }) (Stepped hand.call word (verb_of asks) (Some k) (Some r) (word_of reply) end details)
+    read_is taken place end word details taken_is end_is place_is word_is details_are =
+        let done : StepDone = served_done w.cluster asks r reply in
+        let ends : end ≡ its_end w v r asks hand p reply = end_is ∙ ap (hand_end done reply) taken_is in
+        let copy : its_copy w v r asks hand p reply ≡ hand.snapshot = copy_kept asks (λ x s. refl) (replica_served (record_seen w.cluster k r) (node_at w.nodes r) k) hand.snapshot in
+        let left_is : place ≡ left (its_end w v r asks hand p reply) (hand_taken done (with_copy hand (its_copy w v r asks hand p reply)))
+        = place_is ∙ (λ i. left (ends i) (taken_is i)) ∙ ap (λ (s : Option Snapshot). left (its_end w v r asks hand p reply) (hand_taken done (with_copy hand s))) (sym copy) in
+        let new_is : record w { hands = set_at w.hands v place } ≡ served_world w v r asks hand p reply
+        = sym (ended_waited v end (record w { hands = set_at w.hands v place }) waits) ∙ (λ i. ended_at v (ends i) (record w { nodes = nodes_are i; hands = set_at w.hands v (left_is i) })) in
+        let told_is : details ≡ ended_details (its_end w v r asks hand p reply) (its_details w v r asks hand p reply) = details_are ∙ (λ i. ended_details (ends i) (told i)) in
+        subst (λ (z : World × OpWord × Option Outcome × Details). IsStep v w z.0 (Stepped hand.call z.1 (verb_of asks) (Some k) (Some r) (word_of reply) z.2 z.3)) (λ i. (sym new_is i, sym word_is i, sym ends i, sym told_is i))
+        (answered_is w v r asks hand held next shown tt p reply elements_are answered tt)

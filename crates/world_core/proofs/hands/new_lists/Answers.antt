@@ -1,0 +1,13 @@
+use Rattle.std.proofs.Common.{◌≡◌, ◌++◌, ◌∷◌, [], arith, ap, ◌∙◌}
+use Rattle.std.specs.Prelude.{List, Option, replicate}
+use Rattle.std.proofs.lemmas.List.{replicate-append-replicate}
+use Rattle.world_core.specs.declared.hands.InHand.{InHand}
+use Rattle.world_core.proofs.hands.new_lists.Goals as goal
+
+pub loop-n-preserved : goal.loop-n-preserved
+loop-n-preserved c = c.push_reserved.ensures.items ∙ (λ i. c.loop-n.invariant i ++ c.new.ensures i ∷ []) ∙ replicate-append-replicate {A = List (Option InHand)} c.loop-n._n 1 []
+
+pub returns : goal.returns
+returns c =
+    let all : c.loop-n._n ≡ 100 = omega arith in
+    c.loop-n.invariant ∙ ap (λ n. replicate {A = List (Option InHand)} n []) all
