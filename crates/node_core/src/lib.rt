@@ -20,4 +20,5 @@ mod weak_writes;
 pub use lending::bytes_asked;
 pub use lent::Lent;
 pub use node::Node;
+pub use snapshots::pull_whole;
 pub use updates::reply_refused;

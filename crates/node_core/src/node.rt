@@ -1,13 +1,10 @@
 //! A node, and the requests that it serves.
-ghost use Rattle.std.specs.Prelude.{◌≡◌, ◌^◌, ◌<◌, [], length, IfOk, IfSome, IsSome, IsSomeAnd, MatchOption, None, Some, OnErr, OnOk, true};
-ghost use Rattle.stage_slot.specs.Slots.{owner_of, IsOwnedBy};
-ghost use Rattle.weak_marks.specs.Marks.{call_of};
-ghost use Rattle.replica.specs.Replicas.{answer_unless, committed, install_answer, installed, outcome_on, pull_result, pulled_unless, staged};
-ghost use Rattle.cluster_record.specs.Places.{find_key, change_key};
+ghost use Rattle.std.specs.Prelude.{◌≡◌, ◌^◌, ◌<◌, [], length, IfOk, IfSome, IsSome, MatchOption, None, Some, OnErr, OnOk, true};
+ghost use Rattle.cluster_record.specs.Places.{find_key};
 ghost use Rattle.node_core.specs.Behind.{remains_at};
-ghost use Rattle.node_core.specs.Changing.{added_for, changed_node, lent_behind, seen_for_change, taken_over, ChangeFits, IsAddition};
+ghost use Rattle.node_core.specs.Changing.{added_for, changed_node, lent_behind, seen_for_change, ChangeFits, IsAddition};
 ghost use Rattle.node_core.specs.Details.{details_told};
-ghost use Rattle.node_core.specs.Fitting.{MayBeMade, RequestFits, TakesSnapshot, TakesUpdate};
+ghost use Rattle.node_core.specs.Fitting.{MayBeMade, RequestFits};
 ghost use Rattle.node_core.specs.Nodes.{NodeState, replica_key, seen_from, seen_for, served_for, MayReply, node_after, freed_node};
 ghost use Rattle.node_core.specs.Lending.{HasRoomToRead};
 ghost use Rattle.node_core.specs.Payloads.{payload_of};
@@ -25,12 +22,11 @@ use crate::lent::Lent;
 use crate::reads::read_in;
 use crate::replicas::{find_at, keep_others, keep_there, place_there};
 use crate::reserving::{add_in, reserve_in};
-use crate::serving::{commit_in, install_in, lend_in, serve_in, stage_in, take_in};
-use ckpt_types::{CallId, CkptId, Held, Moment, NodeId, ReadBuf, ReadElement, SharedUpdate};
+use crate::serving::serve_in;
+use ckpt_types::{CkptId, Moment, NodeId, ReadBuf, ReadElement};
 use cluster_record::Record;
 use node_msgs::{NodeChange, Reply, Request};
-use replica::{Older, Replica, StageRefused};
-use snap_copy::Snap;
+use replica::Replica;
 use std::alloc::{AllocError, Global};
 use std::marker::Model;
 
@@ -104,22 +100,6 @@ impl Node {
         )
     }
 
-    /// The replica of a checkpoint stages an update of a call, as it does where `serve` asks for it.
-    #[inline(always)]
-    pub fn stage(
-        &mut self,
-        call: CallId,
-        ckpt: CkptId,
-        moment: Moment,
-        update: SharedUpdate,
-    ) -> Result<(), StageRefused>
-        requires there { IsSomeAnd (find_key replica_key ckpt self.old.replicas) TakesUpdate }
-        ensures answer { IfSome (find_key replica_key ckpt self.old.replicas) (λ x. result ≡ answer_unless (owner_of x.slot) (outcome_on x update moment)) }
-        ensures new { self.new ≡ record self.old { replicas = change_key replica_key ckpt (staged call update moment) self.old.replicas } }
-    {
-        stage_in(self.replicas.as_mut_slice(), call, ckpt, moment, update)
-    }
-
     /// The replica of a checkpoint reads what the elements say, as it does where `serve` asks for it: its pieces come into the
     /// empty buffer. It takes no memory, and looks at no record. It requires that the node has the replica.
     #[inline(always)]
@@ -137,56 +117,6 @@ impl Node {
         ensures pieces { IfSome (find_key replica_key ckpt self.now.replicas) (λ x. IfOk (read elements.now now x.sections) (λ pieces. out.new.pieces ≡ pieces)) }
     {
         read_in(self.replicas.as_slice(), ckpt, elements, now, out)
-    }
-
-    /// The replica of a checkpoint commits what a call has staged there, as it does where `serve` asks for it, and no
-    /// identifier is told.
-    #[inline(always)]
-    pub fn commit(&mut self, call: CallId, ckpt: CkptId)
-        requires own { IsSomeAnd (find_key replica_key ckpt self.old.replicas) (λ x. IsOwnedBy call x.slot) }
-        ensures { self.new ≡ record self.old { replicas = change_key replica_key ckpt (λ x. committed x x.slot) self.old.replicas } }
-    {
-        commit_in(self.replicas.as_mut_slice(), call, ckpt);
-    }
-
-    /// The replica of a checkpoint has what a snapshot has from then on, where it is older. Any other stays as it was,
-    /// and the answer tells its generation and its count. It takes no memory.
-    pub fn install(&mut self, ckpt: CkptId, snap: &Snap) -> Result<(), Older>
-        requires there { IsSomeAnd (find_key replica_key ckpt self.old.replicas) (TakesSnapshot snap.now) }
-        ensures answer { IfSome (find_key replica_key ckpt self.old.replicas) (λ x. result ≡ install_answer x snap.now) }
-        ensures new { self.new ≡ record self.old { replicas = change_key replica_key ckpt (installed snap.now) self.old.replicas } }
-    {
-        install_in(self.replicas.as_mut_slice(), ckpt, snap)
-    }
-
-    /// The snapshot has what the replica of a checkpoint has from then on. Where the marks of a weak write stand, it
-    /// stays as it was, and the answer is their call. It takes no memory, and looks at no record. It requires that the
-    /// node has the replica, and that the snapshot declares what the replica does, so that it has room for it.
-    pub fn lend(&self, ckpt: CkptId, snap: &mut Snap) -> Result<(), Held>
-        requires there { IsSomeAnd (find_key replica_key ckpt self.now.replicas) (λ x. snap.old.attributes ≡ x.attributes) }
-        ensures answer { IfSome (find_key replica_key ckpt self.now.replicas) (λ x. result ≡ pull_result (call_of x.marks)) }
-        ensures snap { IfSome (find_key replica_key ckpt self.now.replicas) (λ x. snap.new ≡ pulled_unless (call_of x.marks) x snap.old) }
-    {
-        lend_in(self.replicas.as_slice(), ckpt, snap)
-    }
-
-    /// The replica of a checkpoint has the sections and the count of a snapshot from then on, with this generation,
-    /// whichever of the two is older. It takes no memory, and looks at no record. It requires that the node has the
-    /// replica, that nothing is staged on it and no marks stand, and that the snapshot's sections keep to what it
-    /// declares.
-    pub fn take_over(&mut self, ckpt: CkptId, snap: &Snap, generation: u64)
-        requires there { IsSomeAnd (find_key replica_key ckpt self.old.replicas) (TakesSnapshot snap.now) }
-        ensures { self.new ≡ record self.old { replicas = change_key replica_key ckpt (taken_over generation snap.now) self.old.replicas } }
-    {
-        take_in(self.replicas.as_mut_slice(), ckpt, snap, generation);
-    }
-
-    /// The replica of a checkpoint has this generation from then on, as where `change` asks for it. Where the node has
-    /// no replica of it, nothing changes. It looks at no record.
-    pub fn lead(&mut self, ckpt: CkptId, generation: u64)
-        ensures { self.new ≡ record self.old { replicas = change_key replica_key ckpt (λ x. record x { generation = generation }) self.old.replicas } }
-    {
-        lead_at(self.replicas.as_mut_slice(), ckpt, generation);
     }
 
     /// The replica of a checkpoint, which the node has.

@@ -2,13 +2,11 @@
 ghost use Rattle.std.specs.Prelude.{◌≡◌, ◌<◌, None, Some, IfSome, IsSomeAnd, length, if◌then◌else◌};
 ghost use Rattle.cluster_record.specs.Places.{find_key, change_key, place_key};
 ghost use Rattle.node_msgs.specs.Requests.{ckpt_of};
-ghost use Rattle.stage_slot.specs.Slots.{owner_of, IsOwnedBy};
-ghost use Rattle.weak_marks.specs.Marks.{call_of};
-ghost use Rattle.replica.specs.Replicas.{answer_unless, committed, install_answer, installed, outcome_on, pull_result, pulled_unless, staged};
+ghost use Rattle.stage_slot.specs.Slots.{owner_of};
+ghost use Rattle.replica.specs.Replicas.{answer_unless, outcome_on, staged};
 ghost use Rattle.node_core.specs.Behind.{remains_at, remains_of};
-ghost use Rattle.node_core.specs.Changing.{taken_over};
 ghost use Rattle.node_core.specs.Details.{details_told};
-ghost use Rattle.node_core.specs.Fitting.{CanServe, ReplicaFits, TakesSnapshot, TakesUpdate};
+ghost use Rattle.node_core.specs.Fitting.{CanServe, ReplicaFits, TakesUpdate};
 ghost use Rattle.node_core.specs.Nodes.{replica_key, where_seen};
 ghost use Rattle.node_core.specs.Payloads.{payload_of};
 ghost use Rattle.node_core.specs.Seen.{record_seen, is_complete};
@@ -16,16 +14,15 @@ ghost use Rattle.node_core.specs.Serving.{reply_of, reply_at, replica_after, det
 
 use crate::lent::Lent;
 use crate::reads::{next_lent, read_lent, start_lent, status_lent};
-use crate::replicas::{find_at, place_of};
+use crate::replicas::place_of;
 use crate::seen::is_complete;
-use crate::snapshots::{install_lent, pull_lent, pull_whole};
+use crate::snapshots::{install_lent, pull_lent};
 use crate::updates::{apply_lent, claim, commit_lent, stage_lent, withdraw};
 use crate::weak_writes::{element, mark_lent, unmark};
-use ckpt_types::{CallId, CkptId, Held, Moment, NodeId, SharedUpdate};
+use ckpt_types::{CallId, CkptId, Moment, NodeId, SharedUpdate};
 use cluster_record::Record;
 use node_msgs::{Reply, Request};
-use replica::{Older, Replica, StageRefused};
-use snap_copy::Snap;
+use replica::{Replica, StageRefused};
 
 // Where the replica stands with which the node serves a checkpoint.
 #[inline(always)]
@@ -80,56 +77,6 @@ pub(crate) fn stage_in(
     };
     let replica = &mut replicas[i];
     replica.stage(call, update, moment)
-}
-
-/// The replica of a checkpoint commits what a call has staged there.
-#[inline(always)]
-pub(crate) fn commit_in(replicas: &mut [Replica], call: CallId, ckpt: CkptId)
-    requires own { IsSomeAnd (find_key replica_key ckpt replicas.old) (λ x. IsOwnedBy call x.slot) }
-    ensures { replicas.new ≡ change_key replica_key ckpt (λ x. committed x x.slot) replicas.old }
-{
-    let Some(i) = place_of(replicas, ckpt) else {
-        unreachable!()
-    };
-    let replica = &mut replicas[i];
-    replica.commit(call);
-}
-
-/// The replica of a checkpoint takes over a snapshot, where it is older.
-pub(crate) fn install_in(replicas: &mut [Replica], ckpt: CkptId, snap: &Snap) -> Result<(), Older>
-    requires there { IsSomeAnd (find_key replica_key ckpt replicas.old) (TakesSnapshot snap.now) }
-    ensures answer { IfSome (find_key replica_key ckpt replicas.old) (λ x. result ≡ install_answer x snap.now) }
-    ensures new { replicas.new ≡ change_key replica_key ckpt (installed snap.now) replicas.old }
-{
-    let Some(i) = place_of(replicas, ckpt) else {
-        unreachable!()
-    };
-    let replica = &mut replicas[i];
-    replica.install(snap)
-}
-
-/// A snapshot has what the replica of a checkpoint has, unless the marks of a weak write hold that off.
-pub(crate) fn lend_in(replicas: &[Replica], ckpt: CkptId, snap: &mut Snap) -> Result<(), Held>
-    requires there { IsSomeAnd (find_key replica_key ckpt replicas.now) (λ x. snap.old.attributes ≡ x.attributes) }
-    ensures answer { IfSome (find_key replica_key ckpt replicas.now) (λ x. result ≡ pull_result (call_of x.marks)) }
-    ensures snap { IfSome (find_key replica_key ckpt replicas.now) (λ x. snap.new ≡ pulled_unless (call_of x.marks) x snap.old) }
-{
-    let Some(replica) = find_at(replicas, ckpt) else {
-        unreachable!()
-    };
-    pull_whole(replica, snap)
-}
-
-/// The replica of a checkpoint takes over a snapshot, with this generation.
-pub(crate) fn take_in(replicas: &mut [Replica], ckpt: CkptId, snap: &Snap, generation: u64)
-    requires there { IsSomeAnd (find_key replica_key ckpt replicas.old) (TakesSnapshot snap.now) }
-    ensures { replicas.new ≡ change_key replica_key ckpt (taken_over generation snap.now) replicas.old }
-{
-    let Some(i) = place_of(replicas, ckpt) else {
-        unreachable!()
-    };
-    let replica = &mut replicas[i];
-    replica.complete_from(snap, generation);
 }
 
 // The answer of a replica for which its node is complete.

@@ -41,7 +41,7 @@ fn pull(replica: &Replica, snap: &mut Snap) -> Reply
 }
 
 /// A snapshot with room for all that the replica declares has what that has; or the marks that stand hold the pull off.
-pub(crate) fn pull_whole(replica: &Replica, snap: &mut Snap) -> Result<(), Held>
+pub fn pull_whole(replica: &Replica, snap: &mut Snap) -> Result<(), Held>
     requires { snap.old.attributes ≡ replica.now.attributes }
     ensures answer { result ≡ pull_result (call_of replica.now.marks) }
     ensures snap { snap.new ≡ pulled_unless (call_of replica.now.marks) replica.now snap.old }

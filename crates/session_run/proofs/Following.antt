@@ -20,7 +20,7 @@ use Rattle.run_labels.specs.declared.words.Said.{Said}
 use Rattle.run_labels.specs.declared.words.Said.TheVariants.{Down, Idle}
 use Rattle.run_labels.specs.declared.words.LineWord.TheVariants as linewords
 use Rattle.script_lines.specs.declared.lines.Line.{Line}
-use Rattle.world_core.specs.declared.hands.InHand.{InHand}
+use Rattle.client_calls.specs.declared.in_hand.InHand.{InHand}
 use Rattle.world_core.specs.declared.world.World.{World}
 use Rattle.cluster_record.specs.Calls.{number_of}
 use Rattle.cluster_record.specs.RecordState.{is_up}
@@ -29,7 +29,8 @@ use Rattle.ckpt_machine.specs.Runs.{last, last_from, IsRun}
 use Rattle.ckpt_machine.specs.Steps.{after, asked_handle, call_begun, goes_on, kept_at_beginning}
 use Rattle.ckpt_machine.specs.Whose.{put_who}
 use Rattle.ckpt_machine.proofs.Runs.{last-push, last_from-append, run_before}
-use Rattle.world_core.specs.Runs.{GoesOn, IsLeft, IsThereIf, IsRunTo, SaysTrue, Answers, AnswersBegin, AnswersStep, IsIdleWord, IsShownOf, Happens, step_word}
+use Rattle.world_core.specs.Runs.{GoesOn, IsLeft, IsThereIf, IsRunTo, SaysTrue, Answers, AnswersBegin, AnswersStep, IsIdleWord, IsShownOf, Happens}
+use Rattle.client_calls.specs.LineWords.{step_word}
 use Rattle.world_core.specs.declared.world.Event.TheVariants as happenings
 use Rattle.world_core.proofs.Held.{state_in, in_hand_is}
 use Rattle.world_core.proofs.Words.{none_in_hand}

@@ -23,7 +23,7 @@ use Rattle.ckpt_types.specs.OpWord.{word_of_op, is_async}
 use Rattle.script_lines.specs.declared.lines.Line.{Line}
 use Rattle.script_lines.specs.declared.lines.Line.TheVariants as lines
 use Rattle.script_lang.specs.Grammar.{moment_behind}
-use Rattle.world_core.specs.declared.hands.InHand.{InHand}
+use Rattle.client_calls.specs.declared.in_hand.InHand.{InHand}
 use Rattle.ckpt_machine.specs.Machine.{Machine, CallState}
 use Rattle.ckpt_machine.specs.Runs.{last, last_from}
 use Rattle.session_run.specs.Follows.{AnswersLine, AreSteps, AreStepsBehind, IsWholeCall, StepsToEnd, StepsUpTo, stepped_call, FollowsFrom, Follows, FollowsFront}
@@ -32,7 +32,8 @@ use Rattle.session_run.proofs.Following.{idle_alone, none_stepped}
 use Rattle.world_core.specs.HandsState.{hand_at}
 use Rattle.world_core.specs.declared.world.World.{World}
 use Rattle.world_core.specs.declared.world.Event.TheVariants as happenings
-use Rattle.world_core.specs.Runs.{IsRunTo, Happens, step_word}
+use Rattle.world_core.specs.Runs.{IsRunTo, Happens}
+use Rattle.client_calls.specs.LineWords.{step_word}
 use Rattle.session_run.specs.Playable.{IsPlayableLine, ArePlayable}
 
 -- ---- labels that could come

@@ -4,7 +4,7 @@ use Rattle.ckpt_types.specs.Limits.{nodes_max}
 use Rattle.script_lines.specs.declared.lines.Line.{Line}
 use Rattle.script_lines.specs.declared.lines.Line.TheVariants as lines
 use Rattle.run_labels.specs.declared.labels.Label.{Label}
-use Rattle.world_core.specs.declared.hands.InHand.{InHand}
+use Rattle.client_calls.specs.declared.in_hand.InHand.{InHand}
 use Rattle.session_run.specs.Follows.{StepsToEnd, StepsUpTo}
 use Rattle.session_run.specs.Playable.{IsPlayableLine, ArePlayable, IsPlayable}
 use Rattle.session_run.specs.Puts.{ArePuts}

@@ -1,6 +1,6 @@
 -- The calls in hand, by name, behind each change of them.
-use Rattle.std.proofs.Common.{◌≡◌, ℕ, zero, suc, ◌+◌, ◌<◌, Bool, true, false, List, [], ◌∷◌, ◌++◌, length, refl, sym, ap, subst, ◌∙◌, cond, arith}
-use Rattle.std.specs.Prelude.{Option, Some, None, IfSome, not, filter, take, ◌&&◌, ◌==◌, slice_get}
+use Rattle.std.proofs.Common.{◌≡◌, ℕ, zero, suc, ◌<◌, Bool, true, false, List, [], ◌∷◌, ◌++◌, length, refl, sym, ap, subst, ◌∙◌, cond, arith}
+use Rattle.std.specs.Prelude.{Option, Some, None, IfSome, not, filter, ◌&&◌, ◌==◌, slice_get}
 use Rattle.ckpt_types.specs.declared.answers.Outcome.{Outcome}
 use Rattle.ckpt_types.specs.declared.identities.ActorName.{ActorName}
 use Rattle.ckpt_types.specs.declared.identities.ActorName.TheVariants.{Client, Node}
@@ -14,11 +14,12 @@ use Rattle.call_dispatch.specs.PendingCalls.{PendingCalls, find_async, no_pendin
 use Rattle.ckpt_machine.specs.Steps.{goes_with, is_over}
 use Rattle.ckpt_machine.specs.Whose.{is_of, put_who}
 use Rattle.ckpt_machine.proofs.Actors.{same_actor-true, same_call-refl, same_call-true}
-use Rattle.world_core.specs.declared.hands.InHand.{InHand}
+use Rattle.client_calls.specs.declared.in_hand.InHand.{InHand}
 use Rattle.world_core.specs.declared.world.World.{World}
 use Rattle.world_core.specs.Alone.{calls_gone, ended_at, syncs_gone}
-use Rattle.world_core.specs.TableState.{pending_by}
-use Rattle.world_core.specs.HandsState.{HandsState, HasAlone, IsPlaceOf, alone_in, changed_alone, found_alone, hand_at, has_call, has_other, left_at, set_at, with_alone, with_alone_in, without_all, without_call, without_met, without_those}
+use Rattle.world_core.specs.TablesState.{pending_by}
+use Rattle.world_core.specs.HandsState.{HandsState, HasAlone, alone_in, hand_at, left_at, set_at, with_alone, with_alone_in, without_all, without_call, without_those}
+use Rattle.client_calls.specs.AlonePlaces.{changed_alone, found_alone, has_other, without_met}
 use Rattle.world_core.proofs.AloneLists.{LacksAlone, alone_at, alone_same, alone_twice, lacks_none}
 
 -- ---- two calls
@@ -238,46 +239,6 @@ pub without_all-at : (c : ℕ) (hands : HandsState) (u : Who) → hand_at (witho
 without_all-at c hands (Actor (Client d)) = refl
 without_all-at c hands (Actor (Node r)) = refl
 without_all-at c hands (Call other) = found_in (Client c) (λ xs. []) hands (λ lacks. refl) (λ other. same_actor other.actor (Client c)) None (λ other own. ap (λ b. cond b None (found_alone other (alone_in hands.alone (Client c)))) (sym own)) (λ other apart. apart) other
-
--- ---- the place of an asynchronous call
-
--- none of these has the call
-abbrev pub NoneHas : CallId → List (Option InHand) → Type 0
-NoneHas call [] = Unit {0}
-NoneHas call (y ∷ xs) = (has_call call y ≡ false) × NoneHas call xs
-
-none_more_suc : (call : CallId) (xs : List (Option InHand)) (i : ℕ) (x : Option InHand) → NoneHas call (take i xs) → slice_get xs i ≡ Some x → has_call call x ≡ false → NoneHas call (take (suc i) xs)
-none_more_suc call [] i x before there other = absurd (cc there)
-none_more_suc call (y ∷ xs) zero x before there other = let same : y ≡ x = cc there in (subst (λ z. has_call call z ≡ false) (sym same) other, tt)
-none_more_suc call (y ∷ xs) (suc i) x before there other = (before.0, none_more_suc call xs i x before.1 there other)
-
--- one more of those that were passed
-pub none_more : (call : CallId) (xs : List (Option InHand)) (i : ℕ) (x : Option InHand) → NoneHas call (take i xs) → slice_get xs i ≡ Some x → has_call call x ≡ false → NoneHas call (take (i + 1) xs)
-none_more call xs i x before there other = let next : suc i ≡ i + 1 = omega arith in subst (λ n. NoneHas call (take n xs)) next (none_more_suc call xs i x before there other)
-
--- a place that has the call, where none before it has it
-pub place_here : (call : CallId) (xs : List (Option InHand)) (i : ℕ) (x : Option InHand) → NoneHas call (take i xs) → slice_get xs i ≡ Some x → has_call call x ≡ true → IsPlaceOf call xs i
-place_here call [] i x before there here = absurd (cc there)
-place_here call (y ∷ xs) zero x before there here =
-    let same : y ≡ x = cc there in
-    let is : has_call call y ≡ true = subst (λ z. has_call call z ≡ true) (sym same) here in
-    record {
-      within = let it : 0 < suc (length xs) = omega arith in it;
-      there = ap (λ b. Some (cond b y (found_alone call xs))) (sym is);
-      set = λ o. ap (λ b. cond b (o ∷ xs) (y ∷ changed_alone call o xs)) is;
-    }
-place_here call (y ∷ xs) (suc i) x before there here =
-    let more = place_here call xs i x before.1 there here in
-    record {
-      within = let inside = more.within in omega (arith, inside);
-      there = more.there ∙ ap (λ b. Some (cond b y (found_alone call xs))) (sym before.0);
-      set = λ o. ap (λ b. cond b (o ∷ xs) (y ∷ changed_alone call o xs)) before.0 ∙ ap (λ zs. y ∷ zs) (more.set o);
-    }
-
--- a call that no place has is not found
-pub none_found : (call : CallId) (xs : List (Option InHand)) → NoneHas call xs → found_alone call xs ≡ None
-none_found call [] none = refl
-none_found call (y ∷ xs) none = ap (λ b. cond b y (found_alone call xs)) none.0 ∙ none_found call xs none.1
 
 -- no call that is stepped by its actor's name goes with a handle
 pub goes_with-actor : (handle : Option ℕ) (a : ActorName) (p : PendingCalls) (b : ActorName) → goes_with handle a p (Actor b) ≡ false

@@ -7,7 +7,7 @@ use Rattle.ckpt_types.specs.declared.identities.ActorName.TheVariants.{Client, N
 use Rattle.cluster_record.specs.Calls.{same_actor}
 use Rattle.cluster_record.specs.Places.{list_or}
 use Rattle.cluster_record.proofs.Places.{get_set, there_is}
-use Rattle.world_core.specs.declared.hands.InHand.{InHand}
+use Rattle.client_calls.specs.declared.in_hand.InHand.{InHand}
 use Rattle.world_core.specs.HandsState.{HandsState, HasAlone, alone_in, alone_with}
 
 -- ---- lists in a list
@@ -17,10 +17,10 @@ set_none [] i x none = refl
 set_none (y ∷ xs) zero x none = absurd (cc none)
 set_none (y ∷ xs) (suc i) x none = ap (λ zs. y ∷ zs) (set_none xs i x none)
 
-pub set_again : {X : Type 0} (lists : List (List X)) (c : ℕ) → slice_set lists c (list_or (slice_get lists c)) ≡ lists
-set_again [] c = refl
-set_again (xs ∷ lists) zero = refl
-set_again (xs ∷ lists) (suc c) = ap (λ zs. xs ∷ zs) (set_again lists c)
+pub list_again : {X : Type 0} (lists : List (List X)) (c : ℕ) → slice_set lists c (list_or (slice_get lists c)) ≡ lists
+list_again [] c = refl
+list_again (xs ∷ lists) zero = refl
+list_again (xs ∷ lists) (suc c) = ap (λ zs. xs ∷ zs) (list_again lists c)
 
 set_twice : {X : Type 0} (lists : List (List X)) (c : ℕ) (f g : List X → List X) → f (g (list_or (slice_get lists c))) ≡ f (list_or (slice_get lists c)) →
     slice_set (slice_set lists c (g (list_or (slice_get lists c)))) c (f (list_or (slice_get (slice_set lists c (g (list_or (slice_get lists c)))) c))) ≡ slice_set lists c (f (list_or (slice_get lists c)))
@@ -75,7 +75,7 @@ alone_at (Node q) (Node r) change lists none = taken (r == q) (change []) [] (λ
 
 -- what is changed to what it was is as it was
 pub alone_same : (a : ActorName) (change : List (Option InHand) → List (Option InHand)) (lists : List (List (Option InHand))) → change (alone_in lists a) ≡ alone_in lists a → alone_with a change lists ≡ lists
-alone_same (Client c) change lists same = ap (slice_set lists c) same ∙ set_again lists c
+alone_same (Client c) change lists same = ap (slice_set lists c) same ∙ list_again lists c
 alone_same (Node r) change lists same = refl
 
 -- a change that is lost behind another need not be

@@ -1,5 +1,5 @@
 -- What becomes of asynchronous calls where a handle is closed or a client leaves: the world that the code makes is the one of the machine.
-use Rattle.std.proofs.Common.{◌≡◌, ℕ, Bool, true, false, List, [], ◌∷◌, Option, Some, None, refl, sym, ap, subst, ◌∙◌, cond, not}
+use Rattle.std.proofs.Common.{◌≡◌, ℕ, Bool, true, false, List, [], ◌∷◌, Option, Some, None, refl, sym, ap, subst, ◌∙◌, cond}
 use Rattle.ckpt_types.specs.declared.answers.Outcome.{Outcome}
 use Rattle.ckpt_types.specs.declared.answers.Outcome.TheVariants.{Done}
 use Rattle.ckpt_types.specs.declared.identities.ActorName.TheVariants.{Client, Node}
@@ -11,12 +11,13 @@ use Rattle.call_dispatch.specs.PendingCalls.{PendingCalls, no_pending}
 use Rattle.cluster_record.specs.RecordState.{RecordState}
 use Rattle.ckpt_machine.specs.Steps.{goes_with, left_over, without_calls, without_syncs}
 use Rattle.ckpt_machine.specs.Whose.{is_of}
-use Rattle.world_core.specs.declared.hands.InHand.{InHand}
+use Rattle.client_calls.specs.declared.in_hand.InHand.{InHand}
 use Rattle.world_core.specs.declared.world.World.{World}
 use Rattle.world_core.specs.Alone.{syncs_gone, calls_gone, hands_behind, tables_behind, gone_with, hands_looked, tables_looked, gone_with_look}
-use Rattle.world_core.specs.HandsState.{HandsState, alone_in, hand_at, set_at, without_met, without_those}
+use Rattle.world_core.specs.HandsState.{HandsState, alone_in, hand_at, set_at, without_those}
+use Rattle.client_calls.specs.AlonePlaces.{without_met}
 use Rattle.world_core.specs.Shows.{History, HistoryFits, FitsHand, hand_of, machine_of, shown_hand}
-use Rattle.world_core.specs.TableState.{pending_by}
+use Rattle.world_core.specs.TablesState.{pending_by}
 use Rattle.world_core.specs.LiveRooms.{LiveHaveRoom}
 use Rattle.world_core.proofs.AloneLaws.{calls_gone-at, syncs_gone-at}
 use Rattle.world_core.proofs.AloneLists.{alone_same}

@@ -31,8 +31,8 @@ use Rattle.world_core.specs.declared.world.World.{World}
 use Rattle.world_core.specs.Answering.{IsAnsweredAtOnce}
 use Rattle.world_core.specs.LiveRooms.{room_is_taken}
 use Rattle.world_core.specs.Shows.{IsShown, machine_of}
-use Rattle.world_core.specs.Standings.{standing_in}
-use Rattle.world_core.specs.TableState.{TableState, pending_in, pending_by, CanBegin}
+use Rattle.world_core.specs.TablesState.{standing_in, pending_by}
+use Rattle.client_calls.specs.TableState.{TableState, pending_in, CanBegin}
 use Rattle.world_core.proofs.Begin.{IsNextBegun, is_begun}
 use Rattle.world_core.proofs.NewCalls.{new_pending}
 

@@ -31,17 +31,17 @@ use Rattle.ckpt_machine.specs.Tables.{handle_asked, ended_at_once}
 use Rattle.ckpt_machine.specs.Whose.{same_who, put_who}
 use Rattle.ckpt_machine.proofs.Starting.{driven_begun, none_begun}
 use Rattle.ckpt_machine.proofs.Whose.{same_who-refl, same_who-false, same_who-true}
-use Rattle.world_core.specs.declared.hands.InHand.{InHand}
+use Rattle.client_calls.specs.declared.in_hand.InHand.{InHand}
 use Rattle.world_core.specs.declared.world.World.{World}
 use Rattle.world_core.specs.Answering.{IsAnsweredAtOnce}
-use Rattle.world_core.specs.Begun.{IsHandBegun}
-use Rattle.world_core.specs.HandRooms.{room_for, copy_room, copy_room_for}
+use Rattle.client_calls.specs.HandBegun.{IsHandBegun}
+use Rattle.client_calls.specs.HandRooms.{room_for, copy_room, copy_room_for}
 use Rattle.world_core.specs.HandsState.{HandsState, hand_at}
 use Rattle.world_core.specs.Happenings.{Begins, KeepsOther}
 use Rattle.world_core.specs.Runs.{GoesOn, IsThereIf}
 use Rattle.world_core.specs.Shows.{Beginning, Does, HistoryFits, FitsHand, History, IsShown, machine_of, next_of, tables_of, pending_of, hand_of, shown_hand, IsRoomToCopy}
-use Rattle.world_core.specs.Standings.{standing_in}
-use Rattle.world_core.specs.TableState.{TableState, next_in, kept_in, kept_by, pending_in, pending_by, begun_with, table_changed, at_client}
+use Rattle.world_core.specs.TablesState.{standing_in, kept_by, pending_by, table_changed, at_client}
+use Rattle.client_calls.specs.TableState.{TableState, next_in, kept_in, pending_in, begun_with}
 use Rattle.world_core.proofs.LiveRooms.{rooms_set}
 use Rattle.world_core.proofs.NewCalls.{new_idle}
 use Rattle.world_core.proofs.TableFields.{field_put}

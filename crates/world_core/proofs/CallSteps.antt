@@ -23,7 +23,7 @@ use Rattle.ckpt_machine.specs.Facts.{Facts}
 use Rattle.ckpt_machine.specs.Machine.{Machine, CallState, Effect}
 use Rattle.snap_copy.specs.Snapshots as copies
 use Rattle.ckpt_machine.specs.Steps.{IsDue, IsDone, after, changed, counted_at, created_by, pulled_by, step_of, stepped}
-use Rattle.world_core.specs.declared.hands.InHand.{InHand}
+use Rattle.client_calls.specs.declared.in_hand.InHand.{InHand}
 use Rattle.world_core.specs.declared.world.World.{World}
 use Rattle.world_core.specs.Happenings.{rooms_at, IsStep, KeepsOther}
 use Rattle.world_core.specs.Backgrounds.{HaveRooms}
@@ -32,7 +32,8 @@ use Rattle.world_core.specs.RecordReady.{IsPlain}
 use Rattle.world_core.specs.Shows.{Does, Shows, IsShown, HistoryFits, History, machine_of}
 use Rattle.world_core.proofs.Freeing.{DoesBefore}
 use Rattle.world_core.proofs.Held.{state_in, in_hand_at, name_is, actor_is, due_is, IsCopyBehind}
-use Rattle.world_core.specs.HandsState.{hand_at, client_by}
+use Rattle.world_core.specs.HandsState.{hand_at}
+use Rattle.client_calls.specs.Names.{client_by}
 use Rattle.ckpt_types.specs.declared.identities.Who.{Who}
 use Rattle.world_core.proofs.Told.{with_step, told_world, told_is, told_fits}
 

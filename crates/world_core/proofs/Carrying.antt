@@ -19,9 +19,9 @@ use Rattle.node_core.specs.Payloads.{Payload, payload_of, update_or, elements_or
 use Rattle.node_core.specs.Seen.{RecordSeen}
 use Rattle.node_core.specs.Serving.{reply_at, details_at, replica_after, stage_reply, apply_reply, applied_id, told_id, mark_reply, done_or_refused, read_details, next_reply, next_details, generation_seen, install_reply, installed_of}
 use Rattle.ckpt_machine.specs.Tables.{ids_of, kept_asked}
-use Rattle.world_core.specs.declared.hands.InHand.{InHand}
+use Rattle.client_calls.specs.declared.in_hand.InHand.{InHand}
 use Rattle.world_core.specs.Asking.{IsLentFor}
-use Rattle.world_core.specs.Lending.{IsLentBy, iteration_lent}
+use Rattle.client_calls.specs.Lending.{IsLentBy, iteration_lent}
 
 -- the request goes to a replica, and is one of a call that is built
 abbrev pub GoesToReplica : Request → Type 0

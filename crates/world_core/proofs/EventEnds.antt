@@ -56,15 +56,17 @@ use Rattle.ckpt_machine.proofs.Deadlines.{in_time-either}
 use Rattle.ckpt_machine.proofs.EntryLists.{AllStay-change_key, AllStay-push, filter-stays, find_key-change_key, stays-referred}
 use Rattle.ckpt_machine.proofs.OptionLemmas.{IsSomeAnd-at}
 use Rattle.ckpt_machine.proofs.SettingActive.{with_active-identity, with_hold-identity}
-use Rattle.world_core.specs.declared.hands.InHand.{InHand}
+use Rattle.client_calls.specs.declared.in_hand.InHand.{InHand}
 use Rattle.world_core.specs.declared.world.World.{World}
 use Rattle.world_core.specs.Happenings.{rooms_at}
-use Rattle.world_core.specs.HandSteps.{hand_taken}
-use Rattle.world_core.specs.HandsState.{client_by, hand_at}
+use Rattle.client_calls.specs.HandSteps.{hand_taken}
+use Rattle.client_calls.specs.Names.{client_by}
+use Rattle.world_core.specs.HandsState.{hand_at}
 use Rattle.world_core.specs.RecordAfter.{event_after}
-use Rattle.world_core.specs.RecordReady.{event_granted, refusal_word, IsGrantedAt, IsRefusedAs, IsRefusedWith}
+use Rattle.client_calls.specs.Granting.{event_granted, refusal_word}
+use Rattle.world_core.specs.RecordReady.{IsGrantedAt, IsRefusedAs, IsRefusedWith}
 use Rattle.world_core.specs.Shows.{History, IsShown, machine_of}
-use Rattle.world_core.specs.Taking.{driver_outcome, driver_told, hand_outcome, hand_told}
+use Rattle.client_calls.specs.Taking.{driver_outcome, driver_told, hand_outcome, hand_told}
 use Rattle.world_core.proofs.CallSteps.{IsKnown, known}
 use Rattle.world_core.proofs.Held.{driver_is, in_hand_is, state_in}
 use Rattle.world_core.proofs.Readiness.{made_as}

@@ -19,7 +19,7 @@ use Rattle.cluster_record.specs.declared.entries.Entry.{Entry}
 use Rattle.replica.specs.Replicas.{Replica}
 use Rattle.weak_marks.specs.Marks.{Marked}
 use Rattle.stage_slot.specs.Slots.{Slot}
-use Rattle.world_core.specs.declared.hands.InHand.{InHand}
+use Rattle.client_calls.specs.declared.in_hand.InHand.{InHand}
 use Rattle.world_core.specs.declared.world.World.{World}
 use Rattle.cluster_record.specs.RecordState.{entry_of, complete_of, no_nodes}
 use Rattle.node_msgs.specs.Requests.{ckpt_of}
@@ -40,17 +40,18 @@ use Rattle.client_handles.specs.ClientState.{ClientState, iteration_at}
 use Rattle.client_handles.specs.declared.handle_view.HandleView.{HandleView}
 use Rattle.section_iter.specs.KeptIds.{KeptIds}
 use Rattle.section_iter.specs.Room.{room_declared, IsRoomFor}
-use Rattle.world_core.specs.TableState.{kept_by}
+use Rattle.world_core.specs.TablesState.{kept_by}
 use Rattle.world_core.specs.Happenings.{rooms_at}
 use Rattle.ckpt_machine.specs.Facts.{Facts, HasCopyRoom, IsServable}
 use Rattle.world_core.specs.Shows.{HistoryFits, FitsReplica, FitsSlot, FitsCopy, IsRoomToCopy, History, machine_of, shown_replica, shown_slot, shown_copy, where_complete, complete_replica, tables_of}
-use Rattle.world_core.specs.HandRooms.{room_for}
+use Rattle.client_calls.specs.HandRooms.{room_for}
 use Rattle.ckpt_machine.proofs.NextOf.{OfAsked, next_of}
 use Rattle.world_core.proofs.Carrying.{GoesToReplica, IsOfCall, IsSameCopy, payload_with}
 use Rattle.world_core.proofs.CopySteps.{HasCopyRoomFor}
 use Rattle.world_core.proofs.Held.{state_in, in_hand_is, actor_is, iteration_is, due_is, copy_stays}
 use Rattle.world_core.proofs.IterationSteps.{TablesReady, goes_on_with, asked_is, room_for_declared}
-use Rattle.world_core.specs.HandsState.{hand_at, client_by}
+use Rattle.world_core.specs.HandsState.{hand_at}
+use Rattle.client_calls.specs.Names.{client_by}
 use Rattle.ckpt_types.specs.declared.identities.Who.{Who}
 use Rattle.world_core.proofs.Recording.{zero_there}
 

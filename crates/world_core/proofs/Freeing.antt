@@ -8,18 +8,16 @@ use Rattle.cluster_record.specs.declared.entries.Entry.{Entry}
 use Rattle.cluster_record.specs.Places.{find_key, list_or}
 use Rattle.cluster_record.specs.RecordState.{RecordState, entry_of, complete_of}
 use Rattle.run_labels.specs.declared.labels.Label.{Label}
-use Rattle.replica.specs.Replicas.{Replica}
+use Rattle.replica.specs.Replicas.{Replica, opened_replica}
 use Rattle.world_core.specs.declared.world.World.{World}
-use Rattle.node_core.specs.Nodes.{is_there}
+use Rattle.node_core.specs.Nodes.{is_there, replica_key}
 use Rattle.world_core.specs.Freeing.{freed, freed_world}
 use Rattle.ckpt_machine.specs.Machine.{Machine, Effect}
 use Rattle.world_core.specs.declared.snapshots.Background.{Background}
 use Rattle.world_core.specs.Backgrounds.{background_key, background_in, where_pulled, pulled_in, backgrounds_left, HasRoom, HasRoomWhere, HaveRooms}
 use Rattle.world_core.specs.LiveRooms.{LiveHaveRoom}
 use Rattle.world_core.specs.Holding.{replicas_on, IsReservation, IsHeld, HoldsOnlyWhatStands}
-use Rattle.node_core.specs.Nodes.{replica_key}
 use Rattle.world_core.specs.Nodes.{replica_in}
-use Rattle.replica.specs.Replicas.{opened_replica}
 use Rattle.ckpt_machine.specs.Facts.{Facts}
 use Rattle.world_core.specs.Shows.{History, shown_replica, shown_reservation, where_complete, where_not_complete, complete_replica, reserved_in, machine_of, shown_snapshot, snapshot_shown, FitsReplica, FitsSnapshot, HistoryFits, Shows, Does}
 use Rattle.ckpt_machine.specs.Steps.{IsDue, after, snapshot_under}

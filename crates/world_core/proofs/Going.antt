@@ -12,7 +12,7 @@ use Rattle.ckpt_machine.specs.Drivers.{Driver}
 use Rattle.ckpt_machine.specs.Drivers as drivers
 use Rattle.cluster_record.specs.declared.calls.Making.{Making}
 use Rattle.cluster_record.specs.declared.entries.Entry.{Entry}
-use Rattle.replica.specs.Replicas.{Replica}
+use Rattle.replica.specs.Replicas.{Replica, opened_replica}
 use Rattle.world_core.specs.declared.world.World.{World}
 use Rattle.cluster_record.specs.Places.{change_key}
 use Rattle.cluster_record.specs.Calls.{client_of}
@@ -21,7 +21,6 @@ use Rattle.cluster_record.specs.Opening.{answer_named, open_answer}
 use Rattle.cluster_record.specs.Placement.{targets, is_collocated, adds}
 use Rattle.cluster_record.specs.RecordState.{RecordState, identity_of, entry_of, complete_of, named, stays, referred, opened_with, home_of, made_with, new_entry, created_as, opened, finished, undone, has_references, idle_from, unreferred, released_all, unnamed, unlinked, retaining, is_call_of, departed, can_be_held, with_hold, can_lead, generation_under, with_active, swept}
 use Rattle.world_core.specs.Nodes.{replica_in, with_added, with_opened}
-use Rattle.replica.specs.Replicas.{opened_replica}
 use Rattle.world_core.specs.RecordAfter.{once_change, event_change, event_after, nodes_behind}
 use Rattle.cluster_record.specs.DueOnce.{OneStep}
 use Rattle.cluster_record.specs.DueOnce as once

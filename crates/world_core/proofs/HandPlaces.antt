@@ -7,8 +7,9 @@ use Rattle.ckpt_types.specs.declared.identities.ActorName.TheVariants.{Client, N
 use Rattle.ckpt_types.specs.declared.identities.CallId.{CallId}
 use Rattle.ckpt_types.specs.declared.identities.Who.{Who}
 use Rattle.ckpt_types.specs.declared.identities.Who.TheVariants.{Actor, Call}
-use Rattle.world_core.specs.declared.hands.InHand.{InHand}
-use Rattle.world_core.specs.HandsState.{HandsState, alone_in, changed_alone, found_alone, hand_at, has_call, set_at}
+use Rattle.client_calls.specs.declared.in_hand.InHand.{InHand}
+use Rattle.world_core.specs.HandsState.{HandsState, alone_in, hand_at, set_at}
+use Rattle.client_calls.specs.AlonePlaces.{changed_alone, found_alone, has_call}
 use Rattle.world_core.proofs.AloneLists.{alone_same}
 use Rattle.world_core.specs.declared.world.World.{World}
 

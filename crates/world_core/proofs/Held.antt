@@ -8,22 +8,23 @@ use Rattle.ckpt_types.specs.declared.identities.Who.TheVariants.{Actor, Call}
 use Rattle.ckpt_types.specs.OpWord.{is_async, word_of_op}
 use Rattle.ckpt_types.specs.declared.answers.Outcome.{Outcome}
 use Rattle.node_msgs.specs.declared.next.Next.{Next}
-use Rattle.world_core.specs.declared.hands.InHand.{InHand}
+use Rattle.client_calls.specs.declared.in_hand.InHand.{InHand}
 use Rattle.world_core.specs.declared.world.World.{World}
 use Rattle.cluster_record.specs.Calls.{left, number_of, IsClient}
 use Rattle.cluster_record.specs.Makings.{makings_of}
 use Rattle.cluster_record.specs.StepDone.{StepDone}
 use Rattle.ckpt_machine.specs.Driving.{driver_next, driver_taken}
-use Rattle.world_core.specs.HandSteps.{hand_taken}
+use Rattle.client_calls.specs.HandSteps.{hand_taken}
 use Rattle.world_core.specs.Happenings.{rooms_at, IsNext}
 use Rattle.ckpt_machine.specs.Machine.{CallState, Effect, Snapshot}
 use Rattle.snap_copy.specs.Snapshots as copies
-use Rattle.world_core.specs.HandRooms.{room_for}
+use Rattle.client_calls.specs.HandRooms.{room_for}
 use Rattle.ckpt_types.specs.Asks.{asked}
 use Rattle.ckpt_machine.specs.Tables.{rooms_in}
 use Rattle.ckpt_machine.specs.Steps.{due, driver_of}
 use Rattle.ckpt_machine.specs.Facts.{Facts}
-use Rattle.world_core.specs.HandsState.{hand_at, client_by, name_of}
+use Rattle.world_core.specs.HandsState.{hand_at}
+use Rattle.client_calls.specs.Names.{client_by, name_of}
 use Rattle.ckpt_types.specs.declared.identities.Who.{Who}
 use Rattle.world_core.specs.Shows.{History, HistoryFits, FitsHand, FitsCopy, IsRoomToCopy, machine_of, tables_of, shown_hand, shown_copy}
 

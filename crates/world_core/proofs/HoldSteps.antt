@@ -37,17 +37,18 @@ use Rattle.ckpt_machine.specs.Driving.{driver_next, driver_taken, event_ckpt, ev
 use Rattle.ckpt_machine.specs.Facts.{HasCopyRoom, HasLiveMarker, IsEventReady}
 use Rattle.ckpt_machine.specs.Machine.{Machine, Effect, CallState}
 use Rattle.ckpt_machine.specs.Steps.{Told, IsDone, IsEventAnswer, kept_off, marks_on, changed}
-use Rattle.world_core.specs.declared.hands.InHand.{InHand}
+use Rattle.client_calls.specs.declared.in_hand.InHand.{InHand}
 use Rattle.world_core.specs.declared.snapshots.Background.{Background}
 use Rattle.world_core.specs.declared.world.World.{World}
 use Rattle.world_core.specs.Alone.{ended_at}
 use Rattle.world_core.specs.Freeing.{freed_world}
 use Rattle.world_core.specs.Happenings.{IsStep, rooms_at}
-use Rattle.world_core.specs.HandSteps.{hand_taken}
-use Rattle.world_core.specs.Leading.{synchronized_by, HasFreeHold}
+use Rattle.client_calls.specs.HandSteps.{hand_taken}
+use Rattle.client_calls.specs.CallStates.{synchronized_by}
+use Rattle.world_core.specs.Leading.{HasFreeHold}
 use Rattle.world_core.specs.Nodes.{replica_in}
 use Rattle.world_core.specs.RecordAfter.{event_after, nodes_behind, snapshots_behind}
-use Rattle.world_core.specs.Taking.{driver_outcome, driver_told, hand_outcome, hand_told}
+use Rattle.client_calls.specs.Taking.{driver_outcome, driver_told, hand_outcome, hand_told}
 use Rattle.world_core.specs.Shows.{Does, IsShown, History, FitsReplica, IsRoomToCopy, complete_replica, machine_of, shown_replica, where_complete}
 use Rattle.world_core.proofs.CallSteps.{IsKnown, known, known_by, behind_step, step_before, step_under, IsShownBehind, pulled_by_client}
 use Rattle.world_core.proofs.CopySteps.{counts_effects, copied_whole, room_alike}
@@ -59,7 +60,8 @@ use Rattle.world_core.proofs.LiveRooms.{EntersWithRoom, rooms_after, rooms_ended
 use Rattle.world_core.proofs.Maps.{HasUnder, ended_going, hand_left}
 use Rattle.world_core.proofs.RecordEvent.{done_beside, event_asks, event_ready, fits_recorded, holds_after, recorded, told_so}
 use Rattle.world_core.proofs.Recording.{with_effects}
-use Rattle.world_core.specs.HandsState.{hand_at, set_at, client_by}
+use Rattle.world_core.specs.HandsState.{hand_at, set_at}
+use Rattle.client_calls.specs.Names.{client_by}
 use Rattle.ckpt_types.specs.declared.identities.Who.{Who}
 use Rattle.world_core.proofs.SnapshotRooms.{event_has}
 

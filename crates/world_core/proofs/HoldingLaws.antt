@@ -12,7 +12,7 @@ use Rattle.node_msgs.specs.Requests.{ckpt_of}
 use Rattle.cluster_record.specs.declared.entries.Entry.{Entry}
 use Rattle.cluster_record.specs.Places.{find_key, change_key, list_or}
 use Rattle.cluster_record.specs.RecordState.{RecordState, entry_of, is_up}
-use Rattle.replica.specs.Replicas.{Replica}
+use Rattle.replica.specs.Replicas.{Replica, applied_by, committed, element_done, is_older, taken_from, opened_replica, outcome_on}
 use Rattle.world_core.specs.Holding.{replicas_on, IsReservation, IsHeld, HoldsOnlyWhatStands}
 use Rattle.node_core.specs.Nodes.{NodeState, replica_key, replicas_after, reserved_for, seen_for, with_reserved, replicas_reserved}
 use Rattle.node_core.specs.Payloads.{Payload}
@@ -21,7 +21,6 @@ use Rattle.node_core.specs.Serving.{replica_after, generation_seen, installed_of
 use Rattle.snap_copy.specs.Snapshots.{Snapshot}
 use Rattle.ckpt_machine.specs.Facts.{IsReservable}
 use Rattle.world_core.specs.Nodes.{node_at, nodes_after, replica_in}
-use Rattle.replica.specs.Replicas.{applied_by, committed, element_done, is_older, taken_from, opened_replica, outcome_on}
 use Rattle.stage_slot.specs.Slots.{Slot}
 use Rattle.weak_marks.specs.Marks.{Marked}
 use Rattle.ckpt_types.specs.Sections.{Section}

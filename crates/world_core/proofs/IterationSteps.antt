@@ -37,16 +37,18 @@ use Rattle.ckpt_machine.specs.Facts.{IsStarting}
 use Rattle.ckpt_machine.specs.Machine.{Machine, CallState, no_tables}
 use Rattle.ckpt_machine.specs.Steps.{with_tables}
 use Rattle.ckpt_machine.specs.Tables.{choice_of, ids_of, kept_asked, started, with_iteration, gone_on}
-use Rattle.world_core.specs.declared.hands.InHand.{InHand}
+use Rattle.client_calls.specs.declared.in_hand.InHand.{InHand}
 use Rattle.world_core.specs.declared.world.World.{World}
-use Rattle.world_core.specs.Lending.{IsGoingOnWith, IsOutOf, IsValidFor, come_back, iteration_lent, lending, hand_lending, tables_lending, tables_keeping, CanLend, CanKeep}
+use Rattle.client_calls.specs.Lending.{IsGoingOnWith, IsOutOf, IsValidFor, come_back, iteration_lent, lending, hand_lending, CanLend, CanKeep}
+use Rattle.world_core.specs.TablesLending.{tables_lending, tables_keeping}
 use Rattle.cluster_record.specs.Calls.{left}
 use Rattle.cluster_record.specs.StepDone.{StepDone}
-use Rattle.world_core.specs.HandSteps.{hand_taken, end_by}
+use Rattle.client_calls.specs.HandSteps.{hand_taken, end_by}
 use Rattle.cluster_record.specs.RecordState.{RecordState}
 use Rattle.world_core.specs.LiveRooms.{LiveHaveRoom}
 use Rattle.world_core.specs.Shows.{History, machine_of}
-use Rattle.world_core.specs.TableState.{TableState, kept_in, kept_by, with_client, table_changed, at_client}
+use Rattle.client_calls.specs.TableState.{TableState, kept_in, with_client}
+use Rattle.world_core.specs.TablesState.{kept_by, table_changed, at_client}
 use Rattle.world_core.proofs.GoingOn.{gone_on-told}
 use Rattle.world_core.proofs.LiveRooms.{rooms_client}
 use Rattle.world_core.proofs.RequestRows.{tables_moved}

@@ -27,7 +27,7 @@ use Rattle.ckpt_machine.specs.Driving.{driver_next, event_ckpt, event_node, even
 use Rattle.ckpt_machine.specs.Facts.{HasCopyRoom, IsAtRest, IsEventReady, IsLeadable}
 use Rattle.ckpt_machine.specs.Machine.{Machine, CallState}
 use Rattle.ckpt_machine.specs.Steps.{Told, IsDone, IsEventAnswer, kept_off, changed, led_from}
-use Rattle.world_core.specs.declared.hands.InHand.{InHand}
+use Rattle.client_calls.specs.declared.in_hand.InHand.{InHand}
 use Rattle.world_core.specs.declared.snapshots.Background.{Background}
 use Rattle.world_core.specs.declared.world.World.{World}
 use Rattle.world_core.specs.Backgrounds.{background_in, HasRoomWhere}
@@ -35,12 +35,13 @@ use Rattle.world_core.specs.Freeing.{freed, freed_world}
 use Rattle.world_core.specs.Happenings.{IsStep, rooms_at}
 use Rattle.world_core.specs.Alone.{ended_at}
 use Rattle.world_core.specs.Holding.{HoldsOnlyWhatStands}
-use Rattle.world_core.specs.Leading.{copy_held, nodes_led, synchronized_by, CanLead}
+use Rattle.world_core.specs.Leading.{copy_held, nodes_led, CanLead}
+use Rattle.client_calls.specs.CallStates.{synchronized_by}
 use Rattle.world_core.specs.LiveRooms.{LiveHaveRoom}
 use Rattle.world_core.specs.Nodes.{replica_in}
 use Rattle.world_core.specs.Propagating.{IsPuttable}
 use Rattle.world_core.specs.RecordAfter.{event_after, nodes_behind, snapshots_behind}
-use Rattle.world_core.specs.Taking.{hand_outcome}
+use Rattle.client_calls.specs.Taking.{hand_outcome}
 use Rattle.world_core.specs.Shows.{Does, IsShown, History, HistoryFits, FitsReplica, complete_replica, machine_of, shown_replica, shown_slot, where_complete}
 use Rattle.world_core.proofs.CallSteps.{IsKnown, known, known_by, step_before, step_under, IsShownBehind, pulled_by_client}
 use Rattle.world_core.proofs.EventEnds.{done_ends}
@@ -53,7 +54,8 @@ use Rattle.world_core.proofs.LiveRooms.{EntersWithRoom, rooms_after, rooms_ended
 use Rattle.world_core.proofs.Maps.{hand_left}
 use Rattle.world_core.proofs.RecordEvent.{besides, done_beside, event_asks, event_ready, fits_recorded, goes, holds_after, recorded, told_so}
 use Rattle.world_core.proofs.Recording.{GoesAt, NodeGoes, with_effects}
-use Rattle.world_core.specs.HandsState.{hand_at, set_at, client_by}
+use Rattle.world_core.specs.HandsState.{hand_at, set_at}
+use Rattle.client_calls.specs.Names.{client_by}
 use Rattle.ckpt_types.specs.declared.identities.Who.{Who}
 use Rattle.world_core.proofs.SnapshotRooms.{event_has}
 

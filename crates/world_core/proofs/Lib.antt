@@ -19,7 +19,6 @@ pub mod HoldingLaws
 pub mod IterationSteps
 pub mod Leading
 pub mod LeadSteps
-pub mod LentPlaces
 pub mod Listings
 pub mod LiveRooms
 pub mod Look
@@ -51,7 +50,6 @@ pub mod Stepping
 pub mod TableFields
 pub mod TablePlaces
 pub mod TableSteps
-pub mod Taken
 pub mod TakenRoom
 pub mod Taking
 pub mod Told

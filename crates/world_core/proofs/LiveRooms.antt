@@ -10,16 +10,16 @@ use Rattle.ckpt_types.specs.declared.identities.Who.{Who}
 use Rattle.ckpt_types.specs.declared.identities.Who.TheVariants.{Actor, Call}
 use Rattle.call_dispatch.specs.PendingCalls.{PendingCalls}
 use Rattle.world_core.specs.Alone.{ended_tables}
-use Rattle.world_core.specs.TableEnds.{table_ended}
+use Rattle.client_calls.specs.TableEnds.{table_ended}
 use Rattle.ckpt_types.specs.declared.operation.Op.{Op}
 use Rattle.node_msgs.specs.declared.next.RecordStep.{RecordStep}
 use Rattle.node_msgs.specs.declared.next.RecordStep.TheVariants as events
 use Rattle.cluster_record.specs.declared.clients.LiveClient.{LiveClient}
 use Rattle.cluster_record.specs.Calls.{client_of}
 use Rattle.cluster_record.specs.DueOpen.{making_ckpt}
-use Rattle.cluster_record.specs.LookUps.{identity_in, at_ckpt}
+use Rattle.cluster_record.specs.LookUps.{identity_in, at_ckpt, creation_flags_of}
 use Rattle.cluster_record.specs.Places.{find_key}
-use Rattle.cluster_record.specs.RecordState.{RecordState, client_key, named, is_live_client, created_as, opened, finished, undone, unlinked}
+use Rattle.cluster_record.specs.RecordState.{RecordState, client_key, named, is_live_client, created_as, opened, finished, undone, unlinked, entry_of}
 use Rattle.ckpt_machine.specs.Drivers.{Driver}
 use Rattle.ckpt_machine.specs.Drivers as drivers
 use Rattle.cluster_record.specs.DueOnce.{OneStep}
@@ -31,9 +31,8 @@ use Rattle.ckpt_machine.specs.Tables.{handle_given, closing, registering}
 use Rattle.world_core.specs.RecordAfter.{once_change, event_change, event_after}
 use Rattle.world_core.specs.LiveRooms.{room_is_taken, LiveHaveRoom}
 use Rattle.world_core.specs.Settling.{tables_given, settled, looked}
-use Rattle.world_core.specs.TableState.{TableState, with_calls, with_client, table_changed, at_client}
-use Rattle.cluster_record.specs.LookUps.{creation_flags_of}
-use Rattle.cluster_record.specs.RecordState.{entry_of}
+use Rattle.client_calls.specs.TableState.{TableState, with_calls, with_client}
+use Rattle.world_core.specs.TablesState.{table_changed, at_client}
 use Rattle.world_core.proofs.TableFields.{field_same}
 
 -- ---- another table in a client's place

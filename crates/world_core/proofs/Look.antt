@@ -30,14 +30,15 @@ use Rattle.ckpt_machine.specs.Steps.{changed, without_making, look_word}
 use Rattle.ckpt_machine.specs.Tables.{handle_closed}
 use Rattle.ckpt_machine.proofs.Deadlines.{in_time-cases}
 use Rattle.ckpt_machine.proofs.OwnMaking.{making_there}
-use Rattle.world_core.specs.declared.hands.InHand.{InHand}
+use Rattle.client_calls.specs.declared.in_hand.InHand.{InHand}
 use Rattle.world_core.specs.declared.world.World.{World}
 use Rattle.world_core.specs.Backgrounds.{background_in, pulled_in}
 use Rattle.world_core.specs.Freeing.{freed_world}
 use Rattle.world_core.specs.Happenings.{IsStep, rooms_at}
 use Rattle.world_core.specs.Settling.{looked, without_making_of}
 use Rattle.world_core.specs.Shows.{IsShown, Does, History, machine_of}
-use Rattle.world_core.specs.TableState.{TableState, kept_by}
+use Rattle.client_calls.specs.TableState.{TableState}
+use Rattle.world_core.specs.TablesState.{kept_by}
 use Rattle.world_core.specs.Alone.{ended_at, ended_hands, gone_with_look}
 use Rattle.world_core.proofs.AloneSteps.{MayClose, looked_clients, looked_fits, looked_here, looked_record, looked_set, rooms_looked_at}
 use Rattle.world_core.proofs.CallSteps.{pulled_by_client, IsKnown, known, known_by, behind_step, step_before, step_told}
@@ -48,7 +49,8 @@ use Rattle.world_core.proofs.LiveRooms.{rooms_ended, rooms_looked}
 use Rattle.world_core.proofs.Maps.{HasUnder, hand_left, under_other, under_own}
 use Rattle.world_core.proofs.RecordEvent.{closing_shown}
 use Rattle.world_core.proofs.Recording.{GoesAt, none_pulled, with_effects, record_is, record_fits}
-use Rattle.world_core.specs.HandsState.{HandsState, hand_at, set_at, client_by}
+use Rattle.world_core.specs.HandsState.{HandsState, hand_at, set_at}
+use Rattle.client_calls.specs.Names.{client_by}
 use Rattle.ckpt_types.specs.declared.identities.Who.{Who}
 use Rattle.ckpt_types.specs.declared.identities.Who.TheVariants.{Actor}
 use Rattle.world_core.proofs.SnapshotRooms.{unmade_has}

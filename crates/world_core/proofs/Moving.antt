@@ -31,7 +31,7 @@ use Rattle.ckpt_machine.specs.Machine.{Machine, ReplicaState, Snapshot, CallStat
 use Rattle.ckpt_machine.specs.Propagation.{source_at, target_at, with_pulled, with_put}
 use Rattle.world_core.specs.Nodes.{replica_in}
 use Rattle.ckpt_machine.specs.Steps.{on_ok, on_look, without_making, at_some, change_replica, created_for, retained_for, record_step, with_lead, led_from, changed, step_of, after}
-use Rattle.world_core.specs.declared.hands.InHand.{InHand}
+use Rattle.client_calls.specs.declared.in_hand.InHand.{InHand}
 use Rattle.world_core.specs.declared.world.Event.{Event}
 use Rattle.world_core.specs.declared.world.Event.TheVariants as happenings
 use Rattle.world_core.specs.declared.world.World.{World}
@@ -80,7 +80,7 @@ moved_kept : (w : World) (t : ℤ) (R : RecordState) → IsMomentFrom w.cluster.
 moved_kept w t R may R_is all = subst (λ (R : RecordState). Does w (record w { cluster = R }) (labels.Moved t)) (sym R_is)
     (does_before w (record w { cluster = moved t w.cluster }) (labels.Moved t) (moved_before w t may)
     (λ m s f. subst (λ (entries : List Entry). HoldsOnlyWhatStands (record w.cluster { moment = t; entries = entries }) w.nodes) (sym all)
-        (record { each = λ r x at. let held = s.holds.each r x at in record { up = held.up; stands = held.stands }; once = s.holds.once }))
+    (record { each = λ r x at. let held = s.holds.each r x at in record { up = held.up; stands = held.stands }; once = s.holds.once }))
     (λ m s f. subst (λ (entries : List Entry). HaveRooms entries w.snapshots) (sym all) s.keeps)
     (λ m s f. s.rooms))
 

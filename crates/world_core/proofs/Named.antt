@@ -13,12 +13,13 @@ use Rattle.cluster_record.specs.Makings.{makings_of}
 use Rattle.ckpt_machine.specs.Driving.{driver_next}
 use Rattle.ckpt_machine.specs.Facts.{Facts}
 use Rattle.ckpt_machine.specs.Tables.{rooms_in}
-use Rattle.world_core.specs.declared.hands.InHand.{InHand}
+use Rattle.client_calls.specs.declared.in_hand.InHand.{InHand}
 use Rattle.world_core.specs.declared.world.World.{World}
-use Rattle.world_core.specs.HandsState.{IsClientName, client_by, hand_at}
+use Rattle.client_calls.specs.Names.{IsClientName, client_by}
+use Rattle.world_core.specs.HandsState.{hand_at}
 use Rattle.world_core.specs.Happenings.{Adds, IsNext, IsStep, IsIdle, rooms_at}
 use Rattle.world_core.specs.Shows.{IsShown}
-use Rattle.world_core.specs.TableState.{TableState}
+use Rattle.client_calls.specs.TableState.{TableState}
 use Rattle.world_core.proofs.Held.{state_in, in_hand_is, actor_is}
 use Rattle.world_core.proofs.TableSteps.{kept_is}
 

@@ -17,11 +17,12 @@ use Rattle.ckpt_machine.proofs.AsyncCalls.{async_named}
 use Rattle.ckpt_machine.proofs.CallsPending.{is_call-true, among_unfinished, among_finished}
 use Rattle.ckpt_machine.proofs.KeptLists.{among_first, among_others, found_among}
 use Rattle.ckpt_machine.proofs.OptionLemmas.{IsSomeAnd-at}
-use Rattle.world_core.specs.declared.hands.InHand.{InHand}
+use Rattle.client_calls.specs.declared.in_hand.InHand.{InHand}
 use Rattle.world_core.specs.declared.world.World.{World}
 use Rattle.world_core.specs.HandsState.{hand_at}
 use Rattle.world_core.specs.Shows.{History, machine_of, shown_hand}
-use Rattle.world_core.specs.TableState.{pending_by, next_in}
+use Rattle.world_core.specs.TablesState.{pending_by}
+use Rattle.client_calls.specs.TableState.{next_in}
 
 -- where a test holds of none, it holds of none that is among them
 none_passes : {X : Type 0} (p : X → Bool) (xs : List X) → ((x : X) → Contains xs x → p x ≡ true → ⊥) → list_any p xs ≡ false

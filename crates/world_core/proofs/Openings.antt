@@ -6,13 +6,14 @@ use Rattle.ckpt_types.specs.declared.identities.ActorName.{ActorName}
 use Rattle.ckpt_types.specs.declared.identities.ActorName.TheVariants.{Client, Node}
 use Rattle.ckpt_types.specs.declared.identities.Who.{Who}
 use Rattle.ckpt_types.specs.declared.identities.Who.TheVariants.{Actor, Call}
-use Rattle.world_core.specs.declared.hands.InHand.{InHand}
+use Rattle.client_calls.specs.declared.in_hand.InHand.{InHand}
 use Rattle.world_core.specs.declared.world.World.{World}
 use Rattle.cluster_record.specs.Places.{list_or, or_none}
 use Rattle.cluster_record.specs.RecordState.{empty_record}
-use Rattle.world_core.specs.HandsState.{HandsState, alone_in, found_alone, hand_at}
-use Rattle.world_core.specs.TableState.{TableState, next_in, kept_in, pending_in}
-use Rattle.world_core.specs.NewTable.{new_table}
+use Rattle.world_core.specs.HandsState.{HandsState, alone_in, hand_at}
+use Rattle.client_calls.specs.AlonePlaces.{found_alone}
+use Rattle.client_calls.specs.TableState.{TableState, next_in, kept_in, pending_in}
+use Rattle.client_calls.specs.NewTable.{new_table}
 use Rattle.ckpt_machine.specs.Machine.{no_tables}
 use Rattle.world_core.specs.Runs.{IsNew}
 

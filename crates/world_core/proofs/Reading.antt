@@ -34,14 +34,15 @@ use Rattle.ckpt_machine.specs.Driving.{driver_next}
 use Rattle.ckpt_machine.specs.Machine.{CallState}
 use Rattle.ckpt_machine.specs.Steps.{ended_details}
 use Rattle.snap_copy.specs.Snapshots.{Snapshot}
-use Rattle.world_core.specs.declared.hands.InHand.{InHand}
+use Rattle.client_calls.specs.declared.in_hand.InHand.{InHand}
 use Rattle.world_core.specs.declared.world.World.{World}
 use Rattle.world_core.specs.Alone.{ended_at}
-use Rattle.world_core.specs.HandsState.{hand_at, set_at, client_by}
-use Rattle.world_core.specs.HandSteps.{hand_end, hand_taken}
+use Rattle.world_core.specs.HandsState.{hand_at, set_at}
+use Rattle.client_calls.specs.Names.{client_by}
+use Rattle.client_calls.specs.HandSteps.{hand_end, hand_taken}
 use Rattle.world_core.specs.Happenings.{IsNext, IsStep, rooms_at}
 use Rattle.world_core.specs.Nodes.{node_at, nodes_after, replica_in, with_changed}
-use Rattle.world_core.specs.ReadTold.{read_told}
+use Rattle.client_calls.specs.ReadTold.{read_told}
 use Rattle.world_core.specs.Shows.{IsShown, History}
 use Rattle.world_core.proofs.AloneSteps.{IsWaitedFor}
 use Rattle.world_core.proofs.CallSteps.{IsKnown, known}

@@ -35,7 +35,7 @@ use Rattle.replica.specs.Replicas.{Replica}
 use Rattle.world_core.specs.Nodes.{replica_in}
 use Rattle.ckpt_machine.specs.Tables.{handle_closed, handle_given, closing, registering}
 use Rattle.ckpt_machine.proofs.AskedFor.{DrivesFor, state_drives}
-use Rattle.world_core.specs.declared.hands.InHand.{InHand}
+use Rattle.client_calls.specs.declared.in_hand.InHand.{InHand}
 use Rattle.world_core.specs.declared.world.World.{World}
 use Rattle.world_core.specs.Freeing.{freed, freed_world}
 use Rattle.world_core.specs.Happenings.{rooms_at}
@@ -47,7 +47,8 @@ use Rattle.world_core.specs.RecordAfter.{event_after, nodes_behind, snapshots_be
 use Rattle.world_core.specs.RecordReady.{IsPlain, IsRefusedWith}
 use Rattle.world_core.specs.Settling.{tables_closed, tables_given, settled, CanSettle}
 use Rattle.world_core.specs.Shows.{Does, IsShown, History, HistoryFits, machine_of, tables_of}
-use Rattle.world_core.specs.TableState.{kept_by, with_client, at_client}
+use Rattle.world_core.specs.TablesState.{kept_by, at_client}
+use Rattle.client_calls.specs.TableState.{with_client}
 use Rattle.world_core.specs.Alone.{calls_gone, ended_at, gone_with, syncs_gone}
 use Rattle.world_core.proofs.AloneSteps.{MayGoWith, all_gone, gone_fits, gone_here, rooms_gone, syncs_are}
 use Rattle.world_core.proofs.WaitedFor.{may_go_with}
@@ -59,7 +60,8 @@ use Rattle.world_core.proofs.Held.{copy_stays, IsCopyBehind, state_in, in_hand_i
 use Rattle.world_core.proofs.LiveRooms.{EntersWithRoom, rooms_ended, rooms_settled, rooms_after}
 use Rattle.world_core.proofs.Recording.{GoesAt, none_pulled, with_effects, record_is, record_fits}
 use Rattle.world_core.proofs.SnapshotRooms.{behind-pulled, event_has}
-use Rattle.world_core.specs.HandsState.{hand_at, set_at, client_by}
+use Rattle.world_core.specs.HandsState.{hand_at, set_at}
+use Rattle.client_calls.specs.Names.{client_by}
 use Rattle.ckpt_types.specs.declared.identities.Who.{Who}
 use Rattle.world_core.proofs.TableFields.{change_is}
 

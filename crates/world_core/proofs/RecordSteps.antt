@@ -31,18 +31,19 @@ use Rattle.ckpt_machine.specs.Tables.{handle_closed, has_place}
 use Rattle.client_handles.specs.ClientState.{ClientState, has_handle_room}
 use Rattle.ckpt_types.specs.Asks.{asked}
 use Rattle.ckpt_types.specs.Limits.{handles_max}
-use Rattle.world_core.specs.declared.hands.InHand.{InHand}
+use Rattle.client_calls.specs.declared.in_hand.InHand.{InHand}
 use Rattle.world_core.specs.declared.world.World.{World}
 use Rattle.world_core.specs.declared.snapshots.Background.{Background}
 use Rattle.world_core.specs.Freeing.{freed_world}
-use Rattle.world_core.specs.HandSteps.{hand_taken}
+use Rattle.client_calls.specs.HandSteps.{hand_taken}
 use Rattle.world_core.specs.Happenings.{IsStep, rooms_at}
 use Rattle.world_core.specs.LiveRooms.{room_is_taken}
 use Rattle.world_core.specs.RecordAfter.{event_after, nodes_behind, snapshots_behind}
 use Rattle.world_core.specs.RecordReady.{CanAdd, HasFound, IsPlain, IsRecordReady, IsRefusedWith}
 use Rattle.world_core.specs.Settling.{settled, CanGive, CanSettle}
 use Rattle.world_core.specs.Shows.{IsShown, HasNumbersLeft, machine_of, tables_of}
-use Rattle.world_core.specs.TableState.{TableState, kept_by}
+use Rattle.client_calls.specs.TableState.{TableState}
+use Rattle.world_core.specs.TablesState.{kept_by}
 use Rattle.world_core.specs.Alone.{ended_at, gone_with}
 use Rattle.world_core.proofs.AloneSteps.{gone_clients, gone_here, gone_set}
 use Rattle.world_core.proofs.CallSteps.{IsKnown, known, step_told, step_under}
@@ -51,7 +52,8 @@ use Rattle.world_core.proofs.Granted.{has_found}
 use Rattle.world_core.proofs.Held.{state_in, in_hand_is, driver_is, actor_is}
 use Rattle.world_core.proofs.OpenRoom.{open_room}
 use Rattle.world_core.proofs.Readiness.{record_ready}
-use Rattle.world_core.specs.HandsState.{HandsState, hand_at, set_at, client_by}
+use Rattle.world_core.specs.HandsState.{HandsState, hand_at, set_at}
+use Rattle.client_calls.specs.Names.{client_by}
 use Rattle.world_core.proofs.Maps.{HasUnder, hand_left, under_other, under_own}
 use Rattle.ckpt_types.specs.declared.identities.Who.{Who}
 use Rattle.ckpt_types.specs.declared.identities.Who.TheVariants.{Actor}

@@ -11,7 +11,7 @@ use Rattle.node_core.specs.Nodes.{replica_key}
 use Rattle.world_core.specs.Leading.{leading, nodes_led}
 use Rattle.world_core.specs.Nodes.{replica_in, with_changed}
 use Rattle.world_core.specs.Propagating.{nodes_installed, nodes_put, takes_puts}
-use Rattle.world_core.proofs.AloneLists.{set_again}
+use Rattle.world_core.proofs.AloneLists.{list_again}
 
 -- two changes that make the same of the one that is found are alike
 pub change_alike : {X : Type 0} (key : X → ℕ) (k : ℕ) (f g : X → X) (xs : List X) (x : X) → find_key key k xs ≡ Some x → f x ≡ g x → change_key key k f xs ≡ change_key key k g xs
@@ -24,7 +24,7 @@ change_alike key k f g (y ∷ xs) x found same = by_test (key y == k) found (cha
 
 -- without one nothing changes
 pub unchanged : (nodes : List (List Replica)) (k r : ℕ) (f : Replica → Replica) → replica_in nodes k r ≡ None → with_changed k r f nodes ≡ nodes
-unchanged nodes k r f none = ap (slice_set nodes r) (not_changed replica_key k f (list_or (slice_get nodes r)) none) ∙ set_again nodes r
+unchanged nodes k r f none = ap (slice_set nodes r) (not_changed replica_key k f (list_or (slice_get nodes r)) none) ∙ list_again nodes r
 
 -- what has something of a replica has one
 pub has_one : (o : Option Replica) (P : Replica → Type 0) → IsSomeAnd o P → IsSome o

@@ -10,9 +10,9 @@ use Rattle.node_msgs.specs.declared.replies.Reply.TheVariants.{Done, NoMemory}
 use Rattle.node_msgs.specs.declared.next.Next.TheVariants.{Serve}
 use Rattle.node_msgs.specs.declared.details.Details.TheVariants as beside
 use Rattle.node_msgs.specs.declared.steps.Verb.TheVariants as verbs
-use Rattle.world_core.specs.declared.hands.InHand.{InHand}
+use Rattle.client_calls.specs.declared.in_hand.InHand.{InHand}
 use Rattle.cluster_record.specs.declared.entries.Entry.{Entry}
-use Rattle.replica.specs.Replicas.{Replica}
+use Rattle.replica.specs.Replicas.{Replica, opened_replica}
 use Rattle.world_core.specs.declared.world.World.{World}
 use Rattle.cluster_record.specs.Places.{find_key, put2, list_or}
 use Rattle.cluster_record.specs.RecordState.{RecordState, entry_of, complete_of}
@@ -23,7 +23,6 @@ use Rattle.world_core.specs.Nodes.{nodes_after, replica_in}
 use Rattle.node_core.specs.Serving.{details_at, snapshot_behind}
 use Rattle.snap_copy.specs.Snapshots as copies
 use Rattle.cluster_record.specs.StepDone.{counting, count_told, done_of}
-use Rattle.replica.specs.Replicas.{opened_replica}
 use Rattle.node_msgs.specs.Steps.{word_of}
 use Rattle.ckpt_machine.specs.Driving.{driver_next, driver_taken, driver_end}
 use Rattle.ckpt_machine.specs.Steps.{changed, ended_details, payload_due, seen_at}
@@ -38,7 +37,8 @@ use Rattle.cluster_record.proofs.Places.{find_pushed, get_set, there_is}
 use Rattle.world_core.proofs.Finding as finding
 use Rattle.world_core.proofs.Serve.{behind, its_end, its_details, its_copy, replica_there, served_world, served_label}
 use Rattle.world_core.proofs.CallSteps.{IsKnown, known_by, pulled_by_client, step_before}
-use Rattle.world_core.specs.HandsState.{hand_at, client_by}
+use Rattle.world_core.specs.HandsState.{hand_at}
+use Rattle.client_calls.specs.Names.{client_by}
 use Rattle.ckpt_types.specs.declared.identities.Who.{Who}
 use Rattle.world_core.proofs.Freeing.{does_before}
 

@@ -40,7 +40,7 @@ use Rattle.cluster_record.specs.declared.entries.Entry.{Entry}
 use Rattle.cluster_record.specs.DueOnce.{Leave}
 use Rattle.cluster_record.specs.StepDone.{StepDone}
 use Rattle.cluster_record.specs.RecordState.{RecordState, empty_record, named}
-use Rattle.replica.specs.Replicas.{Replica}
+use Rattle.replica.specs.Replicas.{Replica, opened_replica}
 use Rattle.ckpt_machine.specs.Drivers.{Driver, Once}
 use Rattle.ckpt_machine.specs.Driving.{Kept, driver_start, driver_end, event_refusal}
 use Rattle.ckpt_machine.specs.Guards.{Allowed, IsAllowedStep, Row}
@@ -52,7 +52,6 @@ use Rattle.world_core.specs.Shows.{Shows}
 use Rattle.node_core.specs.Payloads.{no_payload, update_alone}
 use Rattle.node_core.specs.Seen.{record_seen}
 use Rattle.node_core.specs.Serving.{reply_at, details_at, replica_after}
-use Rattle.replica.specs.Replicas.{opened_replica}
 use Rattle.ckpt_machine.specs.Steps.{Told, IsDue, after, driver_of, due, kept_at_beginning, asked_handle, seen_at, with_tables}
 use Rattle.std.proofs.lemmas.Option.{same_Some}
 

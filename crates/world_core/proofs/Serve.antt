@@ -15,7 +15,7 @@ use Rattle.run_labels.specs.declared.labels.Label.{Label}
 use Rattle.run_labels.specs.declared.labels.Label.TheVariants.{Stepped}
 use Rattle.ckpt_types.specs.OpWord.{word_of_op}
 use Rattle.section_iter.specs.KeptIds.{KeptIds}
-use Rattle.world_core.specs.declared.hands.InHand.{InHand}
+use Rattle.client_calls.specs.declared.in_hand.InHand.{InHand}
 use Rattle.replica.specs.Replicas.{Replica}
 use Rattle.world_core.specs.declared.world.World.{World}
 use Rattle.cluster_record.specs.Places.{find_key, change_key, list_or, put2}
@@ -31,11 +31,12 @@ use Rattle.node_core.specs.Serving.{reply_at, reply_of, details_at, iteration_be
 use Rattle.node_core.specs.Fitting.{IsReadyFor}
 use Rattle.world_core.specs.Nodes.{node_at, nodes_after, replica_in}
 use Rattle.world_core.specs.Holding.{HoldsOnlyWhatStands}
-use Rattle.world_core.specs.Lending.{IsValidFor, iteration_lent, tables_lending, tables_keeping}
+use Rattle.client_calls.specs.Lending.{IsValidFor, iteration_lent}
+use Rattle.world_core.specs.TablesLending.{tables_lending, tables_keeping}
 use Rattle.cluster_record.specs.Ends.{served_done}
-use Rattle.world_core.specs.HandSteps.{end_by}
+use Rattle.client_calls.specs.HandSteps.{end_by}
 use Rattle.world_core.specs.Happenings.{rooms_at}
-use Rattle.world_core.specs.TableState.{kept_by}
+use Rattle.world_core.specs.TablesState.{kept_by}
 use Rattle.ckpt_machine.specs.Driving.{driver_next, driver_taken, driver_end}
 use Rattle.ckpt_machine.specs.Machine.{Machine, Effect, ReplicaState, CallState}
 use Rattle.ckpt_machine.specs.Steps.{due, driver_of, ended_details, ids_asked, payload_due, MayAnswer, changed, counted_at, pulled_by, seen_at, staged_moment}
@@ -55,7 +56,8 @@ use Rattle.world_core.proofs.Maps.{changed_here, slice_there, complete_at_node, 
 use Rattle.world_core.proofs.RequestRows.{effects_in, effects_after, effects_carried, origin_after, row_moves, row_fits, tables_moved}
 use Rattle.world_core.proofs.Told.{told_world}
 use Rattle.world_core.proofs.CallSteps.{IsKnown, known_by, IsShownBehind, step_before}
-use Rattle.world_core.specs.HandsState.{hand_at, client_by}
+use Rattle.world_core.specs.HandsState.{hand_at}
+use Rattle.client_calls.specs.Names.{client_by}
 use Rattle.ckpt_types.specs.declared.identities.Who.{Who}
 use Rattle.world_core.proofs.Freeing.{does_before}
 

@@ -32,21 +32,24 @@ use Rattle.node_core.specs.Seen.{record_seen}
 use Rattle.node_core.specs.Serving.{details_at, iteration_behind, snapshot_behind}
 use Rattle.ckpt_machine.specs.Driving.{driver_next}
 use Rattle.ckpt_machine.specs.Steps.{ended_details}
-use Rattle.world_core.specs.declared.hands.InHand.{InHand}
+use Rattle.client_calls.specs.declared.in_hand.InHand.{InHand}
 use Rattle.world_core.specs.declared.world.World.{World}
 use Rattle.world_core.specs.Alone.{ended_at}
 use Rattle.world_core.specs.Nodes.{node_at, nodes_after}
-use Rattle.world_core.specs.Lending.{IsLentBy, IsValidFor, CanKeep, CanLend, hand_lending, iteration_lent, table_lending, table_keeping, tables_lending, tables_keeping}
+use Rattle.client_calls.specs.Lending.{IsLentBy, IsValidFor, CanKeep, CanLend, hand_lending, iteration_lent, table_lending, table_keeping}
+use Rattle.world_core.specs.TablesLending.{tables_lending, tables_keeping}
 use Rattle.cluster_record.specs.Ends.{served_done}
-use Rattle.world_core.specs.HandSteps.{AsksNode, hand_taken, hand_end}
+use Rattle.client_calls.specs.HandSteps.{AsksNode, hand_taken, hand_end}
 use Rattle.world_core.specs.Happenings.{IsNext, IsStep, rooms_at}
-use Rattle.world_core.specs.TableState.{TableState, kept_by}
+use Rattle.client_calls.specs.TableState.{TableState}
+use Rattle.world_core.specs.TablesState.{kept_by}
 use Rattle.world_core.specs.Shows.{IsShown, HasNumbersLeft}
 use Rattle.world_core.proofs.Carrying.{lent_carries}
 use Rattle.world_core.proofs.IterationSteps.{lent_left, lent_op, lent_end}
 use Rattle.world_core.proofs.Serve.{its_copy, its_done, its_end, its_details, its_iteration, served_world}
 use Rattle.world_core.proofs.Held.{with_copy}
-use Rattle.world_core.specs.HandsState.{hand_at, set_at, client_by}
+use Rattle.world_core.specs.HandsState.{hand_at, set_at}
+use Rattle.client_calls.specs.Names.{client_by}
 use Rattle.ckpt_types.specs.declared.identities.Who.{Who}
 use Rattle.world_core.proofs.Stepping.{with_own, lends, keeps, fits_lent, serve_is, ends_its}
 use Rattle.world_core.proofs.TableSteps.{kept_is, lending_is, keeping_is}

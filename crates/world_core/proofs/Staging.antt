@@ -41,16 +41,17 @@ use Rattle.node_core.specs.Payloads.{Payload, no_payload, update_alone}
 use Rattle.node_core.specs.Seen.{RecordSeen, record_seen}
 use Rattle.node_core.specs.Serving.{snapshot_after, snapshot_behind, reply_at, details_at, commit_answer, slot_id, stage_reply}
 use Rattle.node_core.specs.StageReplies.{reply_refused, reply_told}
-use Rattle.world_core.specs.declared.hands.InHand.{InHand}
+use Rattle.client_calls.specs.declared.in_hand.InHand.{InHand}
 use Rattle.world_core.specs.declared.world.World.{World}
 use Rattle.world_core.specs.Nodes.{node_at, nodes_after, replica_in, with_changed}
-use Rattle.world_core.specs.Lending.{IsValidFor, tables_lending, tables_keeping}
+use Rattle.client_calls.specs.Lending.{IsValidFor}
+use Rattle.world_core.specs.TablesLending.{tables_lending, tables_keeping}
 use Rattle.world_core.specs.Happenings.{IsNext, IsStep}
 use Rattle.cluster_record.specs.Ends.{ended_unless, served_done}
-use Rattle.world_core.specs.HandSteps.{hand_taken, hand_end, end_by}
+use Rattle.client_calls.specs.HandSteps.{hand_taken, hand_end, end_by}
 use Rattle.world_core.specs.Shows.{IsShown, HasNumbersLeft}
-use Rattle.world_core.specs.TableState.{kept_by}
-use Rattle.world_core.specs.UpdateSteps.{IsUpdate, is_creation}
+use Rattle.world_core.specs.TablesState.{kept_by}
+use Rattle.client_calls.specs.UpdateSteps.{IsUpdate, is_creation}
 use Rattle.world_core.proofs.Carrying.{GoesToReplica, Carries, payload_with}
 use Rattle.world_core.proofs.Serve.{its_copy, its_end, its_details, its_iteration, served_world}
 use Rattle.world_core.proofs.Held.{with_copy}

@@ -14,7 +14,7 @@ use Rattle.node_msgs.specs.declared.steps.Verb.TheVariants as verbs
 use Rattle.cluster_record.specs.DueActive.{active_end}
 use Rattle.ckpt_types.specs.OpWord.{word_of_op}
 use Rattle.client_handles.specs.ClientState.{ClientState}
-use Rattle.world_core.specs.declared.hands.InHand.{InHand}
+use Rattle.client_calls.specs.declared.in_hand.InHand.{InHand}
 use Rattle.replica.specs.Replicas.{Replica}
 use Rattle.world_core.specs.declared.world.World.{World}
 use Rattle.cluster_record.specs.declared.entries.Entry.{Entry}
@@ -37,10 +37,11 @@ use Rattle.ckpt_machine.specs.Facts.{Facts, IsActive, IsReservable, IsServable}
 use Rattle.ckpt_machine.specs.Machine.{Machine, CallState}
 use Rattle.ckpt_machine.specs.Steps.{due, driver_of, ended_details}
 use Rattle.world_core.specs.Nodes.{node_at, nodes_after, replica_in, with_changed}
-use Rattle.world_core.specs.Lending.{IsLentBy, IsValidFor, CanLend, CanKeep, tables_lending}
+use Rattle.client_calls.specs.Lending.{IsLentBy, IsValidFor, CanLend, CanKeep}
+use Rattle.world_core.specs.TablesLending.{tables_lending}
 use Rattle.cluster_record.specs.Ends.{served_done}
-use Rattle.world_core.specs.HandSteps.{hand_taken}
-use Rattle.world_core.specs.TableState.{kept_by}
+use Rattle.client_calls.specs.HandSteps.{hand_taken}
+use Rattle.world_core.specs.TablesState.{kept_by}
 use Rattle.world_core.specs.Shows.{Does, IsShown, HasNumbersLeft, History, HistoryFits, machine_of}
 use Rattle.world_core.specs.Happenings.{rooms_at, IsNext, IsStep}
 use Rattle.world_core.proofs.CallSteps.{IsKnown, known, step_under}
@@ -53,7 +54,8 @@ use Rattle.world_core.proofs.IterationSteps.{TablesReady, HasIterationRoom, Ends
 use Rattle.world_core.proofs.Maps.{hand_left}
 use Rattle.world_core.proofs.OpenRoom.{iterate_room}
 use Rattle.world_core.proofs.Reserve.{reserve_does}
-use Rattle.world_core.specs.HandsState.{hand_at, client_by}
+use Rattle.world_core.specs.HandsState.{hand_at}
+use Rattle.client_calls.specs.Names.{client_by}
 use Rattle.ckpt_types.specs.declared.identities.Who.{Who}
 use Rattle.world_core.proofs.Serve.{its_copy, its_done, its_end, its_details, served_world, served_label, serve_does}
 

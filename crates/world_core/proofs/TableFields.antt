@@ -11,7 +11,8 @@ use Rattle.cluster_record.proofs.Places.{get_set}
 use Rattle.ckpt_machine.specs.Machine.{Machine, no_tables}
 use Rattle.ckpt_machine.specs.Steps.{with_pending, with_tables}
 use Rattle.world_core.specs.declared.world.World.{World}
-use Rattle.world_core.specs.TableState.{TableState, next_in, kept_in, kept_by, pending_in, pending_by, with_calls, with_client, table_changed, at_client}
+use Rattle.client_calls.specs.TableState.{TableState, next_in, kept_in, pending_in, with_calls, with_client}
+use Rattle.world_core.specs.TablesState.{kept_by, pending_by, table_changed, at_client}
 use Rattle.world_core.specs.Shows.{History, machine_of, next_of, pending_of, tables_of}
 use Rattle.world_core.proofs.Maps.{same_there}
 

@@ -2,7 +2,8 @@
 use Rattle.std.proofs.Common.{◌≡◌, ℕ, ◌<◌, List, length, Some, ap}
 use Rattle.std.specs.Prelude.{slice_get, slice_index_or, slice_set}
 use Rattle.std.proofs.lemmas.Option.{slice_get-get_or}
-use Rattle.world_core.specs.TableState.{TableState, kept_in, kept_by, table_changed, at_client}
+use Rattle.client_calls.specs.TableState.{TableState, kept_in}
+use Rattle.world_core.specs.TablesState.{kept_by, table_changed, at_client}
 
 module _ (tables : List TableState) (c : ℕ) (t : TableState) (within : c < length tables) where
   there : slice_get tables c ≡ Some (slice_index_or tables c t)

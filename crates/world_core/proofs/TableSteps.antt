@@ -1,5 +1,5 @@
 -- What is told of one client's table is told of the tables of all, where it stands among them.
-use Rattle.std.proofs.Common.{◌≡◌, ℕ, zero, suc, ◌<◌, List, [], ◌∷◌, length, Bool, Option, Some, None, true, refl, sym, ap, subst, ◌∙◌}
+use Rattle.std.proofs.Common.{◌≡◌, ℕ, ◌<◌, List, length, Bool, Option, Some, None, true, sym, ap, subst, ◌∙◌}
 use Rattle.std.specs.Prelude.{◌-◌, ◌^◌, slice_get, slice_set}
 use Rattle.std.proofs.lemmas.Option.{slice_get_within}
 use Rattle.ckpt_types.specs.declared.answers.Outcome.{Outcome}
@@ -18,18 +18,16 @@ use Rattle.client_handles.specs.ClientState.{ClientState, emptied, has_handle_ro
 use Rattle.cluster_record.specs.LookUps.{creation_flags_of}
 use Rattle.cluster_record.specs.RecordState.{RecordState, entry_of}
 use Rattle.ckpt_machine.specs.Tables.{handle_given, closing, registering, started}
-use Rattle.world_core.specs.Lending.{lending, come_back, table_lending, table_keeping, tables_lending, tables_keeping}
+use Rattle.client_calls.specs.Lending.{lending, come_back, table_lending, table_keeping}
+use Rattle.world_core.specs.TablesLending.{tables_lending, tables_keeping}
 use Rattle.world_core.specs.LiveRooms.{room_is_taken}
 use Rattle.world_core.specs.declared.world.World.{World}
-use Rattle.world_core.specs.Standings.{standing, standing_in}
-use Rattle.world_core.specs.Settling.{table_settled, table_looked, settled, looked, CanGive, CanSettle, MayGive, MaySettle}
-use Rattle.world_core.specs.TableState.{TableState, next_in, kept_in, kept_by, pending_in, pending_by, table_changed, with_client, at_client}
-
--- what stands at a place is put there again
-same_there : {X : Type 0} (xs : List X) (c : ℕ) (x : X) → slice_get xs c ≡ Some x → slice_set xs c x ≡ xs
-same_there [] c x there = refl
-same_there (y ∷ ys) zero x there = ap (λ z. z ∷ ys) (cc there)
-same_there (y ∷ ys) (suc c) x there = ap (λ zs. y ∷ zs) (same_there ys c x there)
+use Rattle.client_calls.specs.Standings.{standing}
+use Rattle.world_core.proofs.Maps.{set_again}
+use Rattle.world_core.specs.TablesState.{standing_in, kept_by, pending_by, table_changed, at_client}
+use Rattle.client_calls.specs.TableSettling.{table_settled, table_looked, MayGive, MaySettle}
+use Rattle.world_core.specs.Settling.{settled, looked, CanGive, CanSettle}
+use Rattle.client_calls.specs.TableState.{TableState, next_in, kept_in, pending_in, with_client}
 
 module _ (tables : List TableState) (c : ℕ) (t : TableState) (there : slice_get tables c ≡ Some t) where
   pub within : c < length tables
@@ -54,7 +52,7 @@ module _ (tables : List TableState) (c : ℕ) (t : TableState) (there : slice_ge
 
   -- where it stays
   pub stays : slice_set tables c t ≡ tables
-  stays = same_there tables c t there
+  stays = set_again tables c t there
 
   pub settled_is : (R : RecordState) (op : Op) (step : RecordStep) (k : Option ℕ) → slice_set tables c (table_settled R op step k t) ≡ settled R c op step k tables
   settled_is R op events.Enter k = changed_is (with_client (registering (asked op)))

@@ -15,8 +15,8 @@ use Rattle.world_core.specs.declared.world.World.{World}
 use Rattle.world_core.specs.Happenings.{IsNext, IsStep}
 use Rattle.world_core.specs.LiveRooms.{room_is_taken}
 use Rattle.world_core.specs.Shows.{Shows, IsShown, HasNumbersLeft, History, machine_of, pending_of, tables_of}
-use Rattle.world_core.specs.TableState.{TableState, next_in, kept_in, pending_in, with_room}
-use Rattle.world_core.specs.HandsState.{client_by}
+use Rattle.client_calls.specs.TableState.{TableState, next_in, kept_in, pending_in, with_room}
+use Rattle.client_calls.specs.Names.{client_by}
 use Rattle.ckpt_types.specs.declared.identities.Who.{Who}
 use Rattle.world_core.proofs.TableFields.{field_same, nexts_same, table_at}
 

@@ -37,9 +37,9 @@ use Rattle.ckpt_machine.specs.Drivers.{Driver}
 use Rattle.ckpt_machine.specs.Drivers as drivers
 use Rattle.ckpt_machine.specs.Driving.{driver_end, driver_taken, index_told}
 use Rattle.ckpt_machine.proofs.Deadlines.{in_time-either}
-use Rattle.world_core.specs.declared.hands.InHand.{InHand}
-use Rattle.world_core.specs.HandSteps.{AsksNode, hand_end, hand_taken}
-use Rattle.world_core.specs.Taking.{driver_outcome, driver_told, hand_outcome, hand_told}
+use Rattle.client_calls.specs.declared.in_hand.InHand.{InHand}
+use Rattle.client_calls.specs.HandSteps.{AsksNode, hand_end, hand_taken}
+use Rattle.client_calls.specs.Taking.{driver_outcome, driver_told, hand_outcome, hand_told}
 
 -- ---- the ends are told with the index of a vector alone
 

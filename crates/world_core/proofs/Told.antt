@@ -9,7 +9,7 @@ use Rattle.ckpt_types.specs.declared.identities.Who.TheVariants.{Actor, Call}
 use Rattle.ckpt_types.specs.OpWord.{is_async, word_of_op}
 use Rattle.call_dispatch.specs.PendingCalls.{PendingCalls, ended_in}
 use Rattle.client_handles.specs.ClientState.{ClientState}
-use Rattle.world_core.specs.declared.hands.InHand.{InHand}
+use Rattle.client_calls.specs.declared.in_hand.InHand.{InHand}
 use Rattle.world_core.specs.declared.world.World.{World}
 use Rattle.cluster_record.specs.Calls.{client_of, put_actor, left}
 use Rattle.cluster_record.specs.StepDone.{StepDone}
@@ -19,13 +19,15 @@ use Rattle.ckpt_machine.specs.Steps.{ended_calls, handle_opened, left_in_hand, s
 use Rattle.ckpt_machine.specs.Whose.{put_who}
 use Rattle.ckpt_machine.proofs.ReplicaSteps.{put_actor-same}
 use Rattle.world_core.specs.Alone.{ended_at, ended_hands, ended_tables}
-use Rattle.world_core.specs.TableEnds.{table_ended}
-use Rattle.world_core.specs.TableState.{kept_by, kept_in, pending_by, pending_in}
+use Rattle.client_calls.specs.TableEnds.{table_ended}
+use Rattle.world_core.specs.TablesState.{kept_by, pending_by}
+use Rattle.client_calls.specs.TableState.{kept_in, pending_in}
 use Rattle.world_core.proofs.TableFields.{calls_are}
-use Rattle.world_core.specs.HandSteps.{hand_taken}
+use Rattle.client_calls.specs.HandSteps.{hand_taken}
 use Rattle.world_core.specs.Shows.{HistoryFits, History, machine_of}
 use Rattle.world_core.proofs.Held.{state_in, with_copy, IsCopyBehind, left_shown, left_fits, hand_fits}
-use Rattle.world_core.specs.HandsState.{HandsState, client_by, hand_at, name_of, set_at}
+use Rattle.world_core.specs.HandsState.{HandsState, hand_at, set_at}
+use Rattle.client_calls.specs.Names.{client_by, name_of}
 use Rattle.ckpt_types.specs.declared.identities.Who.{Who}
 use Rattle.world_core.proofs.Maps.{HasUnder, hand_left, with_steps, put_hand, fits_hand}
 

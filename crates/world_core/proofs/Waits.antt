@@ -26,16 +26,16 @@ use Rattle.ckpt_machine.specs.Steps.{IsBeginEnd, MayBegin, kept_at_beginning}
 use Rattle.ckpt_machine.specs.Tables.{handle_asked}
 use Rattle.ckpt_machine.proofs.BeginRows.{row_of}
 use Rattle.ckpt_machine.proofs.Whose.{stepped_as-plain, stepped_as-async}
-use Rattle.world_core.specs.declared.hands.InHand.{InHand}
+use Rattle.client_calls.specs.declared.in_hand.InHand.{InHand}
 use Rattle.world_core.specs.declared.world.World.{World}
 use Rattle.world_core.specs.Answering.{IsAnsweredAtOnce}
-use Rattle.world_core.specs.Begun.{IsHandBegun}
-use Rattle.world_core.specs.HandRooms.{room_for, copy_room_for}
+use Rattle.client_calls.specs.HandBegun.{IsHandBegun}
+use Rattle.client_calls.specs.HandRooms.{room_for, copy_room_for}
 use Rattle.world_core.specs.HandsState.{HandsState, HasAlone, hand_at, set_at, with_alone}
 use Rattle.world_core.specs.Happenings.{Begins}
 use Rattle.world_core.specs.Shows.{IsShown}
-use Rattle.world_core.specs.Standings.{standing_in}
-use Rattle.world_core.specs.TableState.{TableState, next_in, kept_by, pending_by, begun_with, at_client}
+use Rattle.world_core.specs.TablesState.{standing_in, kept_by, pending_by, at_client}
+use Rattle.client_calls.specs.TableState.{TableState, next_in, begun_with}
 use Rattle.world_core.proofs.AloneLaws.{client_set, with_alone-at}
 use Rattle.world_core.proofs.Answered.{told_alone, was_unrefused}
 use Rattle.world_core.proofs.Begin.{IsBegunAs, IsPutUnder, IsNextBegun, at_once, call_begins, idle}

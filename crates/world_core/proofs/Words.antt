@@ -6,7 +6,7 @@ use Rattle.ckpt_types.specs.declared.identities.Who.TheVariants.{Actor, Call}
 use Rattle.ckpt_types.specs.Limits.{nodes_max}
 use Rattle.run_labels.specs.declared.words.Said.TheVariants.{Idle}
 use Rattle.run_labels.specs.declared.labels.Label.TheVariants.{Word, Nodes}
-use Rattle.world_core.specs.declared.hands.InHand.{InHand}
+use Rattle.client_calls.specs.declared.in_hand.InHand.{InHand}
 use Rattle.cluster_record.specs.declared.entries.Entry.{Entry}
 use Rattle.world_core.specs.declared.world.World.{World}
 use Rattle.cluster_record.specs.RecordState.{RecordState, entry_of, brought_up, empty_record}
@@ -14,7 +14,7 @@ use Rattle.ckpt_machine.specs.Machine.{Machine}
 use Rattle.ckpt_machine.specs.Steps.{IsWord, after}
 use Rattle.world_core.specs.HandsState.{hand_at}
 use Rattle.world_core.specs.Shows.{Does, History, machine_of, shown_hand, where_not_complete, reserved_in}
-use Rattle.world_core.specs.Runs.{step_word}
+use Rattle.client_calls.specs.LineWords.{step_word}
 use Rattle.world_core.specs.Happenings.{IsIdle}
 use Rattle.world_core.proofs.HoldingLaws.{held_by_none}
 

@@ -12,8 +12,9 @@ use Rattle.cluster_record.specs.Calls.{client_of}
 use Rattle.ckpt_machine.specs.Steps.{goes_with, left_over}
 use Rattle.world_core.specs.declared.world.World.{World}
 use Rattle.world_core.specs.HandsState.{HandsState, without_all, without_call, without_those}
-use Rattle.world_core.specs.TableEnds.{table_ended}
-use Rattle.world_core.specs.TableState.{TableState, pending_by, with_calls, at_client}
+use Rattle.client_calls.specs.TableEnds.{table_ended}
+use Rattle.client_calls.specs.TableState.{TableState, with_calls}
+use Rattle.world_core.specs.TablesState.{pending_by, at_client}
 
 -- where a step has ended an asynchronous call, it is in hand no more
 abbrev pub ended_hands : Who → Option Outcome → HandsState → HandsState

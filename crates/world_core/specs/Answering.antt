@@ -14,8 +14,8 @@ use Rattle.ckpt_machine.specs.Steps.{MayBegin, IsBeginEnd}
 use Rattle.ckpt_machine.specs.Tables.{handle_asked}
 use Rattle.world_core.specs.declared.world.World.{World}
 use Rattle.world_core.specs.HandsState.{hand_at}
-use Rattle.world_core.specs.Standings.{standing_in}
-use Rattle.world_core.specs.TableState.{kept_by, next_in}
+use Rattle.world_core.specs.TablesState.{standing_in, kept_by}
+use Rattle.client_calls.specs.TableState.{next_in}
 
 -- the next call of a client, which has none in hand, with the handle of its place, may be answered so
 pub record IsAnsweredAtOnce (w : World) (c : ℕ) (call : CallId) (op : Op) (h : Option HandleView) (end : Outcome) : Type 0 where

@@ -18,8 +18,8 @@ use Rattle.node_msgs.specs.declared.steps.StepReply.{StepReply}
 use Rattle.ckpt_types.specs.declared.words.OpWord.{OpWord}
 use Rattle.node_msgs.specs.declared.steps.Verb.{Verb}
 use Rattle.ckpt_machine.specs.Drivers.{Rooms}
-use Rattle.world_core.specs.declared.hands.InHand.{InHand}
-use Rattle.world_core.specs.TableState.{kept_by}
+use Rattle.client_calls.specs.declared.in_hand.InHand.{InHand}
+use Rattle.world_core.specs.TablesState.{kept_by}
 use Rattle.world_core.specs.declared.world.Event.{Event}
 use Rattle.world_core.specs.declared.world.Event.TheVariants as happenings
 use Rattle.world_core.specs.declared.world.World.{World}
@@ -28,7 +28,8 @@ use Rattle.cluster_record.specs.RecordState.{empty_record, IsMomentFrom}
 use Rattle.ckpt_machine.specs.Driving.{driver_next}
 use Rattle.ckpt_types.specs.Asks.{IsBuilt}
 use Rattle.ckpt_machine.specs.Tables.{rooms_in}
-use Rattle.world_core.specs.HandsState.{client_by, hand_at}
+use Rattle.client_calls.specs.Names.{client_by}
+use Rattle.world_core.specs.HandsState.{hand_at}
 use Rattle.world_core.specs.Shows.{Does}
 use Rattle.world_core.specs.Runs.{AnswersBegin, GoesOn, MayBeStepped, HasNothingToStep, IsIdleWord, IsShownOf, IsPulledOf, IsPutOf}
 

@@ -3,8 +3,7 @@ use Rattle.std.specs.Prelude.{◌≡◌, ◌⊎◌, ℕ, ◌≤◌, List, IsSome
 use Rattle.cluster_record.specs.declared.entries.Entry.{Entry}
 use Rattle.cluster_record.specs.Places.{list_or}
 use Rattle.cluster_record.specs.RecordState.{RecordState, entry_of, is_up}
-use Rattle.replica.specs.Replicas.{Replica}
-use Rattle.replica.specs.Replicas.{opened_replica}
+use Rattle.replica.specs.Replicas.{Replica, opened_replica}
 
 -- the replicas on a node
 abbrev pub replicas_on : List (List Replica) → ℕ → List Replica

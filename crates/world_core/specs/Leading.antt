@@ -4,15 +4,8 @@ use Rattle.cluster_record.specs.declared.entries.Entry.{Entry}
 use Rattle.node_core.specs.Changing.{taken_over}
 use Rattle.replica.specs.Replicas.{Replica}
 use Rattle.snap_copy.specs.Snapshots.{Snapshot}
-use Rattle.ckpt_machine.specs.Drivers.{Driver}
-use Rattle.ckpt_machine.specs.Drivers as drivers
 use Rattle.world_core.specs.Nodes.{with_changed}
 use Rattle.world_core.specs.Propagating.{IsPuttable}
-
--- the checkpoint of a call that synchronizes it, or sets its active
-abbrev pub synchronized_by : Driver → Option ℕ
-synchronized_by (drivers.Sync u) = Some u.ckpt
-synchronized_by driver = None
 
 -- the checkpoint is there, and no call holds it
 abbrev pub HasFreeHold : Option Entry → Type 0

@@ -1,7 +1,7 @@
 -- A client that is live has the room for its handles and iterations.
 use Rattle.std.specs.Prelude.{◌≡◌, ℕ, List, Bool, true, false, Option, Some, None, slice_get}
 use Rattle.cluster_record.specs.RecordState.{RecordState, is_live_client}
-use Rattle.world_core.specs.TableState.{TableState}
+use Rattle.client_calls.specs.TableState.{TableState}
 
 -- whether a client has taken its room; one that is none has not
 abbrev pub room_is_taken : Option TableState → Bool

@@ -15,7 +15,7 @@ use Rattle.ckpt_machine.specs.Driving.{event_ckpt, event_refusal, takes_memory}
 use Rattle.ckpt_machine.specs.Drivers.{Driver}
 use Rattle.ckpt_machine.specs.Drivers as drivers
 use Rattle.cluster_record.specs.DueOnce.{OneStep, Enter, Unlink, Retain}
-use Rattle.cluster_record.specs.DueOpen.{OpenState}
+use Rattle.cluster_record.specs.DueOpen.{OpenState, making_ckpt}
 use Rattle.ckpt_types.specs.declared.calls.OpenAsk.{OpenAsk}
 use Rattle.ckpt_types.specs.declared.identities.CallId.{CallId}
 use Rattle.ckpt_types.specs.Limits.{clients_max}
@@ -27,10 +27,8 @@ use Rattle.cluster_record.specs.Calls.{IsClient}
 use Rattle.cluster_record.specs.RecordReady.{CanBecomeLive, CanOpen, CanRefer, CanReferAt}
 use Rattle.cluster_record.specs.Placement.{adds}
 use Rattle.cluster_record.specs.RecordState.{RecordState, named, entry_of, home_of}
-use Rattle.cluster_record.specs.DueOpen.{making_ckpt}
 use Rattle.cluster_record.specs.LookUps.{identity_in}
 use Rattle.cluster_record.specs.Makings.{IsMakingOf, making_call}
-use Rattle.drive_open.specs.OpenStates.{found_in}
 use Rattle.replica.specs.Replicas.{Replica}
 use Rattle.world_core.specs.Nodes.{replica_in}
 
@@ -76,16 +74,6 @@ abbrev pub IsRefusedAs : Option Outcome → RecordStep → Reply → Type 0
 IsRefusedAs (Some why) step (replies.Held by) = why ≡ outcomes.Refused TryAgain (Holder by)
 IsRefusedAs None step replies.NoMemory = IsTrue (takes_memory step)
 IsRefusedAs refusal step reply = ⊥
-
--- how a label tells that reply
-abbrev pub refusal_word : Reply → StepReply
-refusal_word replies.NoMemory = words.Memory
-refusal_word reply = words.Refused
-
--- the checkpoint of a step; of an open what it finds, which is this, or the call that is making it
-abbrev pub event_granted : RecordState → Driver → RecordStep → Result (Option ℕ) CallId
-event_granted R (drivers.Open o) events.Open = found_in (named o.ask.name R.entries)
-event_granted R driver step = Ok (event_ckpt R driver step)
 
 -- a step that the record does not refuse, with its checkpoint; or one that it refuses, with the call that keeps it off
 abbrev pub IsGrantedAt : RecordState → Driver → RecordStep → Result (Option ℕ) CallId → Type 0

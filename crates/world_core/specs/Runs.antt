@@ -11,24 +11,25 @@ use Rattle.ckpt_types.specs.declared.operation.Op.TheVariants as ops
 use Rattle.ckpt_types.specs.Limits.{client_numbers, nodes_max}
 use Rattle.run_labels.specs.declared.labels.Label.{Label}
 use Rattle.run_labels.specs.declared.labels.Label.TheVariants as labels
-use Rattle.run_labels.specs.declared.words.LineWord.{LineWord}
 use Rattle.run_labels.specs.declared.words.LineWord.TheVariants as linewords
 use Rattle.run_labels.specs.declared.words.Said.{Said}
 use Rattle.run_labels.specs.declared.words.Said.TheVariants.{Down, Idle}
 use Rattle.ckpt_types.specs.OpWord.{word_of_op, stepped_as}
 use Rattle.ckpt_machine.specs.Steps.{goes_on}
-use Rattle.world_core.specs.declared.hands.InHand.{InHand}
+use Rattle.client_calls.specs.declared.in_hand.InHand.{InHand}
 use Rattle.world_core.specs.declared.world.Event.{Event}
 use Rattle.world_core.specs.declared.world.Event.TheVariants as happenings
 use Rattle.world_core.specs.declared.world.World.{World}
 use Rattle.cluster_record.specs.RecordState.{empty_record, is_up, IsMomentFrom}
 use Rattle.call_dispatch.specs.PendingCalls.{no_pending}
-use Rattle.world_core.specs.TableState.{next_in, kept_by, pending_by}
+use Rattle.client_calls.specs.TableState.{next_in}
+use Rattle.world_core.specs.TablesState.{kept_by, pending_by}
 use Rattle.ckpt_types.specs.Asks.{IsBuilt}
 use Rattle.ckpt_machine.specs.Machine.{no_tables}
 use Rattle.world_core.specs.HandsState.{hand_at}
 use Rattle.world_core.specs.Shows.{Shows}
 use Rattle.ckpt_machine.specs.Runs.{last, IsRun}
+use Rattle.client_calls.specs.LineWords.{step_word}
 
 -- ---- the world after a log
 
@@ -103,11 +104,6 @@ AnswersBegin a op old new label = ⊥
 abbrev pub IsStepOf : Who → Option InHand → World → World → Label → Type 0
 IsStepOf v (Some h) old new (labels.Stepped call op verb k r reply end details) = (call ≡ h.call) × IsLeft h.call h.op end (hand_at new.hands v)
 IsStepOf v hand old new label = ⊥
-
--- the first word of the line that steps a call: `finish` to its end, else `step`
-abbrev pub step_word : Bool → LineWord
-step_word true = linewords.Finish
-step_word false = linewords.Step
 
 -- the label answers a line that steps a call with IDLE, and the calls in hand are as they were
 abbrev pub IsIdleWord : Who → Bool → World → World → Label → Type 0

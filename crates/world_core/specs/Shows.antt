@@ -9,7 +9,7 @@ use Rattle.world_core.specs.HandsState.{HandsState, hand_at}
 use Rattle.ckpt_types.specs.declared.attributes.CreationAttributes.{CreationAttributes}
 use Rattle.run_labels.specs.declared.labels.Label.{Label}
 use Rattle.client_handles.specs.ClientState.{ClientState}
-use Rattle.world_core.specs.declared.hands.InHand.{InHand}
+use Rattle.client_calls.specs.declared.in_hand.InHand.{InHand}
 use Rattle.cluster_record.specs.declared.entries.Entry.{Entry}
 use Rattle.ckpt_machine.specs.Drivers.{Driver}
 use Rattle.replica.specs.Replicas.{Replica}
@@ -18,7 +18,8 @@ use Rattle.stage_slot.specs.Slots.{Slot}
 use Rattle.weak_marks.specs.Marks.{Marked}
 use Rattle.world_core.specs.declared.world.World.{World}
 use Rattle.cluster_record.specs.RecordState.{RecordState, entry_of, complete_of}
-use Rattle.world_core.specs.TableState.{TableState, next_in, kept_by, pending_by}
+use Rattle.client_calls.specs.TableState.{TableState, next_in}
+use Rattle.world_core.specs.TablesState.{kept_by, pending_by}
 use Rattle.world_core.specs.declared.snapshots.Background.{Background}
 use Rattle.world_core.specs.Backgrounds.{pulled_in, HaveRooms}
 use Rattle.world_core.specs.Nodes.{replica_in}
@@ -29,7 +30,7 @@ use Rattle.ckpt_machine.specs.Driving.{Kept, driver_state}
 use Rattle.ckpt_machine.specs.Facts.{Facts}
 use Rattle.ckpt_types.specs.Asks.{Ask, asked}
 use Rattle.ckpt_machine.specs.Tables.{takes_copy}
-use Rattle.world_core.specs.HandRooms.{room_for}
+use Rattle.client_calls.specs.HandRooms.{room_for}
 use Rattle.ckpt_machine.specs.Machine.{Machine, Effect, Staged, ReplicaState, CallState, no_tables}
 use Rattle.ckpt_machine.specs.Machine as snapshots
 use Rattle.ckpt_machine.specs.Steps.{IsDue, after, snapshot_under}

@@ -1,7 +1,7 @@
 -- How many steps are left of a call in hand, at most: what whoever steps a call to its end counts down.
 use Rattle.std.specs.Prelude.{ℕ, ◌<◌, Option, Some, None, IfSome}
 use Rattle.ckpt_types.specs.declared.identities.Who.{Who}
-use Rattle.world_core.specs.declared.hands.InHand.{InHand}
+use Rattle.client_calls.specs.declared.in_hand.InHand.{InHand}
 use Rattle.world_core.specs.declared.world.Event.{Event}
 use Rattle.world_core.specs.declared.world.Event.TheVariants.{Step}
 use Rattle.world_core.specs.declared.world.World.{World}

@@ -4,36 +4,32 @@ ghost use Rattle.ckpt_types.specs.declared.answers.Outcome.TheVariants as outcom
 ghost use Rattle.node_msgs.specs.declared.details.Details.TheVariants as beside;
 ghost use Rattle.ckpt_types.specs.OpWord.{is_async, word_of_op};
 ghost use Rattle.call_dispatch.specs.PendingCalls.{callback_of, given_by};
-ghost use Rattle.world_core.specs.TableState.{at_client, begun_with, next_in, pending_by, CanBegin};
+ghost use Rattle.world_core.specs.TablesState.{at_client, pending_by};
+ghost use Rattle.client_calls.specs.TableState.{begun_with, next_in, CanBegin};
 ghost use Rattle.world_core.specs.Answering.{IsAnsweredAtOnce};
 ghost use Rattle.world_core.specs.Begun.{IsPutAlone};
 ghost use Rattle.world_core.specs.HandsState.{hand_at};
-ghost use Rattle.std.specs.Prelude.{◌≡◌, ◌<◌, ◌≤◌, None, Some, IfOk, IsSome, OnOk, OnErr, ◌-◌, ◌^◌, ◌++◌, ◌∷◌, [], IfSome, IsTrue, map, slice_get, true};
+ghost use Rattle.std.specs.Prelude.{◌≡◌, ◌<◌, ◌≤◌, None, Some, IfOk, IsSome, OnOk, OnErr, ◌-◌, ◌^◌, ◌++◌, ◌∷◌, [], IfSome, map, slice_get, true};
 ghost use Rattle.ckpt_types.specs.declared.identities.ActorName.TheVariants.{Client};
 ghost use Rattle.ckpt_types.specs.declared.identities.Who.TheVariants.{Actor};
 ghost use Rattle.ckpt_types.specs.Limits.{client_numbers, nodes_max};
-ghost use Rattle.run_labels.specs.declared.words.LineWord.TheVariants as linewords;
 ghost use Rattle.run_labels.specs.declared.labels.Label.TheVariants as labels;
 ghost use Rattle.cluster_record.specs.RecordState.{empty_record};
 ghost use Rattle.ckpt_types.specs.Asks.{asked, IsBuilt};
 ghost use Rattle.cluster_record.specs.Calls.{client_of, IsClient};
 ghost use Rattle.ckpt_machine.specs.Driving.{driver_start};
-ghost use Rattle.ckpt_machine.specs.Steps.{MayBegin, IsBeginEnd, kept_at_beginning, declared_at, room_at};
-ghost use Rattle.ckpt_machine.specs.Tables.{ckpt_of_handle};
-ghost use Rattle.world_core.specs.HandRooms.{room_for, copy_room_for};
+ghost use Rattle.ckpt_machine.specs.Steps.{MayBegin, kept_at_beginning};
 ghost use Rattle.world_core.specs.Shows.{IsShown, HasNumbersLeft};
 ghost use Rattle.world_core.specs.Happenings.{Adds, BringsUp, Begins};
 
-use crate::beginning::{begin_end, ckpt_of_handle, takes_room};
-use crate::drivers::Driver;
-use crate::hand_rooms::HandRooms;
-use crate::hands::{Hands, InHand, take_place};
+use crate::hands::Hands;
 use crate::world::World;
 use ckpt_types::{ActorName, Answer, Apart, CallId, Op, Outcome, Vector, Who};
+use client_calls::{begin_end, begin_hand, rooms_of, said, take_place, take_room};
 use client_handles::HandleView;
 use cluster_record::Record;
 use node_msgs::Details;
-use run_labels::{Label, LineWord, OpWord, RunLog, Said};
+use run_labels::{Label, OpWord, RunLog, Said};
 use std::alloc::{AllocError, Global};
 
 impl World {
@@ -113,7 +109,7 @@ impl World {
             return self.begin_answered(alloc, c, call, op, &handle, end, log);
         }
         let slot = self.hands.at_client(c);
-        let hand = in_hand(call, &op, &handle, &self.cluster, rooms)?;
+        let hand = begin_hand(call, &op, &handle, &self.cluster, rooms)?;
         self.tables.at(c).begin(call, &op, &handle, &None);
         take_place(slot, hand);
         log.push(Label::Began {
@@ -257,81 +253,6 @@ fn put_alone(
     ensures err { OnErr result (hands.new ≡ hands.old) }
 {
     let rooms = rooms_of(alloc, op, cluster, handle)?;
-    let hand = in_hand(call, op, handle, cluster, rooms)?;
+    let hand = begin_hand(call, op, handle, cluster, rooms)?;
     hands.add(hand)
-}
-
-// The room that an asynchronous call takes.
-fn rooms_of(
-    alloc: Global,
-    op: &Op,
-    cluster: &Record,
-    handle: &Option<HandleView>,
-) -> Result<HandRooms, AllocError>
-    ensures iteration { IfOk result (λ rooms. rooms.iteration ≡ room_for (asked op.now) (room_at cluster.now (ckpt_of_handle handle.now))) }
-    ensures snapshot { IfOk result (λ rooms. rooms.snapshot ≡ copy_room_for (asked op.now) (declared_at cluster.now (ckpt_of_handle handle.now))) }
-{
-    if !takes_room(op) {
-        return Ok(HandRooms::none());
-    }
-    HandRooms::reserve(alloc, op, cluster, ckpt_of_handle(handle))
-}
-
-// An operation that starts an iteration, or copies what the active has, takes the room for it where it goes on; where
-// the memory is refused, it ends.
-#[inline(always)]
-fn take_room(
-    alloc: Global,
-    op: &Op,
-    cluster: &Record,
-    handle: &Option<HandleView>,
-    due: Option<Outcome>,
-) -> (Option<Outcome>, HandRooms)
-    ensures end { IsBeginEnd (asked op.now) due result.0 }
-    ensures iteration { result.0 ≡ None → result.1.iteration ≡ room_for (asked op.now) (room_at cluster.now (ckpt_of_handle handle.now)) }
-    ensures snapshot { result.0 ≡ None → result.1.snapshot ≡ copy_room_for (asked op.now) (declared_at cluster.now (ckpt_of_handle handle.now)) }
-{
-    if !takes_room(op) || due.is_some() {
-        return (due, HandRooms::none());
-    }
-    match HandRooms::reserve(alloc, op, cluster, ckpt_of_handle(handle)) {
-        Ok(rooms) => (None, rooms),
-        Err(AllocError) => (Some(Outcome::NoMemory), HandRooms::none()),
-    }
-}
-
-fn said(c: u8, op: OpWord, said: Said) -> Label
-    ensures { result ≡ labels.Word (Actor (Client c)) (linewords.Op op) said }
-{
-    Label::Word(Who::Actor(ActorName::Client(c)), LineWord::Op(op), said)
-}
-
-// A call that goes on, as it is in hand from its beginning.
-#[inline(always)]
-fn in_hand(
-    call: CallId,
-    op: &Op,
-    handle: &Option<HandleView>,
-    cluster: &Record,
-    rooms: HandRooms,
-) -> Result<InHand, AllocError>
-    requires goes_on { IsSome (driver_start call (asked op.now) (kept_at_beginning cluster.now (client_of call) handle.now)) }
-    ensures hand { IfOk result (λ hand. hand ≡ record hand { call = call; op = op.now; iteration = rooms.iteration; snapshot = rooms.snapshot }) }
-    ensures driver { IfOk result (λ hand. driver_start call (asked op.now) (kept_at_beginning cluster.now (client_of call) handle.now) ≡ Some hand.driver) }
-{
-    let driver = Driver::start(call, op, handle, cluster)?;
-    let op = copy(op)?;
-    Ok(InHand {
-        call,
-        op,
-        driver,
-        iteration: rooms.iteration,
-        snapshot: rooms.snapshot,
-    })
-}
-
-fn copy(op: &Op) -> Result<Op, AllocError>
-    ensures { IfOk result (λ copied. copied ≡ op.now) }
-{
-    op.clone()
 }

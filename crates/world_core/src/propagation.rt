@@ -12,10 +12,10 @@ ghost use Rattle.world_core.specs.Runs.{IsPulledOf, IsPutOf};
 ghost use Rattle.world_core.specs.Shows.{IsShown};
 
 use crate::nodes::Nodes;
-use crate::options::is_all;
 use crate::snapshots::Snapshots;
 use crate::world::World;
 use ckpt_types::{CkptId, NodeId};
+use client_calls::is_all;
 use cluster_record::{Entry, Record, is_active};
 use replica::Replica;
 use run_labels::{Label, PullReply, PutReply, RunLog};

@@ -1,21 +1,24 @@
 //! The events by which a call holds a checkpoint, and sets its active.
-ghost use Rattle.std.specs.Prelude.{◌≡◌, ◌≤◌, ◌<◌, ◌==◌, length, not, slice_index};
-ghost use Rattle.ckpt_types.specs.Limits.{client_numbers, nodes_max};
+ghost use Rattle.std.specs.Prelude.{◌≡◌, ◌≤◌, ◌<◌, ◌==◌, IfSome, IsSomeAnd, length, not, slice_index};
+ghost use Rattle.std.specs.Option.{option_map};
+ghost use Rattle.replica.specs.Replicas.{pull_result, pulled_unless};
+ghost use Rattle.weak_marks.specs.Marks.{call_of};
+ghost use Rattle.ckpt_types.specs.Limits.{nodes_max};
 ghost use Rattle.cluster_record.specs.RecordState.{entry_of, hold_set, swept};
 ghost use Rattle.node_msgs.specs.declared.next.Next.TheVariants as nexts;
 ghost use Rattle.node_msgs.specs.declared.next.RecordStep.TheVariants as events;
-ghost use Rattle.world_core.specs.HandsState.{IsClientName};
+ghost use Rattle.client_calls.specs.Names.{IsClientName};
 ghost use Rattle.world_core.specs.Happenings.{Adds, IsNext, IsStep};
 ghost use Rattle.world_core.specs.Leading.{copy_held, nodes_led, CanLead, HasFreeHold};
 ghost use Rattle.world_core.specs.Nodes.{replica_in};
 ghost use Rattle.world_core.specs.Shows.{HasNumbersLeft, IsShown};
 
-use crate::hands::let_go;
-use crate::messages::stepped;
 use crate::nodes::Nodes;
 use crate::world::World;
-use ckpt_types::{CallId, CkptId, NodeId, Who};
+use ckpt_types::{CallId, CkptId, Held, NodeId, Who};
+use client_calls::{InHand, let_go, stepped};
 use cluster_record::{Entry, Record};
+use node_core::pull_whole;
 use node_msgs::{Reply, StepReply, Verb};
 use run_labels::RunLog;
 use snap_copy::Snap;
@@ -36,7 +39,7 @@ impl World {
         let call = hand.call;
         let op = hand.word();
         let ckpt = hand.synchronized();
-        match hand.copy(&self.nodes, r, ckpt) {
+        match copy(hand, &self.nodes, r, ckpt) {
             Err(held) => {
                 let end = hand.take_refusal(&self.cluster, &Reply::Held(held.by));
                 let_go(slot, &end);
@@ -148,4 +151,21 @@ fn is_complete(entry: &Entry, r: NodeId) -> bool
     ensures { result ≡ not (slice_index entry.now.complete r == 0) }
 {
     entry.complete[r as usize] != 0
+}
+
+// It copies what the replica of a checkpoint on a node has, unless the marks of a weak write keep it from that. It
+// takes no memory.
+fn copy(hand: &mut InHand, nodes: &Nodes, r: NodeId, ckpt: CkptId) -> Result<(), Held>
+    requires node { r < nodes_max }
+    requires there { IsSomeAnd hand.old.snapshot (λ s. IsSomeAnd (replica_in nodes.now ckpt r) (λ x. s.attributes ≡ x.attributes)) }
+    ensures answer { IfSome (replica_in nodes.now ckpt r) (λ x. result ≡ pull_result (call_of x.marks)) }
+    ensures new { IfSome (replica_in nodes.now ckpt r) (λ x. hand.new ≡ record hand.old { snapshot = option_map (pulled_unless (call_of x.marks) x) hand.old.snapshot }) }
+{
+    let Some(snap) = &mut hand.snapshot else {
+        unreachable!()
+    };
+    let Some(replica) = nodes.find(r, ckpt) else {
+        unreachable!()
+    };
+    pull_whole(replica, snap)
 }

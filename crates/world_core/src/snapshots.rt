@@ -6,13 +6,14 @@ ghost use Rattle.ckpt_types.specs.Attributes.{is_malformed};
 ghost use Rattle.ckpt_types.specs.Sections.{Fits};
 ghost use Rattle.cluster_record.specs.Places.{change_key, place_key};
 ghost use Rattle.cluster_record.specs.RecordState.{entry_of};
-ghost use Rattle.replica.specs.Replicas.{pull_result, pulled_unless};
+ghost use Rattle.replica.specs.Replicas.{pull_result};
 ghost use Rattle.weak_marks.specs.Marks.{call_of};
 ghost use Rattle.world_core.specs.Backgrounds.{background_in, background_key, backgrounds_left, pulled_in, filled_from, where_pulled, with_room_for};
 
-use crate::options::is_all;
 use ckpt_types::{CkptId, CreationAttributes, Held};
+use client_calls::is_all;
 use cluster_record::Record;
+use node_core::pull_whole;
 use replica::Replica;
 use snap_copy::Snap;
 use std::alloc::{AllocError, Global};
@@ -136,19 +137,6 @@ fn pull_into(background: &mut Background, replica: &Replica) -> Result<(), Held>
     pull_whole(replica, &mut background.snap)?;
     background.pulled = true;
     Ok(())
-}
-
-/// The snapshot has what a replica has, which declares the same, unless the marks of a weak write hold it off. It
-/// takes no memory.
-pub(crate) fn pull_whole(replica: &Replica, snap: &mut Snap) -> Result<(), Held>
-    requires { snap.old.attributes ≡ replica.now.attributes }
-    ensures answer { result ≡ pull_result (call_of replica.now.marks) }
-    ensures snap { snap.new ≡ pulled_unless (call_of replica.now.marks) replica.now snap.old }
-{
-    // The replica's sections keep to what it declares, and the snapshot has room for that.
-    let declared = replica.store().attributes();
-    prove!(declared == snap.attributes());
-    replica.pull(snap)
 }
 
 fn pulled_at(snapshots: &[Background], ckpt: CkptId) -> Option<&Snap>

@@ -1,43 +1,37 @@
 //! The event by which a call takes its next step.
-ghost use Rattle.std.specs.Prelude.{◌≡◌, ◌≢◌, ◌⊎◌, ℕ, ℤ, ◌<◌, ◌≤◌, Some, None, true, IsSomeAnd, OnOk, OnErr, length, slice_get};
+ghost use Rattle.std.specs.Prelude.{◌≡◌, ◌≢◌, ◌⊎◌, ◌<◌, ◌≤◌, Some, None, true, OnOk, OnErr, slice_get};
 ghost use Rattle.ckpt_types.specs.declared.identities.ActorName.TheVariants.{Client};
 ghost use Rattle.ckpt_types.specs.declared.identities.Who.TheVariants as whos;
 ghost use Rattle.node_msgs.specs.declared.next.Next.TheVariants as nexts;
 ghost use Rattle.node_msgs.specs.declared.next.RecordStep.TheVariants as events;
 ghost use Rattle.node_msgs.specs.declared.requests.Request.{Request};
 ghost use Rattle.node_msgs.specs.declared.requests.Request.TheVariants as requests;
-ghost use Rattle.run_labels.specs.declared.labels.Label.TheVariants as labels;
-ghost use Rattle.run_labels.specs.declared.words.Said.TheVariants.{Idle};
-ghost use Rattle.world_core.specs.Settling.{table_given, table_settled, table_looked, without_making_of, MayGive, MaySettle};
-ghost use Rattle.cluster_record.specs.LookUps.{creation_flags_of};
-ghost use Rattle.cluster_record.specs.RecordState.{entry_of};
+ghost use Rattle.world_core.specs.Settling.{without_making_of};
 ghost use Rattle.ckpt_machine.specs.Driving.{event_ckpt, event_refusal};
-ghost use Rattle.world_core.specs.RecordReady.{event_granted, IsPlain, IsRefusedAs};
-ghost use Rattle.world_core.specs.declared.hands.InHand.{InHand};
+ghost use Rattle.client_calls.specs.Granting.{event_granted};
+ghost use Rattle.world_core.specs.RecordReady.{IsPlain, IsRefusedAs};
+ghost use Rattle.client_calls.specs.declared.in_hand.InHand.{InHand};
 ghost use Rattle.world_core.specs.LiveRooms.{room_is_taken};
-ghost use Rattle.world_core.specs.Runs.{step_word};
 ghost use Rattle.world_core.specs.Alone.{calls_gone, ended_at, gone_with, gone_with_look, syncs_gone};
 ghost use Rattle.ckpt_machine.specs.Steps.{goes_with};
-ghost use Rattle.world_core.specs.HandsState.{client_by, hand_at, without_those, IsClientName};
+ghost use Rattle.client_calls.specs.Names.{client_by, IsClientName};
+ghost use Rattle.world_core.specs.HandsState.{hand_at, without_those};
 ghost use Rattle.world_core.specs.Shows.{IsShown, HasNumbersLeft};
 ghost use Rattle.world_core.specs.Happenings.{Adds, IsNext, IsStep, IsIdle};
 ghost use Rattle.ckpt_types.specs.declared.identities.CallId.{CallId};
-ghost use Rattle.ckpt_types.specs.declared.sections.Choice.{Choice};
-ghost use Rattle.ckpt_types.specs.Limits.{client_numbers, nodes_max};
+ghost use Rattle.ckpt_types.specs.Limits.{client_numbers};
 
 use crate::applying::apply;
-use crate::details::{told_details, told_read};
-use crate::drivers::{DriverKind, event_ckpt, event_granted, event_node};
-use crate::hands::{Hands, clear, client_by, hand_over, let_go};
-use crate::iterating::{keep_iteration, lend_iteration};
-use crate::lending::{elements_in, lent_by, reserve_for};
-use crate::messages::{look_word, refusal_word, served, stepped};
-use crate::table::Table;
+use crate::hands::Hands;
 use crate::world::World;
-use ckpt_types::{ActorName, CallId, CkptId, NodeId, Op, Outcome, Who};
-use cluster_record::Record;
+use ckpt_types::{ActorName, CallId, CkptId, NodeId, Outcome, Who};
+use client_calls::{
+    DriverKind, Table, clear, client_by, elements_in, event_ckpt, event_granted, event_node,
+    hand_over, idle_label, keep_iteration, lend_iteration, lent_by, let_go, look_word,
+    refusal_word, reserve_for, served, settle, settle_look, stepped, told_details, told_read,
+};
 use node_msgs::{Next, RecordStep, Reply, Request, StepReply, Verb};
-use run_labels::{Label, LineWord, RunLog, Said};
+use run_labels::RunLog;
 use std::alloc::{AllocError, Global};
 
 impl World {
@@ -447,59 +441,4 @@ fn forget_syncs(hands: &mut Hands, table: &Table, c: u8, closed: Option<u32>)
         return;
     };
     hands.forget_over(c, closed, pending);
-}
-
-fn idle_label(who: Who, finish: bool) -> Label
-    ensures { result ≡ labels.Word who (step_word finish) Idle }
-{
-    let word = if finish {
-        LineWord::Finish
-    } else {
-        LineWord::Step
-    };
-    Label::Word(who, word, Said::Idle)
-}
-
-// What a step of the record makes of its client's table.
-fn settle(table: &mut Table, cluster: &Record, op: &Op, step: &RecordStep, ckpt: Option<CkptId>)
-    requires { MaySettle op.now step.now table.old }
-    ensures { table.new ≡ table_settled cluster.now op.now step.now ckpt table.old }
-{
-    match step {
-        RecordStep::Enter => table.register(op),
-        RecordStep::Open | RecordStep::Finish => give(table, cluster, op, ckpt),
-        RecordStep::Close => table.close(op),
-        RecordStep::Leave => table.leave(),
-        _ => {}
-    }
-}
-
-// Where the record alone says that a call is done, the handle that it closes is closed.
-fn settle_look(table: &mut Table, op: &Op, end: &Outcome)
-    ensures { table.new ≡ table_looked end.now op.now table.old }
-{
-    match end {
-        Outcome::Done(_) => table.close(op),
-        _ => {}
-    }
-}
-
-// The client gets the handle that its open gives of the checkpoint, if there is one.
-fn give(table: &mut Table, cluster: &Record, op: &Op, ckpt: Option<CkptId>)
-    requires { MayGive op.now table.old }
-    ensures { table.new ≡ table_given cluster.now op.now ckpt table.old }
-{
-    if let Some(ckpt) = ckpt {
-        table.give(op, ckpt, creation_flags(cluster, ckpt));
-    }
-}
-
-// The creation flags of a checkpoint; 0 where it is gone.
-fn creation_flags(cluster: &Record, ckpt: CkptId) -> u32
-    ensures { result ≡ creation_flags_of (entry_of ckpt cluster.now.entries) }
-{
-    match cluster.declared(ckpt) {
-        None => 0,
-        Some(attributes) => attributes.creation_flags,
-    }
 }

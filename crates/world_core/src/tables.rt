@@ -2,11 +2,11 @@
 ghost use Rattle.std.specs.Prelude.{◌≡◌, ◌<◌, IfOk, Some, replicate, slice_get};
 ghost use Rattle.std.specs.Borrow.{sem};
 ghost use Rattle.ckpt_types.specs.Limits.{client_numbers};
-ghost use Rattle.world_core.specs.NewTable.{new_table};
+ghost use Rattle.client_calls.specs.NewTable.{new_table};
 ghost use Rattle.world_core.specs.TableLending.{LendsTable};
 
-use crate::table::Table;
 use ckpt_types::CLIENT_NUMBERS;
+use client_calls::Table;
 use std::alloc::{AllocError, Global};
 use std::marker::Model;
 
@@ -19,7 +19,7 @@ pub struct Tables {
 impl Model for Tables {
     ghost use Rattle.std.specs.Prelude.{List, length, ◌≡◌};
     ghost use Rattle.ckpt_types.specs.Limits.{client_numbers};
-    ghost use Rattle.world_core.specs.TableState.{TableState};
+    ghost use Rattle.client_calls.specs.TableState.{TableState};
 
     ghost Value = { List TableState };
 

@@ -15,7 +15,7 @@ returns-in-Ok-clause-new c =
     let s = c.in-Some-pulled.snap.now in
     left_as c.args.nodes.now c.args.ckpt c.args.r c.at.result.now c.at.ensures.value (installed s) c.install.new.self c.install.ensures.new
     ∙ put_as c.args.nodes.now c.args.ckpt c.args.r (entry_of c.args.ckpt c.args.cluster.now.entries) e c.in-Some.ensures.found (pulled_in c.args.snapshots.now c.args.ckpt) s c.in-Some-pulled.ensures.found
-        (sym c.takes_puts.ensures ∙ c.if-not-takes_puts.false) (eq-eqb s.generation e.generation (sym c.generation.ensures ∙ c.if-generation-entry.false))
+    (sym c.takes_puts.ensures ∙ c.if-not-takes_puts.false) (eq-eqb s.generation e.generation (sym c.generation.ensures ∙ c.if-generation-entry.false))
 
 pub returns-in-Err-clause-reply : goal.returns-in-Err-clause-reply
 returns-in-Err-clause-reply c = search rules
@@ -26,4 +26,4 @@ returns-in-Err-clause-new c =
     let s = c.in-Some-pulled.snap.now in
     left_as c.args.nodes.now c.args.ckpt c.args.r c.at.result.now c.at.ensures.value (installed s) c.install.new.self c.install.ensures.new
     ∙ put_as c.args.nodes.now c.args.ckpt c.args.r (entry_of c.args.ckpt c.args.cluster.now.entries) e c.in-Some.ensures.found (pulled_in c.args.snapshots.now c.args.ckpt) s c.in-Some-pulled.ensures.found
-        (sym c.takes_puts.ensures ∙ c.if-not-takes_puts.false) (eq-eqb s.generation e.generation (sym c.generation.ensures ∙ c.if-generation-entry.false))
+    (sym c.takes_puts.ensures ∙ c.if-not-takes_puts.false) (eq-eqb s.generation e.generation (sym c.generation.ensures ∙ c.if-generation-entry.false))

@@ -1,7 +1,7 @@
 use Rattle.std.proofs.Common.{◌≡◌, ◌++◌, ◌∷◌, [], arith, ap, ◌∙◌}
 use Rattle.std.specs.Prelude.{replicate}
 use Rattle.std.proofs.lemmas.List.{replicate-append-replicate}
-use Rattle.world_core.specs.NewTable.{new_table}
+use Rattle.client_calls.specs.NewTable.{new_table}
 use Rattle.world_core.proofs.tables.new_tables.Goals as goal
 
 pub loop-n-preserved : goal.loop-n-preserved

@@ -1,6 +1,6 @@
 use Rattle.std.proofs.Common.{◌≡◌}
 use Rattle.std.specs.Prelude.{replicate}
-use Rattle.world_core.specs.NewTable.{new_table}
+use Rattle.client_calls.specs.NewTable.{new_table}
 use Rattle.world_core.proofs.tables.new_tables.Given as goal
 
 abbrev pub invariant-loop-n : goal.invariant-loop-n

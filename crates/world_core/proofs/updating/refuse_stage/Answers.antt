@@ -9,9 +9,9 @@ use Rattle.run_labels.specs.declared.labels.Label.{Label}
 use Rattle.run_labels.specs.declared.labels.Label.TheVariants.{Stepped}
 use Rattle.cluster_record.specs.Calls.{left}
 use Rattle.node_core.specs.StageReplies.{reply_refused}
-use Rattle.world_core.specs.declared.hands.InHand.{InHand}
+use Rattle.client_calls.specs.declared.in_hand.InHand.{InHand}
 use Rattle.cluster_record.specs.Ends.{served_done}
-use Rattle.world_core.specs.HandSteps.{hand_taken, hand_end}
+use Rattle.client_calls.specs.HandSteps.{hand_taken, hand_end}
 use Rattle.world_core.proofs.Taking.{hand_ends, hand_keeps}
 use Rattle.world_core.proofs.updating.refuse_stage.Goals as goal
 

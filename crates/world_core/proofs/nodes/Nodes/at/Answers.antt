@@ -12,8 +12,7 @@ returns c =
     let nodes : List NodeState = c.self.inside.list.items in
     let here : NodeState = c.index_mut.result.now in
     let within : c.args.r < length nodes = omega (arith, c.requires.node, c.self.invariant.eight) in
-    let its : node_at (nodes_shown nodes) c.args.r ≡ here = node_is nodes c.self.invariant c.args.r here within ∙ sym c.index_mut.ensures.value in
-    (
+    let its : node_at (nodes_shown nodes) c.args.r ≡ here = node_is nodes c.self.invariant c.args.r here within ∙ sym c.index_mut.ensures.value in (
       (
         refl,
         λ w.

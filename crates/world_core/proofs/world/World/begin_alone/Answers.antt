@@ -1,7 +1,8 @@
 use Rattle.std.proofs.Common.{Some, refl, ap, ◌∙◌}
 use Rattle.ckpt_types.specs.declared.answers.Outcome.TheVariants as outcomes
 use Rattle.world_core.specs.HandsState.{HandsState}
-use Rattle.world_core.specs.TableState.{at_client, begun_with}
+use Rattle.world_core.specs.TablesState.{at_client}
+use Rattle.client_calls.specs.TableState.{begun_with}
 use Rattle.world_core.proofs.Answered.{can_alone}
 use Rattle.world_core.proofs.Begin.{answered_begins}
 use Rattle.world_core.proofs.Waits.{goes_alone, lacks_memory}

@@ -9,10 +9,10 @@ use Rattle.run_labels.specs.declared.labels.Label.TheVariants.{Began}
 use Rattle.ckpt_machine.specs.Beginning.{begin_end}
 use Rattle.ckpt_machine.specs.Steps.{IsBeginEnd, kept_at_beginning}
 use Rattle.ckpt_machine.specs.Tables.{handle_asked}
-use Rattle.world_core.specs.declared.hands.InHand.{InHand}
+use Rattle.client_calls.specs.declared.in_hand.InHand.{InHand}
 use Rattle.world_core.specs.Happenings.{Begins}
 use Rattle.world_core.specs.HandsState.{set_at}
-use Rattle.world_core.specs.TableState.{begun_with}
+use Rattle.client_calls.specs.TableState.{begun_with}
 use Rattle.world_core.proofs.HandPlaces.{left_alone}
 use Rattle.world_core.proofs.TableSteps.{changed_is, kept_is, next_is, standing_is, within}
 use Rattle.world_core.proofs.Waits.{none_there, next_begun, hand_begun, waits}

@@ -4,7 +4,7 @@ use Rattle.node_msgs.specs.declared.next.Next.TheVariants.{End}
 use Rattle.run_labels.specs.declared.labels.Label.{Label}
 use Rattle.ckpt_types.specs.Asks.{asked}
 use Rattle.ckpt_machine.specs.Tables.{handle_closed}
-use Rattle.world_core.specs.declared.hands.InHand.{InHand}
+use Rattle.client_calls.specs.declared.in_hand.InHand.{InHand}
 use Rattle.world_core.specs.Alone.{ended_at, gone_with_look}
 use Rattle.world_core.specs.Happenings.{IsStep}
 use Rattle.world_core.specs.HandsState.{set_at}

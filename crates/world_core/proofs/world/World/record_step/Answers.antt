@@ -12,7 +12,7 @@ use Rattle.world_core.specs.declared.world.World.{World}
 use Rattle.world_core.specs.Happenings.{IsStep}
 use Rattle.world_core.specs.Settling.{CanSettle}
 use Rattle.world_core.specs.RecordReady.{IsRefusedAs}
-use Rattle.world_core.specs.Taking.{hand_outcome}
+use Rattle.client_calls.specs.Taking.{hand_outcome}
 use Rattle.node_msgs.specs.declared.next.Next.TheVariants.{Event}
 use Rattle.ckpt_machine.specs.Driving.{takes_memory}
 use Rattle.ckpt_machine.specs.Tables.{handle_closed}

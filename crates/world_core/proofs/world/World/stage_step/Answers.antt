@@ -8,7 +8,7 @@ use Rattle.node_msgs.specs.declared.requests.Request.TheVariants.{Stage}
 use Rattle.replica.specs.Replicas.{answer_unless, outcome_on, staged}
 use Rattle.stage_slot.specs.Slots.{owner_of}
 use Rattle.ckpt_types.specs.OpWord.{word_of_op}
-use Rattle.world_core.specs.HandSteps.{AsksNode}
+use Rattle.client_calls.specs.HandSteps.{AsksNode}
 use Rattle.world_core.specs.Nodes.{replica_in, with_changed}
 use Rattle.world_core.proofs.HandPlaces.{left_alone}
 use Rattle.world_core.proofs.ServedSteps.{asks_of}
@@ -53,7 +53,7 @@ returns-in-Err-clause-ok c =
     let moment : to_z w64 (of_z w64 c.args.moment) ≡ c.args.moment = to_z-of_z w64 c.args.moment (record { sfits = c.ranges.moment.sfits }) in
     let x = c.at-replica.result.now in
     let answer = holds_there w.nodes c.args.ckpt c.args.r x c.at-replica.ensures.value (λ x. c.stage.result ≡ answer_unless (owner_of x.slot) (outcome_on x update c.args.moment))
-        (c.stage.ensures.answer ∙ ap (λ (t : ℤ). answer_unless (owner_of x.slot) (outcome_on x update t)) moment) in
+    (c.stage.ensures.answer ∙ ap (λ (t : ℤ). answer_unless (owner_of x.slot) (outcome_on x update t)) moment) in
     let nodes = left_as w.nodes c.args.ckpt c.args.r x c.at-replica.ensures.value (staged c.args.asked update c.args.moment) c.stage.new.self (c.stage.ensures.new ∙ ap (λ (t : ℤ). staged c.args.asked update t x) moment) in
     record {
       label = _;
@@ -70,7 +70,7 @@ returns-clause-ok c =
     let moment : to_z w64 (of_z w64 c.args.moment) ≡ c.args.moment = to_z-of_z w64 c.args.moment (record { sfits = c.ranges.moment.sfits }) in
     let x = c.at-replica.result.now in
     let answer = holds_there w.nodes c.args.ckpt c.args.r x c.at-replica.ensures.value (λ x. c.stage.result ≡ answer_unless (owner_of x.slot) (outcome_on x update c.args.moment))
-        (c.stage.ensures.answer ∙ ap (λ (t : ℤ). answer_unless (owner_of x.slot) (outcome_on x update t)) moment) in
+    (c.stage.ensures.answer ∙ ap (λ (t : ℤ). answer_unless (owner_of x.slot) (outcome_on x update t)) moment) in
     let nodes = left_as w.nodes c.args.ckpt c.args.r x c.at-replica.ensures.value (staged c.args.asked update c.args.moment) c.stage.new.self (c.stage.ensures.new ∙ ap (λ (t : ℤ). staged c.args.asked update t x) moment) in
     record {
       label = _;

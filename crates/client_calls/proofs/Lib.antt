@@ -1,0 +1,3 @@
+pub mod LentPlaces
+pub mod Taken
+pub mod AlonePlaces

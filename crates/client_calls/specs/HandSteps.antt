@@ -1,0 +1,28 @@
+-- What a step makes of a call in hand.
+use Rattle.std.specs.Prelude.{◌≡◌, ℕ, Option}
+use Rattle.ckpt_types.specs.declared.answers.Outcome.{Outcome}
+use Rattle.node_msgs.specs.declared.next.Next.TheVariants.{Serve}
+use Rattle.node_msgs.specs.declared.replies.Reply.{Reply}
+use Rattle.node_msgs.specs.declared.requests.Request.{Request}
+use Rattle.client_calls.specs.declared.in_hand.InHand.{InHand}
+use Rattle.cluster_record.specs.RecordState.{RecordState}
+use Rattle.cluster_record.specs.StepDone.{StepDone}
+use Rattle.ckpt_machine.specs.Drivers.{Driver, Rooms}
+use Rattle.ckpt_machine.specs.Driving.{driver_next, driver_taken, driver_end}
+
+-- this is what a call asks of a node next, by what its client has a free place for
+pub record AsksNode (R : RecordState) (x : Driver) (r : ℕ) (request : Request) : Type 0 where
+  pub rooms : Rooms
+  pub next_is : driver_next R rooms x ≡ Serve r request
+
+-- a call in hand behind a step: its driver keeps what it needs of it
+abbrev pub hand_taken : StepDone → InHand → InHand
+hand_taken d h = record h { driver = driver_taken d h.driver }
+
+-- how it ends by a node's reply, being as it is after the step
+abbrev pub hand_end : StepDone → Reply → InHand → Option Outcome
+hand_end d reply h = driver_end h.op d reply h.driver
+
+-- how a call ends by a node's reply, being as it was before the step
+abbrev pub end_by : StepDone → Reply → InHand → Option Outcome
+end_by d reply h = hand_end d reply (hand_taken d h)

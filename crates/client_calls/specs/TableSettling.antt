@@ -1,0 +1,46 @@
+-- What a step of the record makes of its client's table.
+use Rattle.std.specs.Prelude.{◌≡◌, ℕ, ◌-◌, ◌^◌, ◌<◌, Option, Some, None, true}
+use Rattle.ckpt_types.specs.declared.answers.Outcome.{Outcome}
+use Rattle.ckpt_types.specs.declared.answers.Outcome.TheVariants.{Done}
+use Rattle.ckpt_types.specs.declared.operation.Op.{Op}
+use Rattle.node_msgs.specs.declared.next.RecordStep.{RecordStep}
+use Rattle.node_msgs.specs.declared.next.RecordStep.TheVariants as events
+use Rattle.client_handles.specs.ClientState.{has_handle_room, emptied}
+use Rattle.cluster_record.specs.LookUps.{creation_flags_of}
+use Rattle.cluster_record.specs.RecordState.{RecordState, entry_of}
+use Rattle.ckpt_types.specs.Asks.{asked, IsBuilt}
+use Rattle.ckpt_machine.specs.Tables.{handle_given, closing, registering}
+use Rattle.client_calls.specs.TableState.{TableState, with_client}
+
+-- the client of an open gets a handle of a checkpoint, where there is one
+abbrev pub table_given : RecordState → Op → Option ℕ → TableState → TableState
+table_given R op None t = t
+table_given R op (Some k) t = with_client (handle_given (asked op) k (creation_flags_of (entry_of k R.entries))) t
+
+-- R is the record after the step; one that becomes live has registered its callbacks
+abbrev pub table_settled : RecordState → Op → RecordStep → Option ℕ → TableState → TableState
+table_settled R op events.Enter k t = with_client (registering (asked op)) t
+table_settled R op events.Open k t = table_given R op k t
+table_settled R op events.Finish k t = table_given R op k t
+table_settled R op events.Close k t = with_client (closing (asked op)) t
+table_settled R op events.Leave k t = with_client emptied t
+table_settled R op step k t = t
+
+-- where the record alone says that a call is done, its handle is closed, if it closes one
+abbrev pub table_looked : Outcome → Op → TableState → TableState
+table_looked (Done answer) op t = with_client (closing (asked op)) t
+table_looked end op t = t
+
+-- the operation is built, and its client has taken the room for handles, and has some left
+pub record MayGive (op : Op) (t : TableState) : Type 0 where
+  pub built : IsBuilt op
+  pub roomy : t.roomy ≡ true
+  pub room : has_handle_room t.client ≡ true
+  pub number : t.client.last_number < 2 ^ 32 - 1
+
+-- what a step asks of its client's table
+abbrev pub MaySettle : Op → RecordStep → TableState → Type 0
+MaySettle op events.Enter t = t.roomy ≡ true
+MaySettle op events.Open t = MayGive op t
+MaySettle op events.Finish t = MayGive op t
+MaySettle op step t = Unit {0}

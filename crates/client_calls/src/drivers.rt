@@ -1,0 +1,424 @@
+//! What drives a call: what it does next, and how it ends.
+ghost use Rattle.cluster_record.specs.Makings.{makings_of};
+ghost use Rattle.std.specs.Prelude.{◌≡◌, ◌-◌, ◌^◌, ◌<◌, Some, IfOk, IsSome};
+ghost use Rattle.std.specs.Option.{option_map};
+ghost use Rattle.ckpt_types.specs.Limits.{client_numbers, nodes_max};
+ghost use Rattle.ckpt_machine.specs.Driving.{driver_next, driver_taken, driver_start, on_kept, kind_of_change, change_start, active_start, sync_start, done_end, event_ckpt, event_node, making_in, takes_memory, refused_cause, index_told};
+ghost use Rattle.cluster_record.specs.StepDone.{done_of};
+ghost use Rattle.cluster_record.specs.Ends.{ended_unless};
+ghost use Rattle.client_calls.specs.CallStates.{synchronized_by, driver_in, step_in};
+ghost use Rattle.cluster_record.specs.Calls.{client_of};
+ghost use Rattle.cluster_record.specs.RecordState.{home_of};
+ghost use Rattle.ckpt_types.specs.Asks.{asked};
+ghost use Rattle.ckpt_machine.specs.Options.{is_all, is_weak};
+ghost use Rattle.ckpt_machine.specs.Steps.{declares_at, kept_at_beginning};
+ghost use Rattle.ckpt_machine.specs.Tables.{rooms_in};
+ghost use Rattle.node_msgs.specs.declared.replies.Reply.TheVariants as replies;
+ghost use Rattle.node_msgs.specs.declared.steps.StepReply.TheVariants as words;
+ghost use Rattle.node_msgs.specs.declared.steps.Verb.TheVariants as verbs;
+ghost use Rattle.ckpt_types.specs.declared.answers.Answer.TheVariants as answers;
+ghost use Rattle.client_calls.specs.UpdateSteps.{IsUpdate};
+ghost use Rattle.client_calls.specs.Granting.{event_granted};
+ghost use Rattle.client_calls.specs.Taking.{driver_outcome, driver_told};
+ghost use Rattle.ckpt_machine.specs.Drivers.{Once};
+ghost use Rattle.cluster_record.specs.DueOnce.{Close, Retain};
+
+use crate::beginning::{choice_of, ckpt_of_handle};
+use crate::one_step::OneStep;
+use crate::options::{is_all, is_weak};
+use crate::table::Table;
+use ckpt_types::{
+    Answer, CallId, Cause, CkptId, NodeId, Op, Outcome, SharedAttributes, SharedName, Update,
+};
+use client_handles::HandleView;
+use cluster_record::{ActiveKind, Record, SyncKind, number_of};
+use drive_active::ActiveCall;
+use drive_open::{OpenCall, SharedAsk};
+use drive_sync::SyncCall;
+use drive_update::UpdateCall;
+use node_msgs::{Next, RecordStep, Reply};
+use std::alloc::AllocError;
+use std::marker::Model;
+
+/// What drives a call that is in hand.
+#[derive(Drop)]
+pub struct Driver {
+    /// By the kind of its operation.
+    pub kind: DriverKind,
+}
+
+impl Model for Driver {
+    ghost use Rattle.ckpt_machine.specs.Drivers.{Driver};
+
+    ghost Value = { Driver };
+
+    ghost use Rattle.client_calls.specs.CallStates.{driver_in};
+
+    ghost view = { λ driver. driver_in driver.kind };
+}
+
+/// What drives the calls of each kind of operation.
+#[derive(Drop)]
+pub enum DriverKind {
+    /// A call of one step of the record.
+    Once(OneStep),
+    /// An open.
+    Open(OpenCall),
+    /// An all-replicas update.
+    Update(UpdateCall),
+    /// A call to the active replica.
+    Active(ActiveCall),
+    /// A call that brings what the active has to other replicas.
+    Sync(SyncCall),
+}
+
+impl Driver {
+    fn by(kind: DriverKind) -> Driver
+        ensures { result ≡ driver_in kind }
+    {
+        Driver { kind }
+    }
+
+    fn once(step: OneStep) -> Driver
+        ensures { result ≡ Once (step_in step) }
+    {
+        Driver::by(DriverKind::Once(step))
+    }
+
+    /// The driver of a call that begins now and goes on, on this handle if it names one that is there. The two share
+    /// the operation's name, if it has one.
+    #[inline(always)]
+    pub fn start(
+        call: CallId,
+        op: &Op,
+        handle: &Option<HandleView>,
+        cluster: &Record,
+    ) -> Result<Driver, AllocError>
+        requires goes_on { IsSome (driver_start call (asked op.now) (kept_at_beginning cluster.now (client_of call) handle.now)) }
+        ensures { IfOk result (λ driver. driver_start call (asked op.now) (kept_at_beginning cluster.now (client_of call) handle.now) ≡ Some driver) }
+    {
+        match op {
+            Op::Client(r, _, _) => Ok(Driver::once(OneStep::Enter(*r))),
+            Op::Open(_, name, _, timeout, attributes) => {
+                let ask = open_ask(name, attributes, number_of(&call.actor), cluster)?;
+                let deadline = cluster.moment_after(*timeout);
+                Ok(Driver::by(DriverKind::Open(OpenCall::begin(call, ask, Some(deadline)))))
+            }
+            Op::OpenAsync(_, _, name, _, attributes) => {
+                let ask = open_ask(name, attributes, number_of(&call.actor), cluster)?;
+                Ok(Driver::by(DriverKind::Open(OpenCall::begin(call, ask, None))))
+            }
+            Op::Create(_, update)
+            | Op::Delete(_, update)
+            | Op::Expire(_, update)
+            | Op::Write(_, update)
+            | Op::Over(_, update) => {
+                Ok(change_start(call, update.value(), cluster, ckpt_of_handle(handle)))
+            }
+            Op::Read(_, _) => Ok(active_start(call, ActiveKind::Read, ckpt_of_handle(handle))),
+            Op::Status(_) => Ok(active_start(call, ActiveKind::Status, ckpt_of_handle(handle))),
+            Op::Iter(_, _, chosen, time) => Ok(active_start(
+                call,
+                ActiveKind::Iterate(choice_of(*chosen, *time)),
+                ckpt_of_handle(handle),
+            )),
+            Op::Next(_) => Ok(active_start(call, ActiveKind::Next, ckpt_of_handle(handle))),
+            Op::Close(_) => Ok(close_start(ckpt_of_handle(handle))),
+            Op::Retain(_, duration) => Ok(retain_start(*duration, ckpt_of_handle(handle))),
+            Op::Unlink(name) => Ok(Driver::once(OneStep::Unlink(name.share()?))),
+            Op::Finalize => Ok(Driver::once(OneStep::Leave)),
+            Op::Sync(_, timeout) => {
+                let deadline = cluster.moment_after(*timeout);
+                let kind = SyncKind::Synchronize(Some(deadline));
+                Ok(sync_start(call, kind, ckpt_of_handle(handle)))
+            }
+            Op::SyncAsync(_, _) => {
+                Ok(sync_start(call, SyncKind::Synchronize(None), ckpt_of_handle(handle)))
+            }
+            Op::Active(_) => {
+                let node = node_of(cluster, number_of(&call.actor));
+                Ok(sync_start(call, SyncKind::ActiveSet(node), ckpt_of_handle(handle)))
+            }
+            _ => unreachable!(),
+        }
+    }
+
+    /// The checkpoint that the call is making, if it is.
+    pub fn making(&self) -> Option<CkptId>
+        ensures { result ≡ making_in self.now }
+    {
+        match &self.kind {
+            DriverKind::Open(open_call) => open_call.making(),
+            _ => None,
+        }
+    }
+
+    /// The checkpoint that the call synchronizes, or whose active it sets.
+    pub fn synchronized(&self) -> CkptId
+        requires { IsSome (synchronized_by self.now) }
+        ensures { synchronized_by self.now ≡ Some result }
+    {
+        let DriverKind::Sync(sync) = &self.kind else {
+            unreachable!()
+        };
+        sync.ckpt()
+    }
+
+    /// What the call does next, by the record and by what its client's tables have a free place for.
+    #[inline(always)]
+    pub fn next(&self, cluster: &Record, table: &Table, c: u8) -> Next
+        requires { c < client_numbers }
+        ensures { result ≡ driver_next cluster.now (rooms_in (makings_of c cluster.now.entries) table.now.client) self.now }
+    {
+        match &self.kind {
+            DriverKind::Once(step) => step.next(cluster),
+            DriverKind::Open(open_call) => {
+                open_call.next(cluster, table.has_place(cluster.makings(c)))
+            }
+            DriverKind::Update(update) => update.next(cluster),
+            DriverKind::Active(active) => active.next(cluster, table.has_iteration_room()),
+            DriverKind::Sync(sync) => sync.next(cluster),
+        }
+    }
+
+    /// The call takes a reply: of a node to what is next, or of the record to a step, with the record behind that. What
+    /// its operation ends with, if it ends.
+    #[inline(always)]
+    pub fn take(&mut self, op: &Op, cluster: &Record, reply: &Reply) -> Option<Outcome>
+        ensures new { self.new ≡ driver_told cluster.now reply.now self.old }
+        ensures outcome { result ≡ option_map (index_told op.now) (driver_outcome cluster.now reply.now self.old) }
+    {
+        let outcome = match &mut self.kind {
+            DriverKind::Update(update) => update.take(cluster, reply),
+            DriverKind::Active(active) => active.take(cluster, reply),
+            DriverKind::Sync(sync) => sync.take(cluster, reply),
+            DriverKind::Open(open_call) => open_call.take(cluster, reply),
+            DriverKind::Once(step) => step.take(reply),
+        };
+        index_told(op, outcome)
+    }
+
+    /// It takes that the record has done its step, on this checkpoint, as `take` of that reply; an open does so sooner.
+    #[inline(never)]
+    pub fn take_done(&mut self, op: &Op, cluster: &Record, ckpt: Option<CkptId>) -> Option<Outcome>
+        ensures new { self.new ≡ driver_told cluster.now (replies.Done answers.Nothing) self.old }
+        ensures outcome { result ≡ option_map (index_told op.now) (driver_outcome cluster.now (replies.Done answers.Nothing) self.old) }
+    {
+        let DriverKind::Open(open_call) = &mut self.kind else {
+            return self.take(op, cluster, &Reply::Done(Answer::Nothing));
+        };
+        index_told(op, open_call.take_step(cluster, ckpt))
+    }
+
+    /// The update takes that a node has staged it.
+    #[inline(always)]
+    pub fn staged(&mut self, cluster: &Record, ckpt: CkptId, r: NodeId)
+        requires update { IsUpdate self.old }
+        requires node { r < nodes_max }
+        ensures { self.new ≡ driver_taken (done_of cluster.now verbs.Stage (Some ckpt) (Some r) words.Ok) self.old }
+    {
+        let DriverKind::Update(update) = &mut self.kind else {
+            unreachable!()
+        };
+        update.staged(cluster, ckpt, r);
+    }
+
+    /// The update takes that a node has committed it. Whether it goes on, having a slot left.
+    #[inline(always)]
+    pub fn committed(&mut self, cluster: &Record, ckpt: CkptId, r: NodeId) -> bool
+        requires update { IsUpdate self.old }
+        requires node { r < nodes_max }
+        ensures new { self.new ≡ driver_taken (done_of cluster.now verbs.Commit (Some ckpt) (Some r) words.Ok) self.old }
+        ensures end { ended_unless result ≡ done_end (done_of cluster.now verbs.Commit (Some ckpt) (Some r) words.Ok) answers.Nothing self.new }
+    {
+        let DriverKind::Update(update) = &mut self.kind else {
+            unreachable!()
+        };
+        update.committed(cluster, ckpt, r)
+    }
+}
+
+// What an open asks of the record for its client.
+fn open_ask(
+    name: &SharedName,
+    attributes: &SharedAttributes,
+    client: u8,
+    cluster: &Record,
+) -> Result<SharedAsk, AllocError>
+    ensures { IfOk result (λ ask. ask ≡ record { name = name.now; attrs = attributes.now; client = client; node = home_of client cluster.now }) }
+{
+    Ok(SharedAsk {
+        name: name.share()?,
+        attributes: attributes.share()?,
+        client,
+        node: node_of(cluster, client),
+    })
+}
+
+// The node of a client; 0 where it is not live, and then its open ends at once.
+fn node_of(cluster: &Record, client: u8) -> NodeId
+    ensures { result ≡ home_of client cluster.now }
+{
+    match cluster.node_of(client) {
+        None => 0,
+        Some(node) => node,
+    }
+}
+
+// A refusal of a vector tells the index of its first refused element, and any other tells none.
+#[inline(always)]
+fn index_told(op: &Op, outcome: Option<Outcome>) -> Option<Outcome>
+    ensures { result ≡ option_map (index_told op.now) outcome }
+{
+    match outcome {
+        Some(Outcome::Refused(error, Cause::Index(index))) => {
+            Some(Outcome::Refused(error, refused_cause(op, index)))
+        }
+        _ => outcome,
+    }
+}
+
+// A refusal of a vector tells the index of its first refused element.
+fn refused_cause(op: &Op, index: u32) -> Cause
+    ensures { result ≡ refused_cause op.now index }
+{
+    match op {
+        Op::Write(_, _) | Op::Read(_, _) => Cause::Index(index),
+        _ => Cause::Plain,
+    }
+}
+
+// An update of all replicas, or of the active alone, as its checkpoint declares.
+fn change_start(call: CallId, update: &Update, cluster: &Record, ckpt: Option<CkptId>) -> Driver
+    requires { IsSome (change_start call (declares_at is_all cluster.now ckpt) (kind_of_change (declares_at is_weak cluster.now ckpt) update.now) ckpt) }
+    ensures { change_start call (declares_at is_all cluster.now ckpt) (kind_of_change (declares_at is_weak cluster.now ckpt) update.now) ckpt ≡ Some result }
+{
+    let Some(ckpt) = ckpt else { unreachable!() };
+    if is_all_at(cluster, ckpt) {
+        Driver::by(DriverKind::Update(UpdateCall::begin(call, ckpt)))
+    } else {
+        let kind = kind_of_change(is_weak_at(cluster, ckpt), update);
+        Driver::by(DriverKind::Active(ActiveCall::begin(call, ckpt, kind)))
+    }
+}
+
+// Whether updates of a checkpoint are on all its replicas.
+fn is_all_at(cluster: &Record, ckpt: CkptId) -> bool
+    ensures { result ≡ declares_at is_all cluster.now (Some ckpt) }
+{
+    match cluster.declared(ckpt) {
+        None => false,
+        Some(attributes) => is_all(&attributes),
+    }
+}
+
+// Whether writes of a checkpoint are weak.
+fn is_weak_at(cluster: &Record, ckpt: CkptId) -> bool
+    ensures { result ≡ declares_at is_weak cluster.now (Some ckpt) }
+{
+    match cluster.declared(ckpt) {
+        None => false,
+        Some(attributes) => is_weak(&attributes),
+    }
+}
+
+// A weak write is done element by element, any other update at once.
+fn kind_of_change(weak: bool, update: &Update) -> ActiveKind
+    ensures { result ≡ kind_of_change weak update.now }
+{
+    if !weak {
+        return ActiveKind::Apply;
+    }
+    match update {
+        Update::Write(elements) => ActiveKind::Weak(elements.as_slice().len() as u32),
+        _ => ActiveKind::Apply,
+    }
+}
+
+fn active_start(call: CallId, kind: ActiveKind, ckpt: Option<CkptId>) -> Driver
+    requires { IsSome (active_start call kind ckpt) }
+    ensures { active_start call kind ckpt ≡ Some result }
+{
+    let Some(ckpt) = ckpt else { unreachable!() };
+    Driver::by(DriverKind::Active(ActiveCall::begin(call, ckpt, kind)))
+}
+
+fn sync_start(call: CallId, kind: SyncKind, ckpt: Option<CkptId>) -> Driver
+    requires { IsSome (sync_start call kind ckpt) }
+    ensures { sync_start call kind ckpt ≡ Some result }
+{
+    let Some(ckpt) = ckpt else { unreachable!() };
+    Driver::by(DriverKind::Sync(SyncCall::begin(call, ckpt, kind)))
+}
+
+fn close_start(ckpt: Option<CkptId>) -> Driver
+    requires { IsSome (on_kept ckpt (λ k. Once (Close k))) }
+    ensures { on_kept ckpt (λ k. Once (Close k)) ≡ Some result }
+{
+    let Some(ckpt) = ckpt else { unreachable!() };
+    Driver::once(OneStep::Close(ckpt))
+}
+
+fn retain_start(duration: i64, ckpt: Option<CkptId>) -> Driver
+    requires { IsSome (on_kept ckpt (λ k. Once (Retain k duration))) }
+    ensures { on_kept ckpt (λ k. Once (Retain k duration)) ≡ Some result }
+{
+    let Some(ckpt) = ckpt else { unreachable!() };
+    Driver::once(OneStep::Retain(ckpt, duration))
+}
+
+/// The checkpoint of a step of the record, before it is done.
+pub fn event_ckpt(cluster: &Record, driver: &Driver, step: &RecordStep) -> Option<CkptId>
+    requires { cluster.now.last_identity < 2 ^ 32 - 1 }
+    ensures { result ≡ event_ckpt cluster.now driver.now step.now }
+{
+    match (&driver.kind, step) {
+        (DriverKind::Open(_), RecordStep::Create) => Some(cluster.last_identity() + 1),
+        (DriverKind::Open(open_call), RecordStep::Open) => cluster.find(open_call.name()),
+        (DriverKind::Open(open_call), RecordStep::Finish | RecordStep::Undo) => open_call.making(),
+        (DriverKind::Once(OneStep::Unlink(name)), RecordStep::Unlink) => cluster.find(name.value()),
+        (DriverKind::Once(OneStep::Close(ckpt)), RecordStep::Close) => Some(*ckpt),
+        (DriverKind::Once(OneStep::Retain(ckpt, _)), RecordStep::Retain) => Some(*ckpt),
+        (DriverKind::Sync(sync), RecordStep::Hold(_) | RecordStep::Activate(_)) => Some(
+            sync.ckpt(),
+        ),
+        _ => None,
+    }
+}
+
+/// The node of a step of the record.
+pub fn event_node(driver: &Driver, step: &RecordStep) -> Option<NodeId>
+    ensures { result ≡ event_node driver.now step.now }
+{
+    match (&driver.kind, step) {
+        (DriverKind::Once(OneStep::Enter(r)), RecordStep::Enter) => Some(*r),
+        (DriverKind::Sync(_), RecordStep::Hold(r) | RecordStep::Activate(r)) => Some(*r),
+        _ => None,
+    }
+}
+
+/// The checkpoint of a step that the record does not refuse, before it is done. What it refuses is an open of what
+/// another call is making: then that call.
+pub fn event_granted(
+    cluster: &Record,
+    driver: &Driver,
+    step: &RecordStep,
+) -> Result<Option<CkptId>, CallId>
+    requires { cluster.now.last_identity < 2 ^ 32 - 1 }
+    ensures { result ≡ event_granted cluster.now driver.now step.now }
+{
+    match (step, &driver.kind) {
+        (RecordStep::Open, DriverKind::Open(open_call)) => open_call.found(cluster),
+        _ => Ok(event_ckpt(cluster, driver, step)),
+    }
+}
+
+/// Whether a step of the record takes memory, and may be refused it.
+pub fn takes_memory(step: &RecordStep) -> bool
+    ensures { result ≡ takes_memory step.now }
+{
+    match step {
+        RecordStep::Enter | RecordStep::Open | RecordStep::Create => true,
+        _ => false,
+    }
+}

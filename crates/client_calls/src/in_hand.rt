@@ -1,0 +1,173 @@
+//! One call in hand, and the place in which it stands.
+ghost use Rattle.std.specs.Prelude.{◌≡◌, ◌<◌, Some, None, is_some, IsSome};
+ghost use Rattle.std.specs.Option.{option_and_then};
+ghost use Rattle.ckpt_types.specs.OpWord.{word_of_op};
+ghost use Rattle.ckpt_types.specs.declared.answers.Answer.TheVariants as answers;
+ghost use Rattle.node_msgs.specs.declared.replies.Reply.TheVariants as replies;
+ghost use Rattle.node_msgs.specs.declared.steps.StepReply.TheVariants as words;
+ghost use Rattle.node_msgs.specs.declared.steps.Verb.TheVariants as verbs;
+ghost use Rattle.client_calls.specs.UpdateSteps.{IsUpdate};
+ghost use Rattle.cluster_record.specs.Ends.{ended_unless};
+ghost use Rattle.ckpt_types.specs.Limits.{nodes_max};
+ghost use Rattle.cluster_record.specs.Calls.{left};
+ghost use Rattle.cluster_record.specs.StepDone.{done_of};
+ghost use Rattle.client_calls.specs.HandSteps.{hand_taken, hand_end};
+ghost use Rattle.client_calls.specs.Taking.{hand_outcome, hand_told};
+ghost use Rattle.client_calls.specs.CallStates.{synchronized_by};
+ghost use Rattle.ckpt_types.specs.declared.identities.Who.TheVariants.{Actor};
+ghost use Rattle.client_calls.specs.Names.{client_by};
+
+use crate::drivers::Driver;
+use ckpt_types::{CallId, CkptId, NodeId, Op, Outcome, Who};
+use cluster_record::{Record, number_of};
+use node_msgs::Reply;
+use run_labels::OpWord;
+use section_iter::Iteration;
+use snap_copy::Snap;
+
+/// A call that is begun and not ended.
+#[derive(Drop)]
+pub struct InHand {
+    /// The call.
+    pub call: CallId,
+    /// What it asks for.
+    pub op: Op,
+    /// What drives it.
+    pub driver: Driver,
+    /// The room that it took for an iteration.
+    pub iteration: Option<Iteration>,
+    /// The room that it took for a snapshot, with what it has pulled.
+    pub snapshot: Option<Snap>,
+}
+
+impl InHand {
+    /// The first word of the line that asked for the call.
+    pub fn word(&self) -> OpWord
+        ensures { result ≡ word_of_op self.now.op }
+    {
+        OpWord::of(&self.op)
+    }
+
+    /// It takes a reply: of a node to what is next, or of the record to a step, with the record behind that. What it ends
+    /// with, if it ends.
+    #[inline(always)]
+    pub fn take(&mut self, cluster: &Record, reply: &Reply) -> Option<Outcome>
+        ensures new { self.new ≡ hand_told cluster.now reply.now self.old }
+        ensures outcome { result ≡ hand_outcome cluster.now reply.now self.old }
+    {
+        self.driver.take(&self.op, cluster, reply)
+    }
+
+    /// It takes that the record has done its step, on this checkpoint, with the record behind that. What it ends with, if
+    /// it ends.
+    #[inline(always)]
+    pub fn take_done(&mut self, cluster: &Record, ckpt: Option<CkptId>) -> Option<Outcome>
+        ensures new { self.new ≡ hand_told cluster.now (replies.Done answers.Nothing) self.old }
+        ensures outcome { result ≡ hand_outcome cluster.now (replies.Done answers.Nothing) self.old }
+    {
+        self.driver.take_done(&self.op, cluster, ckpt)
+    }
+
+    /// It takes that its step was refused, by the record or for the memory that it takes. What it ends with, if it ends.
+    #[inline(never)]
+    pub fn take_refusal(&mut self, cluster: &Record, reply: &Reply) -> Option<Outcome>
+        ensures new { self.new ≡ hand_told cluster.now reply.now self.old }
+        ensures outcome { result ≡ hand_outcome cluster.now reply.now self.old }
+    {
+        self.take(cluster, reply)
+    }
+
+    /// The update takes that a node has staged it.
+    #[inline(always)]
+    pub fn staged(&mut self, cluster: &Record, ckpt: CkptId, r: NodeId)
+        requires update { IsUpdate self.old.driver }
+        requires node { r < nodes_max }
+        ensures { self.new ≡ hand_taken (done_of cluster.now verbs.Stage (Some ckpt) (Some r) words.Ok) self.old }
+    {
+        self.driver.staged(cluster, ckpt, r);
+    }
+
+    /// The update takes that a node has committed it. Whether it goes on, having a slot left.
+    #[inline(always)]
+    pub fn committed(&mut self, cluster: &Record, ckpt: CkptId, r: NodeId) -> bool
+        requires update { IsUpdate self.old.driver }
+        requires node { r < nodes_max }
+        ensures new { self.new ≡ hand_taken (done_of cluster.now verbs.Commit (Some ckpt) (Some r) words.Ok) self.old }
+        ensures end { ended_unless result ≡ hand_end (done_of cluster.now verbs.Commit (Some ckpt) (Some r) words.Ok) (replies.Done answers.Nothing) self.new }
+    {
+        self.driver.committed(cluster, ckpt, r)
+    }
+
+    /// The room that it has for a snapshot is taken out of it, with what it has pulled.
+    pub fn lend_snapshot(&mut self) -> Option<Snap>
+        ensures lent { result ≡ self.old.snapshot }
+        ensures new { self.new ≡ record self.old { snapshot = None } }
+    {
+        self.snapshot.take()
+    }
+
+    /// The checkpoint that it synchronizes, or whose active it sets.
+    pub fn synchronized(&self) -> CkptId
+        requires { IsSome (synchronized_by self.now.driver) }
+        ensures { synchronized_by self.now.driver ≡ Some result }
+    {
+        self.driver.synchronized()
+    }
+
+    /// The room that it has for an iteration is taken out of it.
+    pub fn lend(&mut self) -> Option<Iteration>
+        ensures lent { result ≡ self.old.iteration }
+        ensures new { self.new ≡ record self.old { iteration = None } }
+    {
+        self.iteration.take()
+    }
+}
+
+/// What one place has of a snapshot is in the other from then on. Where there is none, as of most calls, nothing is moved.
+pub fn hand_over(from: &mut Option<Snap>, to: &mut Option<Snap>)
+    ensures from { from.new ≡ None }
+    ensures to { to.new ≡ from.old }
+{
+    if from.is_some() || to.is_some() {
+        *to = from.take();
+    }
+}
+
+/// The number of the client whose call is stepped by this name.
+pub fn client_by(who: Who) -> u8
+    ensures { result ≡ client_by who }
+{
+    match who {
+        Who::Actor(actor) => number_of(&actor),
+        Who::Call(call) => number_of(&call.actor),
+    }
+}
+
+/// A call that has ended is in hand no more.
+pub fn let_go(slot: &mut Option<InHand>, end: &Option<Outcome>)
+    ensures { slot.new ≡ option_and_then (left end.now) slot.old }
+{
+    if end.is_some() {
+        clear(slot);
+    }
+}
+
+/// The call of a place is in hand no more. What it owns is given back here, and its callers know nothing of that.
+#[inline(always)]
+pub fn clear(slot: &mut Option<InHand>)
+    ensures { slot.new ≡ None }
+{
+    *slot = None;
+}
+
+/// A call that begins comes to its place. None is there, so nothing is given back.
+#[inline(always)]
+pub fn take_place(slot: &mut Option<InHand>, hand: InHand)
+    requires { slot.old ≡ None }
+    ensures { slot.new ≡ Some hand }
+{
+    if slot.is_some() {
+        unreachable!()
+    }
+    *slot = Some(hand);
+}

@@ -1,0 +1,33 @@
+//! What one client's call does, over the table of its client and its place among the calls in hand.
+#![tactic(auto)]
+
+mod alone;
+mod beginning;
+mod begun;
+mod details;
+mod drivers;
+mod hand_rooms;
+mod in_hand;
+mod iterating;
+mod kept_calls;
+mod kept_client;
+mod lending;
+mod messages;
+mod one_step;
+mod options;
+mod settling;
+mod table;
+
+pub use alone::AloneCalls;
+pub use beginning::begin_end;
+pub use begun::{begin_hand, rooms_of, take_room};
+pub use details::{told_details, told_read};
+pub use drivers::{Driver, DriverKind, event_ckpt, event_granted, event_node};
+pub use in_hand::{InHand, clear, client_by, hand_over, let_go, take_place};
+pub use iterating::{keep_iteration, lend_iteration};
+pub use lending::{creates, elements_in, lent_by, reserve_for, share_update};
+pub use messages::{done, goes_on, idle_label, look_word, refusal_word, said, served, stepped};
+pub use one_step::OneStep;
+pub use options::is_all;
+pub use settling::{settle, settle_look};
+pub use table::Table;

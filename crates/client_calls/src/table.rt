@@ -1,0 +1,395 @@
+//! What one client keeps: numbers, handles, iterations and places, and its asynchronous calls.
+ghost use Rattle.std.specs.Prelude.{◌≡◌, ◌-◌, ◌+◌, ◌^◌, ◌<◌, ◌≤◌, true, IfOk, IsSome, OnErr, OnOk, MatchOption, length, map, take};
+ghost use Rattle.ckpt_types.specs.declared.answers.Answer.{Answer};
+ghost use Rattle.ckpt_types.specs.Asks.{asked, IsBuilt};
+ghost use Rattle.ckpt_types.specs.Limits.{places_max, checkpoints_max};
+ghost use Rattle.client_handles.specs.ClientState.{handle_at, has_handle_room, has_iteration_room, iterated_at, iteration_at, kept_at, lent, returned, emptied, ended, IsLent, IsNotLent, IsValid};
+ghost use Rattle.call_dispatch.specs.PendingCalls.{callback_of, dispatched, given_answer, given_by, given_number, no_pending, pending_count, with_begun};
+ghost use Rattle.ckpt_machine.specs.Steps.{async_call, left_over};
+ghost use Rattle.ckpt_machine.specs.Tables.{handle_asked, handle_given, started, closing, handle_closed, has_place, places_set, registering};
+ghost use Rattle.client_calls.specs.NewTable.{new_table};
+ghost use Rattle.client_calls.specs.TableEnds.{table_ended};
+ghost use Rattle.client_calls.specs.TableState.{with_room, with_client, begun_with, with_calls, begun_done, CanBegin, CanBeginDone, CanGoOnAlone};
+
+use crate::kept_calls::{
+    async_call, begin_alone, callbacks_of, dispatch, given_of_none, new_pending,
+};
+use crate::kept_client::{
+    close, end, give, handle_opened, leave, lend, new_client, no_callbacks, register, start,
+    take_back,
+};
+use call_dispatch::Pending;
+use ckpt_types::{
+    AisError, CallId, Callback, CallbackSet, CkptId, Given, HANDLES_MAX, Op, Outcome,
+};
+use client_handles::{Client, HandleView};
+use section_iter::Iteration;
+use std::alloc::{AllocError, Global};
+use std::marker::Model;
+
+/// What a client keeps.
+#[derive(Drop)]
+pub struct Table {
+    /// The number of its next call.
+    next: u32,
+    /// Its handles, and the places that stand for them; nothing before their room was taken.
+    client: Option<Box<Client>>,
+    /// Its asynchronous calls that are not dispatched; nothing before their room was taken.
+    pending: Option<Box<Pending>>,
+}
+
+impl Model for Table {
+    ghost use Rattle.client_calls.specs.TableState.{TableState};
+
+    ghost Value = { TableState };
+
+    ghost use Rattle.client_calls.specs.TableView.{table_shown, HasClient};
+
+    ghost view = { table_shown };
+
+    ghost invariant = { HasClient };
+}
+
+impl Table {
+    /// The table of a client that has begun no call. Its room is taken later.
+    pub fn new() -> Table
+        ensures { result ≡ new_table }
+    {
+        Table {
+            next: 1,
+            client: None,
+            pending: None,
+        }
+    }
+
+    /// The room for the client's handles, iterations and asynchronous calls is taken, unless it was.
+    pub fn take_room(&mut self, alloc: Global) -> Result<(), AllocError>
+        ensures taken { OnOk result (self.new ≡ with_room self.old) }
+        ensures unchanged { OnErr result (self.new ≡ self.old) }
+    {
+        if self.client.is_some() {
+            return Ok(());
+        }
+        let client = new_client(alloc)?;
+        self.pending = Some(new_pending(alloc)?);
+        self.client = Some(client);
+        Ok(())
+    }
+
+    /// The number of the client's next call.
+    pub fn number(&self) -> u32
+        ensures { result ≡ self.now.next }
+    {
+        self.next
+    }
+
+    /// Whether there is a place for one handle more, where each of so many that are in the making has one.
+    pub fn has_place(&self, making: usize) -> bool
+        requires { making ≤ checkpoints_max }
+        ensures { result ≡ has_place making self.now.client }
+    {
+        match &self.client {
+            None => making < HANDLES_MAX,
+            Some(client) => client.handles_open() + making < HANDLES_MAX,
+        }
+    }
+
+    /// The callbacks that the client has registered.
+    pub fn callbacks(&self) -> CallbackSet
+        ensures { result ≡ self.now.client.callbacks }
+    {
+        match &self.client {
+            None => no_callbacks(),
+            Some(client) => client.callbacks(),
+        }
+    }
+
+    /// How many asynchronous calls are not dispatched.
+    pub fn pending_count(&self) -> usize
+        ensures { result ≡ pending_count self.now.pending }
+    {
+        match &self.pending {
+            None => 0,
+            Some(pending) => pending.len(),
+        }
+    }
+
+    /// How many callbacks a dispatch gives, and how many calls it leaves that have ended. `InvalidParam` where it has other
+    /// flags than there are.
+    pub fn given(&self, flags: u32) -> Result<Given, AisError>
+        ensures { result ≡ given_answer flags self.now.pending }
+    {
+        match &self.pending {
+            None => given_of_none(flags),
+            Some(pending) => pending.given(flags),
+        }
+    }
+
+    /// The callbacks of the calls that have ended first, so many.
+    pub fn callbacks_given(&self, alloc: Global, count: usize) -> Result<Vec<Callback>, AllocError>
+        requires { count ≤ length self.now.pending.finished }
+        ensures { IfOk result (λ callbacks. callbacks.items ≡ map callback_of (take count self.now.pending.finished)) }
+    {
+        match &self.pending {
+            None => Ok(Vec::new(alloc)),
+            Some(pending) => callbacks_of(alloc, &pending.finished()[..count]),
+        }
+    }
+
+    /// Whether there is a free place for an iteration.
+    pub fn has_iteration_room(&self) -> bool
+        ensures { result ≡ has_iteration_room self.now.client }
+    {
+        match &self.client {
+            None => true,
+            Some(client) => client.iteration_room(),
+        }
+    }
+
+    /// The asynchronous calls that are not dispatched; nothing before their room was taken.
+    pub fn pending(&self) -> Option<&Pending>
+        ensures { MatchOption result (self.now.pending ≡ no_pending) (λ pending. self.now.pending ≡ pending.now) }
+    {
+        match &self.pending {
+            None => None,
+            Some(pending) => Some(pending),
+        }
+    }
+
+    // The handle for which a place stands.
+    fn handle(&self, place: u8) -> Option<HandleView>
+        ensures { result ≡ handle_at place self.now.client }
+    {
+        match &self.client {
+            None => None,
+            Some(client) => client.handle(place).ok(),
+        }
+    }
+
+    // The handle over which the iteration goes for which a place stands.
+    fn iteration_handle(&self, place: u8) -> Option<HandleView>
+        ensures { result ≡ iterated_at place self.now.client }
+    {
+        match &self.client {
+            None => None,
+            Some(client) => client.iteration_handle(place).ok(),
+        }
+    }
+
+    /// The handle that an operation is about: that of its place, or that over which its iteration goes.
+    pub fn handle_asked(&self, op: &Op) -> Option<HandleView>
+        ensures { result ≡ handle_asked (asked op.now) self.now.client }
+    {
+        match op {
+            Op::Create(place, _)
+            | Op::Delete(place, _)
+            | Op::Expire(place, _)
+            | Op::Write(place, _)
+            | Op::Over(place, _)
+            | Op::Read(place, _)
+            | Op::Status(place)
+            | Op::Iter(_, place, _, _)
+            | Op::Close(place)
+            | Op::Retain(place, _)
+            | Op::Sync(place, _)
+            | Op::SyncAsync(place, _)
+            | Op::Active(place) => self.handle(*place),
+            Op::Next(iteration) | Op::EndIter(iteration) => self.iteration_handle(*iteration),
+            _ => None,
+        }
+    }
+
+    /// The client starts the iteration that an operation starts, over the handle of its place; nothing where that stands for
+    /// none. It takes no memory.
+    pub fn start(&mut self, op: &Op, iteration: Iteration)
+        requires built { IsBuilt op.now }
+        requires room { has_iteration_room self.old.client ≡ true }
+        requires number { self.old.client.last_iteration < 2 ^ 32 - 1 }
+        ensures { self.new ≡ with_client (started (asked op.now) iteration.room (λ choice. iteration.ids)) self.old }
+    {
+        if let Some(client) = &mut self.client {
+            start(client, op, iteration);
+        }
+    }
+
+    /// The iteration of a place is lent. The place goes on to stand for it.
+    pub fn lend_iteration(&mut self, place: u8) -> Option<Iteration>
+        requires place { place < places_max }
+        requires there { IsSome (iteration_at place self.old.client) }
+        requires here { IsNotLent place self.old.client }
+        ensures lent { result ≡ kept_at place self.old.client }
+        ensures valid { IsValid self.old.client }
+        ensures new { self.new ≡ with_client (lent place) self.old }
+    {
+        let Some(client) = &mut self.client else {
+            unreachable!()
+        };
+        lend(client, place)
+    }
+
+    /// The iteration of a place, which is lent, comes back.
+    pub fn return_iteration(&mut self, place: u8, iteration: Iteration)
+        requires place { place < places_max }
+        requires out { IsLent place self.old.client }
+        ensures { self.new ≡ with_client (returned place iteration) self.old }
+    {
+        let Some(client) = &mut self.client else {
+            unreachable!()
+        };
+        take_back(client, place, iteration);
+    }
+
+    /// The client begins one call more. Where it is answered OK, it has ended its iteration, is one that is not dispatched,
+    /// or has given callbacks. It takes no memory.
+    pub fn begin(
+        &mut self,
+        call: CallId,
+        op: &Op,
+        handle: &Option<HandleView>,
+        end: &Option<Outcome>,
+    )
+        requires number { self.old.next < 2 ^ 32 - 1 }
+        requires can { CanBegin end.now call op.now self.old }
+        ensures { self.new ≡ begun_with end.now call op.now handle.now self.old }
+    {
+        self.next += 1;
+        if let Some(Outcome::Done(_)) = end {
+            self.begin_done(call, op, handle);
+        }
+    }
+
+    // What an operation changes that is answered OK at its beginning.
+    #[inline(never)]
+    fn begin_done(&mut self, call: CallId, op: &Op, handle: &Option<HandleView>)
+        requires { CanBeginDone call op.now self.old }
+        ensures { (answer : Answer) → self.new ≡ begun_done answer call op.now handle.now self.old }
+    {
+        match op {
+            Op::EndIter(place) => self.end(*place),
+            Op::OpenAsync(..) | Op::SyncAsync(..) => self.go_on_alone(call, op, handle),
+            Op::Dispatch(flags) => self.dispatch(*flags),
+            _ => {}
+        }
+    }
+
+    // An asynchronous call goes on by itself.
+    fn go_on_alone(&mut self, call: CallId, op: &Op, handle: &Option<HandleView>)
+        requires { CanGoOnAlone call self.old }
+        ensures { self.new ≡ with_calls (with_begun (async_call call op.now handle.now)) self.old }
+    {
+        let Some(pending) = &mut self.pending else {
+            unreachable!()
+        };
+        begin_alone(pending, async_call(call, op, handle));
+    }
+
+    // Callbacks are given: the places of the opens that they tell are set, and the calls are dispatched.
+    fn dispatch(&mut self, flags: u32)
+        ensures { self.new ≡ record self.old { client = places_set (given_by flags self.old.pending) self.old.client; pending = dispatched (given_number flags self.old.pending) self.old.pending } }
+    {
+        let (Some(client), Some(pending)) = (&mut self.client, &mut self.pending) else {
+            return;
+        };
+        dispatch(client, pending, flags);
+    }
+
+    // The iteration of a place ends, if it stands for one.
+    fn end(&mut self, place: u8)
+        ensures { self.new ≡ with_client (ended place) self.old }
+    {
+        if let Some(client) = &mut self.client {
+            end(client, place);
+        }
+    }
+
+    /// The client becomes live with the callbacks that it registers.
+    pub fn register(&mut self, op: &Op)
+        requires { self.old.roomy ≡ true }
+        ensures { self.new ≡ with_client (registering (asked op.now)) self.old }
+    {
+        let Some(client) = &mut self.client else {
+            unreachable!()
+        };
+        register(client, op);
+    }
+
+    /// The number of the handle that an operation closes, if it closes one.
+    pub fn handle_closed(&self, op: &Op) -> Option<u32>
+        ensures { result ≡ handle_closed (asked op.now) self.now.client }
+    {
+        let Op::Close(place) = op else {
+            return None;
+        };
+        match self.handle(*place) {
+            None => None,
+            Some(handle) => Some(handle.handle),
+        }
+    }
+
+    /// An asynchronous call has ended, and waits for its dispatch. It takes no memory.
+    pub fn finish(&mut self, call: CallId, end: Outcome)
+        ensures { self.new ≡ table_ended call end self.old }
+    {
+        let (Some(client), Some(pending)) = (&self.client, &mut self.pending) else {
+            return;
+        };
+        pending.finish(call, handle_opened(client, &end), end);
+    }
+
+    /// The asynchronous synchronisations over a handle that is closed go, if one is.
+    pub fn forget_over(&mut self, handle: Option<u32>)
+        ensures { self.new ≡ with_calls (left_over handle) self.old }
+    {
+        let (Some(pending), Some(handle)) = (&mut self.pending, handle) else {
+            return;
+        };
+        pending.forget_over(handle);
+    }
+
+    /// All asynchronous calls go.
+    pub fn forget_all(&mut self)
+        ensures { self.new ≡ with_calls (λ p. no_pending) self.old }
+    {
+        if let Some(pending) = &mut self.pending {
+            pending.clear();
+        }
+    }
+
+    /// The client gets the handle of a checkpoint that an open gives, of the number after its last one, and the place of the
+    /// open stands for it. It takes no memory.
+    pub fn give(&mut self, op: &Op, ckpt: CkptId, creation_flags: u32)
+        requires built { IsBuilt op.now }
+        requires roomy { self.old.roomy ≡ true }
+        requires room { has_handle_room self.old.client ≡ true }
+        requires number { self.old.client.last_number < 2 ^ 32 - 1 }
+        ensures { self.new ≡ with_client (handle_given (asked op.now) ckpt creation_flags) self.old }
+    {
+        let Some(client) = &mut self.client else {
+            unreachable!()
+        };
+        give(client, op, ckpt, creation_flags);
+    }
+
+    /// The handle is closed that an operation closes, and the iterations over it end. Where its place stands for none nothing
+    /// changes. It takes no memory.
+    pub fn close(&mut self, op: &Op)
+        ensures { self.new ≡ with_client (closing (asked op.now)) self.old }
+    {
+        let Op::Close(place) = op else {
+            return;
+        };
+        if let Some(client) = &mut self.client {
+            close(client, *place);
+        }
+    }
+
+    /// All handles are closed, and all iterations end. The places then stand for none, and no number is given again. It takes
+    /// no memory.
+    pub fn leave(&mut self)
+        ensures { self.new ≡ with_client emptied self.old }
+    {
+        if let Some(client) = &mut self.client {
+            leave(client);
+        }
+    }
+}

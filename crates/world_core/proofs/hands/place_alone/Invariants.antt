@@ -1,7 +1,0 @@
-use Rattle.std.proofs.Common.{take}
-use Rattle.world_core.proofs.AloneLaws.{NoneHas}
-use Rattle.world_core.proofs.hands.place_alone.Given as goal
-
--- none of those that were passed is of this call
-abbrev pub invariant-loop-place : goal.invariant-loop-place
-invariant-loop-place l = NoneHas l.call (take l.place l.list)
