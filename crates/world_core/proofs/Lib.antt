@@ -27,6 +27,7 @@ pub mod Moving
 pub mod Named
 pub mod New
 pub mod NewCalls
+pub mod NoneGone
 pub mod Numbered
 pub mod OpenRoom
 pub mod Openings

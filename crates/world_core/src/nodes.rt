@@ -54,6 +54,15 @@ impl Nodes {
         })
     }
 
+    /// How many nodes there are.
+    #[inline(always)]
+    pub fn count(&self) -> usize
+        ensures len { result ≡ length self.now }
+        ensures eight { result ≡ nodes_max }
+    {
+        self.list.len()
+    }
+
     /// The answer of a node to a request, by what it sees of the record. What travels beside the request is lent, and
     /// what comes beside the reply stands in it. A reservation alone takes memory.
     pub fn serve(

@@ -22,6 +22,7 @@ ghost use Rattle.ckpt_types.specs.declared.identities.CallId.{CallId};
 ghost use Rattle.ckpt_types.specs.Limits.{client_numbers};
 
 use crate::applying::apply;
+use crate::gone::gone_by;
 use crate::hands::Hands;
 use crate::world::World;
 use ckpt_types::{ActorName, CallId, CkptId, NodeId, Outcome, Who};
@@ -310,6 +311,7 @@ impl World {
         let op = hand.word();
         let node = event_node(&hand.driver, &step);
         let verb = step.verb();
+        let before = gone_by(&self.cluster);
         let applied = apply(
             alloc,
             &mut self.cluster,
@@ -334,7 +336,7 @@ impl World {
         let end = hand.take_done(&self.cluster, ckpt);
         let_go(slot, &end);
         self.let_go_with(c, &step, closed);
-        self.free_gone();
+        self.free_gone_since(before);
         self.end_alone(who, &end);
         log.push(stepped(call, op, verb, ckpt, node, StepReply::Ok, end));
     }

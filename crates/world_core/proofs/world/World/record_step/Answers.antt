@@ -23,6 +23,7 @@ use Rattle.world_core.specs.Freeing.{freed_world}
 use Rattle.world_core.proofs.EventEnds.{done_ends, done_keeps, refused_ends}
 use Rattle.world_core.proofs.Going.{length-behind}
 use Rattle.world_core.proofs.Held.{next_for}
+use Rattle.world_core.proofs.NoneGone.{none_freed}
 use Rattle.world_core.proofs.RecordSteps.{can_add, can_settle, is_found, is_ready, when_ok, when_err, event_step, refused_step}
 use Rattle.world_core.proofs.TableSteps.{kept_is, may_settle, settled_is}
 use Rattle.world_core.proofs.world.World.record_step.Goals as goal
@@ -76,6 +77,22 @@ returns-then-is_err c =
           (c.end_alone.ensures ∙ (λ i. ended_at c.args.who (end_is i) (record w { cluster = same.0 i; nodes = same.1 i; snapshots = same.2 i; hands = set_at w.hands c.args.who (gone i) }))) (c.requires.ckpt hand held) c.event_node-node.ensures c.word-op.ensures c.verb-verb.ensures);
     }
 
+-- behind the apply, where it takes place
+pub free_gone_since-requires : goal.free_gone_since-requires
+free_gone_since-requires c =
+    let w = c.args.self.now in
+    let hand = c.in-Some.hand in
+    let shows = c.requires.shown.shows in
+    let ok = sym c.is_err.ensures.value ∙ c.if-is_err.false in
+    let record_is : c.apply-applied.new.cluster ≡ event_after hand.call hand.driver c.args.step w.cluster = when_ok (c.apply-applied.new.cluster ≡ event_after hand.call hand.driver c.args.step w.cluster) c.apply-applied.result ok c.apply-applied.ensures.ok in
+    let nodes_are : c.apply-applied.new.nodes ≡ nodes_behind hand.driver c.args.step w.cluster w.nodes = when_ok (c.apply-applied.new.nodes ≡ nodes_behind hand.driver c.args.step w.cluster w.nodes) c.apply-applied.result ok c.apply-applied.ensures.nodes in
+    let snapshots_are : c.apply-applied.new.snapshots ≡ snapshots_behind hand.driver c.args.step w.cluster w.snapshots = when_ok (c.apply-applied.new.snapshots ≡ snapshots_behind hand.driver c.args.step w.cluster w.snapshots) c.apply-applied.result ok c.apply-applied.ensures.snapshots in
+    record {
+      none = λ same. none_freed w c.let_go_with.new.self hand.call hand.driver c.args.step c.gone_by-before.result shows.holds shows.keeps
+          (ap (λ (x : World). x.cluster) c.let_go_with.ensures ∙ record_is) (ap (λ (x : World). x.nodes) c.let_go_with.ensures ∙ nodes_are) (ap (λ (x : World). x.snapshots) c.let_go_with.ensures ∙ snapshots_are)
+          c.gone_by-before.ensures same;
+    }
+
 pub returns : goal.returns
 returns c =
     let w = c.args.self.now in
@@ -86,11 +103,11 @@ returns c =
     let record_is : c.apply-applied.new.cluster ≡ event_after hand.call hand.driver c.args.step w.cluster = when_ok (c.apply-applied.new.cluster ≡ event_after hand.call hand.driver c.args.step w.cluster) c.apply-applied.result ok c.apply-applied.ensures.ok in
     let nodes_are : c.apply-applied.new.nodes ≡ nodes_behind hand.driver c.args.step w.cluster w.nodes = when_ok (c.apply-applied.new.nodes ≡ nodes_behind hand.driver c.args.step w.cluster w.nodes) c.apply-applied.result ok c.apply-applied.ensures.nodes in
     let snapshots_are : c.apply-applied.new.snapshots ≡ snapshots_behind hand.driver c.args.step w.cluster w.snapshots = when_ok (c.apply-applied.new.snapshots ≡ snapshots_behind hand.driver c.args.step w.cluster w.snapshots) c.apply-applied.result ok c.apply-applied.ensures.snapshots in
-    let eight : length w.nodes ≡ 8 = sym (ap length nodes_are ∙ length-behind hand.driver c.args.step w.cluster w.nodes) ∙ sym (ap (λ (x : World). length x.nodes) c.let_go_with.ensures) ∙ c.free_gone.ensures.eight in
+    let eight : length w.nodes ≡ 8 = sym (ap length nodes_are ∙ length-behind hand.driver c.args.step w.cluster w.nodes) ∙ sym (ap (λ (x : World). length x.nodes) c.let_go_with.ensures) ∙ c.free_gone_since.ensures.eight in
     let there = c.at-table.ensures.value in
     let tables_are = ap (slice_set w.tables c.client_by-c.result) c.settle.ensures ∙ settled_is w.tables c.client_by-c.result _ there c.apply-applied.new.cluster hand.op c.args.step c.args.ckpt in
     let closed_is = c.handle_closed-closed.ensures ∙ ap (handle_closed (asked hand.op)) (sym (kept_is w.tables c.client_by-c.result _ there)) in
-    let new_is = c.end_alone-2.ensures ∙ ap (ended_at c.args.who c.take_done-end.result) (c.free_gone.ensures.new ∙ ap freed_world c.let_go_with.ensures) in
+    let new_is = c.end_alone-2.ensures ∙ ap (ended_at c.args.who c.take_done-end.result) (c.free_gone_since.ensures.new ∙ ap freed_world c.let_go_with.ensures) in
     record {
       label = _;
       labels = c.push-2.ensures.labels;
