@@ -51,7 +51,7 @@ use Rattle.ckpt_machine.proofs.OptionLemmas.{IsSomeAnd-at, IsSomeAnd-from, IfSom
 use Rattle.ckpt_machine.proofs.Propagated.{complete_there}
 use Rattle.ckpt_machine.proofs.Refusing.{row_at_ckpt, at_node, at_none, at_node_alone}
 use Rattle.ckpt_machine.proofs.Runs.{last-push, run_before, run_front}
-use Rattle.ckpt_machine.proofs.SettingActive.{with_active-identity}
+use Rattle.ckpt_machine.proofs.HeldIdentity.{with_active-identity}
 use Rattle.ckpt_machine.proofs.SettingHeld.{IsSettingOf, all_setting}
 use Rattle.ckpt_machine.proofs.SyncSteps.{drives_setting}
 

@@ -58,7 +58,7 @@ use Rattle.ckpt_machine.proofs.Actors.{same_call-true}
 use Rattle.ckpt_machine.proofs.BeginRows.{row_of}
 use Rattle.ckpt_machine.proofs.Begun.{is_new, own_name_idle, IsBeginning, begun_keeps, begun_live, update_begins}
 use Rattle.ckpt_machine.proofs.CallsPending.{calls_begun}
-use Rattle.ckpt_machine.proofs.ClientTables.{same_tables}
+use Rattle.ckpt_machine.proofs.ByActor.{same_tables}
 use Rattle.ckpt_machine.proofs.EndedTables.{client_by_number, ended_at_once_keeps}
 use Rattle.ckpt_machine.proofs.OptionLemmas.{IfSome-from, IfSome-at}
 use Rattle.ckpt_machine.proofs.Served.{slice_get-replicate}

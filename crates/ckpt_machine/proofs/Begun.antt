@@ -38,7 +38,7 @@ use Rattle.ckpt_machine.proofs.NodeLists.{has-none, slice_index-replicate}
 use Rattle.ckpt_machine.proofs.Lives.{LivesOn, owner_in}
 use Rattle.ckpt_machine.proofs.OtherCalls.{IsIn-apart, IsGoodIn-apart}
 use Rattle.ckpt_machine.proofs.Owning.{is_owner-true}
-use Rattle.ckpt_machine.proofs.ReplicaSteps.{put_actor-here}
+use Rattle.ckpt_machine.proofs.ByActor.{put_actor-here}
 use Rattle.ckpt_machine.proofs.Whose.{put_who-cases, put_who-other, held_by_other}
 
 -- ---- a client that is live, and its calls

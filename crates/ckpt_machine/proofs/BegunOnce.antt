@@ -24,7 +24,7 @@ use Rattle.ckpt_machine.proofs.Actors.{same_actor-true}
 use Rattle.ckpt_machine.proofs.BegunBefore.{all_began, begun_more}
 use Rattle.ckpt_machine.proofs.Quiet.{quiet}
 use Rattle.ckpt_machine.proofs.Histories.{HasHistory, follows, run_history}
-use Rattle.ckpt_machine.proofs.ReplicaSteps.{put_actor-here}
+use Rattle.ckpt_machine.proofs.ByActor.{put_actor-here}
 use Rattle.ckpt_machine.proofs.Runs.{along, last-push, run_before, run_front}
 
 -- ---- the number of an actor's next call

@@ -32,53 +32,15 @@ use Rattle.ckpt_machine.specs.Whose.{put_who, same_who, is_of}
 use Rattle.ckpt_machine.proofs.Actors.{same_actor-refl, same_actor-true}
 use Rattle.ckpt_machine.proofs.KeptLists.{among_filtered, among_dropped, among_mapped, among_images, among_none, found_among, none_found, found_filtered, found_front, found_last}
 use Rattle.ckpt_machine.proofs.OptionLemmas.{IsSomeAnd-at, IsSomeAnd-from}
-use Rattle.ckpt_machine.proofs.ReplicaSteps.{put_actor-here, put_actor-other}
+use Rattle.ckpt_machine.proofs.ByActor.{put_actor-here, put_actor-other}
 use Rattle.ckpt_machine.proofs.Whose.{put_who-cases, stepped_as-async}
-
--- ---- names, as the calls that are not dispatched compare them
-
--- what is tested to be a call is it
-pub is_call-true : (a b : CallId) → is_call a b ≡ true → a ≡ b
-is_call-true a b is =
-    let (actors, numbers) = and_parts (is_actor a.actor b.actor) (a.number == b.number) is in
-    let actor = is_actor-true a.actor b.actor actors in
-    let number = eqb-true a.number b.number numbers in
-    λ i. record { actor = actor i; number = number i }
-  where
-    is_actor-true : (x y : ActorName) → is_actor x y ≡ true → x ≡ y
-    is_actor-true (Client c) (Client d) is = ap Client (eqb-true c d is)
-    is_actor-true (Node r) (Node q) is = ap Node (eqb-true r q is)
-    is_actor-true (Client c) (Node q) is = absurd (cc is)
-    is_actor-true (Node r) (Client d) is = absurd (cc is)
-
--- a call is itself
-pub is_call-refl : (c : CallId) → is_call c c ≡ true
-is_call-refl c = λ i. is_actor-refl c.actor i && eq-eqb c.number c.number refl i
-  where
-    is_actor-refl : (x : ActorName) → is_actor x x ≡ true
-    is_actor-refl (Client d) = eq-eqb d d refl
-    is_actor-refl (Node r) = eq-eqb r r refl
-
--- and no other
-pub is_call-false : (a b : CallId) → a ≢ b → is_call a b ≡ false
-is_call-false a b other = elim (is_call a b) as (λ t. is_call a b ≡ t → is_call a b ≡ false) [ true ↦ λ same. absurd (other (is_call-true a b same)) | false ↦ λ apart. apart ] refl
-
--- what is found of a name has it
-pub find_async-name : (call : CallId) (calls : List AsyncCall) (c : AsyncCall) → find_async call calls ≡ Some c → c.call ≡ call
-find_async-name call calls c found = let (among, passes) = found_among (λ (kept : AsyncCall). is_call call kept.call) calls c found in sym (is_call-true call c.call passes)
+use Rattle.ckpt_machine.proofs.PendingNames.{is_call-true, is_call-refl, is_call-false, find_async-name, among_unfinished, among_finished}
 
 -- ---- what is among those that are not dispatched
 
 -- each of these is, by its name, one of those
 abbrev IsAmong : PendingCalls → PendingCalls → Type 0
 IsAmong old new = (c : AsyncCall) → Contains (calls_of new) c → (d : AsyncCall) × Contains (calls_of old) d × (c.call ≡ d.call)
-
--- one under way, and one that has ended
-pub among_unfinished : (p : PendingCalls) (c : AsyncCall) → Contains p.unfinished c → Contains (calls_of p) c
-among_unfinished p c there = Contains-append_left p.unfinished _ c there
-
-pub among_finished : (p : PendingCalls) (e : EndedCall) → Contains p.finished e → Contains (calls_of p) e.asked
-among_finished p e there = Contains-append_right p.unfinished _ e.asked (among_images (λ (ended : EndedCall). ended.asked) p.finished e there)
 
 -- it is one or the other
 pub among_cases : (p : PendingCalls) (c : AsyncCall) → Contains (calls_of p) c → Contains p.unfinished c ⊎ ((e : EndedCall) × Contains p.finished e × (e.asked ≡ c))

@@ -21,12 +21,8 @@ use Rattle.ckpt_machine.specs.Shape.{Shape}
 use Rattle.ckpt_machine.proofs.Actors.{same_actor-true}
 use Rattle.ckpt_machine.proofs.Lives.{LivesOn, lives_on-fewer}
 use Rattle.ckpt_machine.proofs.OtherCalls.{LooksAlike, LooksLater-refl, making_still, IsInHand-alike, IsGoodIn-alike}
-use Rattle.ckpt_machine.proofs.ReplicaSteps.{put_actor-same}
+use Rattle.ckpt_machine.proofs.ByActor.{put_actor-same}
 use Rattle.ckpt_machine.proofs.Whose.{stepped_as-plain}
-
--- where nothing is made of them the state stays
-pub same_tables : (m : Machine) (a : ActorName) (change : ClientState → ClientState) → change (m.tables a) ≡ m.tables a → with_tables a change m ≡ m
-same_tables m a change same = λ i. record m { tables = λ b. put_actor-same m.tables a (change (m.tables a)) same b i }
 
 -- the handle that an actor's call is about, for which it waits, is there still
 abbrev pub KeepsHandle : Machine → ActorName → (ClientState → ClientState) → Type 0

@@ -28,14 +28,15 @@ use Rattle.ckpt_machine.specs.Shape.{Shape}
 use Rattle.ckpt_machine.specs.Steps.{kind_of, driver_of, is_over, goes_with, left_over, with_closed}
 use Rattle.ckpt_machine.specs.Tables.{closing, handle_closed}
 use Rattle.ckpt_machine.proofs.Actors.{same_actor-true}
-use Rattle.ckpt_machine.proofs.AsyncCalls.{own_name, ended_idle, async_named}
+use Rattle.ckpt_machine.proofs.AsyncCalls.{ended_idle}
+use Rattle.ckpt_machine.proofs.AsyncNames.{own_name, async_named}
 use Rattle.ckpt_machine.proofs.CallsPending.{calls_closed}
 use Rattle.ckpt_machine.proofs.DroppedCalls.{without_those, dropped_keeps, pending_keeps}
 use Rattle.ckpt_machine.proofs.EndedTables.{closing_keeps}
 use Rattle.ckpt_machine.proofs.FewerCalls.{calls_fewer}
 use Rattle.ckpt_machine.proofs.OptionLemmas.{IsSomeAnd-at}
 use Rattle.ckpt_machine.proofs.PlainCalls.{is_plain, is_plain_sync, ending, left_other}
-use Rattle.ckpt_machine.proofs.ReplicaSteps.{put_actor-same}
+use Rattle.ckpt_machine.proofs.ByActor.{put_actor-same}
 
 -- ---- a synchronisation owns nothing
 

@@ -36,7 +36,7 @@ use Rattle.cluster_record.specs.Places.{change_key, put2}
 use Rattle.cluster_record.specs.Placement.{adds}
 use Rattle.cluster_record.specs.RecordState.{RecordState, entry_of, identity_of, has_references, stays, swept, entered, created_as, new_entry, referred, opened_with, home_of, made_with, unreferred, released_all, unnamed, retaining, is_call_of, departed, moved, undone, complete_of, is_active, can_be_held, with_hold, can_lead, generation_under, with_active, active_set}
 use Rattle.cluster_record.specs.StepDone.{generation_in}
-use Rattle.ckpt_machine.proofs.SettingActive.{with_hold-identity, with_active-identity}
+use Rattle.ckpt_machine.proofs.HeldIdentity.{with_hold-identity, with_active-identity}
 use Rattle.cluster_record.proofs.IdentityLaws.{KeepsIdentity, IdentitiesRise-change_key, IdentitiesRise-filter, IdentitiesRise-map, IdentitiesRise-push}
 use Rattle.ckpt_types.specs.Asks.{Ask, asked, update_of}
 use Rattle.ckpt_types.specs.Asks as asks

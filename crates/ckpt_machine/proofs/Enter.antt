@@ -22,7 +22,8 @@ use Rattle.ckpt_machine.specs.Drivers as drivers
 use Rattle.ckpt_machine.specs.Tables.{registering}
 use Rattle.ckpt_machine.specs.Whose.{same_who}
 use Rattle.ckpt_machine.proofs.Actors.{same_actor-true}
-use Rattle.ckpt_machine.proofs.AsyncCalls.{own_name, ended_idle, async_no_enter}
+use Rattle.ckpt_machine.proofs.AsyncCalls.{ended_idle, async_no_enter}
+use Rattle.ckpt_machine.proofs.AsyncNames.{own_name}
 use Rattle.ckpt_machine.proofs.OpenReady.{client_live}
 use Rattle.ckpt_machine.proofs.Whose.{stepped_as-plain, same_who-refl}
 use Rattle.ckpt_machine.specs.InHand.{is_enter, IsEnterAt, IsInPlace, IsInHand}

@@ -34,7 +34,7 @@ use Rattle.ckpt_machine.specs.Steps.{Told, IsDone, driver_of, with_tables, witho
 use Rattle.ckpt_machine.specs.Tables.{handle_asked}
 use Rattle.ckpt_machine.specs.Whose.{is_of, same_who}
 use Rattle.ckpt_machine.proofs.Actors.{same_actor-true}
-use Rattle.ckpt_machine.proofs.AsyncCalls.{plain_asked, own_name}
+use Rattle.ckpt_machine.proofs.AsyncNames.{plain_asked, own_name}
 use Rattle.ckpt_machine.proofs.CallsPending.{calls_dropped}
 use Rattle.ckpt_machine.proofs.ClientTables.{KeepsHandle}
 use Rattle.ckpt_machine.proofs.DroppedCalls.{without_those, left_in, pending_keeps}

@@ -1,4 +1,9 @@
 pub mod ActiveBy
+mod AsyncNames
+mod ByActor
+mod FewSteps
+mod HeldIdentity
+mod PendingNames
 pub mod OnComplete
 pub mod Handles
 pub mod Served

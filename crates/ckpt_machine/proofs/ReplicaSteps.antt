@@ -25,17 +25,6 @@ use Rattle.ckpt_machine.proofs.OtherCalls.{LooksAlike, LooksLater-refl, making_s
 
 -- ---- calls
 
--- what an actor has in hand after one actor's was changed
-pub put_actor-here : {X : Type 0} (f : ActorName → X) (a : ActorName) (x : X) → put_actor f a x a ≡ x
-put_actor-here f a x = ap (λ b. cond b x (f a)) (same_actor-refl a)
-
-pub put_actor-other : {X : Type 0} (f : ActorName → X) (a : ActorName) (x : X) (b : ActorName) → same_actor b a ≡ false → put_actor f a x b ≡ f b
-put_actor-other f a x b other = ap (λ t. cond t x (f b)) other
-
--- where the one is put that was there, all stay
-pub put_actor-same : {X : Type 0} (f : ActorName → X) (a : ActorName) (x : X) → x ≡ f a → (b : ActorName) → put_actor f a x b ≡ f b
-put_actor-same f a x same b = elim (same_actor b a) as (λ t. same_actor b a ≡ t → cond t x (f b) ≡ f b) [ true ↦ λ is. same ∙ ap f (sym (same_actor-true b a is)) | false ↦ λ other. refl ] refl
-
 -- ---- the step
 
 module _ (m : Machine) (shapes : ℕ → Shape) (inv : InvariantIn shapes m) (s : CallState) (u : UpdateState) (held : m.in_hand (who s) ≡ Some s) (is : driver_of s ≡ drivers.Update u) where

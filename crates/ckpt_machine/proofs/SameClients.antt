@@ -21,7 +21,7 @@ use Rattle.ckpt_machine.specs.Guards.{AtNone, Row}
 use Rattle.ckpt_machine.specs.Invariant.{Invariant}
 use Rattle.ckpt_machine.specs.Machine.{Machine, ReplicaState, CallState, who}
 use Rattle.ckpt_machine.specs.Steps.{Told, created_for, retained_for, without_making, change_replica, changed, on_ok, on_look, at_some}
-use Rattle.ckpt_machine.proofs.AsyncCalls.{own_name}
+use Rattle.ckpt_machine.proofs.AsyncNames.{own_name}
 use Rattle.ckpt_machine.proofs.EndedTables.{client_by_number}
 use Rattle.ckpt_machine.proofs.EntryLists.{find_key-push, find_key-without}
 use Rattle.ckpt_machine.proofs.Whose.{one_state}

@@ -53,19 +53,12 @@ use Rattle.ckpt_machine.proofs.PlainCalls.{is_plain_sync, is_plain, look_ends, l
 use Rattle.ckpt_machine.proofs.StepLabels.{Told-is, unhindered-told, IsEvent-told}
 use Rattle.ckpt_machine.specs.Whose.{put_who}
 use Rattle.ckpt_machine.proofs.Whose.{put_who-other, put_who-here}
+use Rattle.ckpt_machine.proofs.HeldIdentity.{with_hold-identity, with_active-identity}
 
 -- what is not there is none
 none_of : {X : Type 0} (o : Option X) → is_some o ≡ false → o ≡ None
 none_of None none = refl
 none_of (Some x) none = absurd (cc none)
-
--- a hold leaves the identity as it is
-pub with_hold-identity : (call : CallId) → KeepsIdentity (with_hold call)
-with_hold-identity call e = elim (can_be_held e) as (λ b. (cond b (record e { hold = Some call }) e).identity ≡ e.identity) [ true ↦ refl | false ↦ refl ]
-
--- so does an active
-pub with_active-identity : (r : ℕ) → KeepsIdentity (with_active r)
-with_active-identity r e = elim (can_lead r e) as (λ b. (cond b (record e { active = Some r; generation = generation_under r e; hold = None }) e).identity ≡ e.identity) [ true ↦ refl | false ↦ refl ]
 
 -- the generation rises where the active changes, and only there
 pub generation_under-rises : (r : ℕ) (e : Entry) → e.generation ≤ generation_under r e

@@ -55,7 +55,7 @@ use Rattle.ckpt_machine.proofs.CallsKept.{same_call-left, apart_from}
 use Rattle.ckpt_machine.proofs.Served.{slice_get-set, served_set, set_length, tells_all, ends_alike, all_are, unserved-few}
 use Rattle.ckpt_machine.specs.Whose.{put_who}
 use Rattle.ckpt_machine.proofs.StepLabels.{IsServed-told}
-use Rattle.ckpt_machine.proofs.ReplicaSteps.{put_actor-same}
+use Rattle.ckpt_machine.proofs.ByActor.{put_actor-same}
 
 -- what is left of a call that has not ended
 pub left_is : {X E : Type 0} (end : Option E) (x z : X) → left end x ≡ Some z → x ≡ z

@@ -18,6 +18,7 @@ ghost use Rattle.ckptsim.specs.Headline.{IsCommand, asks_steps, HasFault, HasPla
 
 use crate::reading::{Ended, read_all};
 use crate::writing::write_lines;
+use ckpt_machine::machine_law;
 use outside_io::{Gate, Sink, Source};
 use run_labels::RunLog;
 use script_lang::{ParseError, Reason, ScriptFault, parse};
@@ -151,6 +152,7 @@ pub fn ckpt_run<R: Threads + Wait + Sync, S: Source, K: Sink, G: Gate>(
     ensures complete { IsCommand words.now → IfSome (S.left source.old) (λ input. IsOk (script_of input) →
         (Rose (S.faults source.old) (S.faults source.new) → ⊥) → (Rose (K.faults sink.old) (K.faults sink.new) → ⊥) → RanOrNoMemory result) }
 {
+    machine_law();
     run_command(rt, alloc, words, source, sink, gate, log, world)
 }
 

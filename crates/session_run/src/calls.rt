@@ -16,7 +16,7 @@ ghost use Rattle.session_run.specs.Growing.{GrowsBy, GrowsTowards, IsFinish, IsS
 use ckpt_types::{ActorName, Op, Who};
 use run_labels::RunLog;
 use std::alloc::{AllocError, Global};
-use world_core::{Event, World};
+use world_core::{Event, World, world_law};
 
 /// A call of a client, from its beginning to its end, and of an asynchronous one its beginning alone; where the client
 /// has one in hand, the word that says so.
@@ -41,6 +41,7 @@ pub(crate) fn play_call(
     if world.in_hand(who) {
         return begin(alloc, client, op, log, world);
     }
+    world_law();
     begin(alloc, client, op, log, world)?;
     finish(alloc, who, log, world)
 }
@@ -151,6 +152,7 @@ pub(crate) fn steps_of(
     if !world.in_hand(who) {
         return world.event(alloc, Event::Step(who, false), log);
     }
+    world_law();
     steps(alloc, who, most, log, world)
 }
 
@@ -173,6 +175,7 @@ pub(crate) fn finish_of(
     if !world.in_hand(who) {
         return world.event(alloc, Event::Step(who, true), log);
     }
+    world_law();
     finish(alloc, who, log, world)
 }
 

@@ -11,13 +11,14 @@ ghost use Rattle.session_run.specs.Playable.{IsPlayable};
 
 use crate::calls::{begin_of, finish_of, play_call, steps_of};
 use crate::propagation::propagate;
+use ckpt_machine::machine_law;
 use outside_io::Gate;
 use run_labels::RunLog;
 use script_lang::{Line, Script};
 use std::alloc::{AllocError, Global};
 use std::sync::Wait;
 use std::thread::Threads;
-use world_core::{Event, World};
+use world_core::{Event, World, world_law};
 
 // Most lines give no more labels.
 const LABELS_A_LINE: usize = 3;
@@ -43,6 +44,8 @@ pub fn session<R: Threads + Wait + Sync, G: Gate>(
     // The log is a run, so it keeps all that a run promises.
     ensures promises { KeepsPromises log.new.labels }
 {
+    machine_law();
+
     // Where room is refused at once, it is asked for again as it is needed.
     let _ = log.reserve(LABELS_A_LINE * script.as_slice().len());
     play(alloc, script.as_slice(), log, world)
@@ -62,6 +65,7 @@ fn play(
     ensures follows { OnOk result (Follows lines.now log.new.labels) }
     ensures front { FollowsFront lines.now log.new.labels }
 {
+    world_law();
     for line in lines {
         play_line(alloc, line, log, world)?;
     }

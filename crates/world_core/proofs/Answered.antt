@@ -24,7 +24,7 @@ use Rattle.ckpt_machine.specs.Driving.{driver_start}
 use Rattle.ckpt_machine.specs.Facts.{Facts}
 use Rattle.ckpt_machine.specs.Steps.{IsBeginEnd, is_unrefused, goes_on, kept_at_beginning, standing_of}
 use Rattle.ckpt_machine.specs.Tables.{handle_asked}
-use Rattle.ckpt_machine.proofs.AsyncCalls.{async_asked}
+use Rattle.ckpt_machine.proofs.AsyncNames.{async_asked}
 use Rattle.ckpt_machine.proofs.BeginRows.{row_of}
 use Rattle.ckpt_machine.proofs.Starting.{live_client, begun_passed, goes_on_driven}
 use Rattle.world_core.specs.declared.world.World.{World}

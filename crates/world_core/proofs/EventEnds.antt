@@ -55,7 +55,7 @@ use Rattle.ckpt_machine.proofs.AskedFor.{DrivesFor, state_drives}
 use Rattle.ckpt_machine.proofs.Deadlines.{in_time-either}
 use Rattle.ckpt_machine.proofs.EntryLists.{AllStay-change_key, AllStay-push, filter-stays, find_key-change_key, stays-referred}
 use Rattle.ckpt_machine.proofs.OptionLemmas.{IsSomeAnd-at}
-use Rattle.ckpt_machine.proofs.SettingActive.{with_active-identity, with_hold-identity}
+use Rattle.ckpt_machine.proofs.HeldIdentity.{with_active-identity, with_hold-identity}
 use Rattle.client_calls.specs.declared.in_hand.InHand.{InHand}
 use Rattle.world_core.specs.declared.world.World.{World}
 use Rattle.world_core.specs.Happenings.{rooms_at}

@@ -21,8 +21,7 @@ use Rattle.ckpt_machine.specs.Runs.{last}
 use Rattle.world_core.specs.Runs.{IsRunTo, MayHappen, Happens, Answers, AnswersBegin, AnswersStep, IsStepOf, IsIdleWord, IsLeft, KeepsOthers}
 use Rattle.world_core.specs.StepsLeft.{left_of, ComesNearer}
 use Rattle.world_core.specs.Happenings.{IsAnswered, IsStep, BeginsOrSays}
-use Rattle.ckpt_machine.proofs.Facts.{facts}
-use Rattle.ckpt_machine.proofs.RunLaws.{run_has}
+use Rattle.ckpt_machine.specs.Laws.{IsLawful, EachRunHas, GivesFacts, BringsNearer, StepsAreFew}
 use Rattle.world_core.proofs.Moving.{shown-moment}
 use Rattle.world_core.specs.HandsState.{hand_at}
 use Rattle.world_core.proofs.Running.{goes_on, nearer}
@@ -101,36 +100,39 @@ keeps_others (happenings.Show k) old new label is = tt
 keeps_others (happenings.Pull k) old new label is = tt
 keeps_others (happenings.Put k r) old new label is = tt
 
--- a step of the call in hand brings it nearer to its end
-comes_nearer : (log : List Label) (v : Who) (old new : World) (label : Label) → IsRunTo old log → IsStep v old new label → IfSome (hand_at old.hands v) (λ h. left_of new v < left_of old v)
-comes_nearer log v old new label run step =
-    let does = subst (Does old new) step.label_is step.does in
-    let fewer = nearer old new log v step.hand step.next step.op step.verb step.ckpt step.node step.reply step.end step.details run step.held does step.here in
-    subst (λ p. IfSome p (λ h. left_of new v < left_of old v)) (sym step.held) fewer
+-- ---- by the law of the machine
 
-pub nearer_with : (event : Event) (log : List Label) (old new : World) (label : Label) → IsRunTo old log → IsAnswered event old new label → ComesNearer event old new
-nearer_with (happenings.Nodes n) log old new label run is = tt
-nearer_with (happenings.Begin a op) log old new label run is = tt
-nearer_with (happenings.Step who finish) log old new label run (inl step) = comes_nearer log who old new label run step
-nearer_with (happenings.Step who finish) log old new label run (inr idle) = subst (λ (p : Option InHand). IfSome p (λ h. left_of new who < left_of old who)) (sym idle.none) tt
-nearer_with (happenings.At t) log old new label run is = tt
-nearer_with (happenings.Show k) log old new label run is = tt
-nearer_with (happenings.Pull k) log old new label run is = tt
-nearer_with (happenings.Put k r) log old new label run is = tt
+module _ (runs : EachRunHas) (facts : GivesFacts) (brings : BringsNearer) (few : StepsAreFew) where
+  -- a step of the call in hand brings it nearer to its end
+  comes_nearer : (log : List Label) (v : Who) (old new : World) (label : Label) → IsRunTo old log → IsStep v old new label → IfSome (hand_at old.hands v) (λ h. left_of new v < left_of old v)
+  comes_nearer log v old new label run step =
+      let does = subst (Does old new) step.label_is step.does in
+      let fewer = nearer runs facts brings few old new log v step.hand step.next step.held run step.op step.verb step.ckpt step.node step.reply step.end step.details does step.here in
+      subst (λ p. IfSome p (λ h. left_of new v < left_of old v)) (sym step.held) fewer
+
+  pub nearer_with : (event : Event) (log : List Label) (old new : World) (label : Label) → IsRunTo old log → IsAnswered event old new label → ComesNearer event old new
+  nearer_with (happenings.Nodes n) log old new label run is = tt
+  nearer_with (happenings.Begin a op) log old new label run is = tt
+  nearer_with (happenings.Step who finish) log old new label run (inl step) = comes_nearer log who old new label run step
+  nearer_with (happenings.Step who finish) log old new label run (inr idle) = subst (λ (p : Option InHand). IfSome p (λ h. left_of new who < left_of old who)) (sym idle.none) tt
+  nearer_with (happenings.At t) log old new label run is = tt
+  nearer_with (happenings.Show k) log old new label run is = tt
+  nearer_with (happenings.Pull k) log old new label run is = tt
+  nearer_with (happenings.Put k r) log old new label run is = tt
 
 -- the run goes on by the label that answers the event
-pub run_with : (event : Event) (old new : World) (log longer : List Label) (label : Label) → MayHappen old log event → IsAnswered event old new label → longer ≡ log ++ label ∷ [] → IsRunTo new longer
-run_with event old new log longer label may is grows =
-    subst (IsRunTo new) (sym grows) (goes_on old new log label may.run (does_label event old new label is))
+pub run_with : IsLawful → EachRunHas → GivesFacts → (event : Event) (old new : World) (log longer : List Label) (label : Label) → MayHappen old log event → IsAnswered event old new label → longer ≡ log ++ label ∷ [] → IsRunTo new longer
+run_with lawful runs facts event old new log longer label may is grows =
+    subst (IsRunTo new) (sym grows) (goes_on lawful runs facts old new log label may.run (does_label event old new label is))
 
 -- and the label answers it
-pub happens_with : (event : Event) (old new : World) (log longer : List Label) (label : Label) → MayHappen old log event → IsAnswered event old new label → longer ≡ log ++ label ∷ [] → Happens event old new log longer
-happens_with event old new log longer label may is grows =
+pub happens_with : EachRunHas → GivesFacts → (event : Event) (old new : World) (log longer : List Label) (label : Label) → MayHappen old log event → IsAnswered event old new label → longer ≡ log ++ label ∷ [] → Happens event old new log longer
+happens_with runs facts event old new log longer label may is grows =
     let answers = answers_label event old new label is in
     record {
       label = label;
       grows = grows;
       answers = answers;
       others = keeps_others event old new label is;
-      moment = shown-moment event old new label (last log) may.run.shows (facts (last log) (run_has log may.run.run).0) (does_label event old new label is) answers;
+      moment = shown-moment event old new label (last log) may.run.shows (facts (last log) (runs log may.run.run).0) (does_label event old new label is) answers;
     }

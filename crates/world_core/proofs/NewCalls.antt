@@ -13,8 +13,8 @@ use Rattle.call_dispatch.specs.declared.async_call.EndedCall.{EndedCall}
 use Rattle.ckpt_machine.specs.Facts.{Facts}
 use Rattle.ckpt_machine.specs.Invariant.{IsBegunBy, IsKeptOf, calls_of}
 use Rattle.ckpt_machine.specs.Machine.{Machine, CallState}
-use Rattle.ckpt_machine.proofs.AsyncCalls.{async_named}
-use Rattle.ckpt_machine.proofs.CallsPending.{is_call-true, among_unfinished, among_finished}
+use Rattle.ckpt_machine.proofs.AsyncNames.{async_named}
+use Rattle.ckpt_machine.proofs.PendingNames.{is_call-true, among_unfinished, among_finished}
 use Rattle.ckpt_machine.proofs.KeptLists.{among_first, among_others, found_among}
 use Rattle.ckpt_machine.proofs.OptionLemmas.{IsSomeAnd-at}
 use Rattle.client_calls.specs.declared.in_hand.InHand.{InHand}

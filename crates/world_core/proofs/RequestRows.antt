@@ -34,7 +34,7 @@ use Rattle.ckpt_machine.specs.Steps.{changed, on_ok, change_replica, chosen_at, 
 use Rattle.ckpt_machine.specs.Tables.{started, with_next, gone_on}
 use Rattle.world_core.specs.Shows.{shown_replica, shown_slot, FitsReplica, FitsSlot, FitsSnapshot}
 use Rattle.ckpt_machine.proofs.Calls.{IsOwn}
-use Rattle.ckpt_machine.proofs.ClientTables.{same_tables}
+use Rattle.ckpt_machine.proofs.ByActor.{same_tables}
 use Rattle.world_core.proofs.Carrying.{GoesToReplica, Carries}
 use Rattle.world_core.proofs.Maps.{put2_same}
 

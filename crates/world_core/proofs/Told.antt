@@ -17,7 +17,7 @@ use Rattle.snap_copy.specs.Snapshots as copies
 use Rattle.ckpt_machine.specs.Machine.{Machine, CallState, Effect, Snapshot}
 use Rattle.ckpt_machine.specs.Steps.{ended_calls, handle_opened, left_in_hand, stepped, with_pending}
 use Rattle.ckpt_machine.specs.Whose.{put_who}
-use Rattle.ckpt_machine.proofs.ReplicaSteps.{put_actor-same}
+use Rattle.ckpt_machine.proofs.ByActor.{put_actor-same}
 use Rattle.world_core.specs.Alone.{ended_at, ended_hands, ended_tables}
 use Rattle.client_calls.specs.TableEnds.{table_ended}
 use Rattle.world_core.specs.TablesState.{kept_by, pending_by}

@@ -27,7 +27,7 @@ use Rattle.ckpt_machine.specs.Facts.{IsEventReady}
 use Rattle.ckpt_machine.specs.Machine.{Machine, CallState, who}
 use Rattle.ckpt_machine.specs.Steps.{IsDriven, driver_of}
 use Rattle.ckpt_machine.specs.Tables.{handle_closed}
-use Rattle.ckpt_machine.proofs.AsyncCalls.{async_asked, async_named}
+use Rattle.ckpt_machine.proofs.AsyncNames.{async_asked, async_named}
 use Rattle.ckpt_machine.proofs.NextOf.{OfAsked, next_of}
 use Rattle.world_core.specs.declared.world.World.{World}
 use Rattle.world_core.specs.Alone.{ended_at}

@@ -48,6 +48,10 @@ pub record IsNew (w : World) : Type 0 where
   pub pending : (c : ℕ) → pending_by w.tables c ≡ no_pending
   pub hands : (v : Who) → hand_at w.hands v ≡ None
 
+-- a new world shows the empty cluster, behind no label
+abbrev pub NewBeginsRuns : Type 0
+NewBeginsRuns = (w : World) → IsNew w → IsRunTo w []
+
 -- ---- events
 
 -- a client that a script may name

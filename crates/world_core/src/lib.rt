@@ -5,6 +5,7 @@ mod applying;
 mod begins;
 mod gone;
 mod hands;
+mod law;
 mod moments;
 mod nodes;
 mod propagation;
@@ -16,4 +17,5 @@ mod tables;
 mod updating;
 mod world;
 
+pub use law::world_law;
 pub use world::{Event, World};

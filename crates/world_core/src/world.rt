@@ -11,6 +11,7 @@ use crate::hands::Hands;
 use crate::nodes::Nodes;
 use crate::snapshots::Snapshots;
 use crate::tables::Tables;
+use ckpt_machine::machine_law;
 use ckpt_types::{ActorName, CkptId, Moment, NodeId, Op, Who};
 use cluster_record::Record;
 use run_labels::RunLog;
@@ -95,6 +96,7 @@ impl World {
         // For whoever steps a call to its end.
         ensures nearer { OnOk result (ComesNearer event self.old self.new) }
     {
+        machine_law();
         self.run_on(alloc, event, log)
     }
 
@@ -107,6 +109,7 @@ impl World {
         ensures err { OnErr result ((self.new ≡ self.old) × (log.new.labels ≡ log.old.labels)) }
         ensures nearer { OnOk result (ComesNearer event self.old self.new) }
     {
+        machine_law();
         log.reserve(1)?;
         self.happen(alloc, event, log)?;
         Ok(())

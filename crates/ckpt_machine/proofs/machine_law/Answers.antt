@@ -1,6 +1,7 @@
 use Rattle.ckpt_machine.proofs.Counting.{counts_empty, counts_up}
 use Rattle.ckpt_machine.proofs.Endings.{ends_as_it_may}
 use Rattle.ckpt_machine.proofs.Facts.{facts}
+use Rattle.ckpt_machine.proofs.FewSteps.{steps_are_few}
 use Rattle.ckpt_machine.proofs.Lawful.{lawful}
 use Rattle.ckpt_machine.proofs.Nearer.{step_nearer}
 use Rattle.ckpt_machine.proofs.Promises.{promises_kept}
@@ -26,6 +27,9 @@ returns-clause-counts c = counts_up
 
 pub returns-clause-nearer : goal.returns-clause-nearer
 returns-clause-nearer c = step_nearer
+
+pub returns-clause-few : goal.returns-clause-few
+returns-clause-few c = steps_are_few
 
 pub returns-clause-refusals : goal.returns-clause-refusals
 returns-clause-refusals c = refusal_leaves

@@ -1,29 +1,28 @@
-use Rattle.ckpt_machine.proofs.Promises.{promises_kept}
 use Rattle.ckptsim.proofs.running.ckpt_run.Goals as goal
 
 pub returns-clause-refused : goal.returns-clause-refused
-returns-clause-refused g c = (promises_kept c.run_command.new.log.labels c.run_command.ensures.run.run).refused
+returns-clause-refused g c = (c.machine_law.ensures.promises c.run_command.new.log.labels c.run_command.ensures.run.run).refused
 
 pub returns-clause-all_or_none : goal.returns-clause-all_or_none
-returns-clause-all_or_none g c = (promises_kept c.run_command.new.log.labels c.run_command.ensures.run.run).all_or_none
+returns-clause-all_or_none g c = (c.machine_law.ensures.promises c.run_command.new.log.labels c.run_command.ensures.run.run).all_or_none
 
 pub returns-clause-acknowledged : goal.returns-clause-acknowledged
-returns-clause-acknowledged g c = (promises_kept c.run_command.new.log.labels c.run_command.ensures.run.run).acknowledged
+returns-clause-acknowledged g c = (c.machine_law.ensures.promises c.run_command.new.log.labels c.run_command.ensures.run.run).acknowledged
 
 pub returns-clause-effects : goal.returns-clause-effects
-returns-clause-effects g c = (promises_kept c.run_command.new.log.labels c.run_command.ensures.run.run).effects
+returns-clause-effects g c = (c.machine_law.ensures.promises c.run_command.new.log.labels c.run_command.ensures.run.run).effects
 
 pub returns-clause-synchronized : goal.returns-clause-synchronized
-returns-clause-synchronized g c = (promises_kept c.run_command.new.log.labels c.run_command.ensures.run.run).synchronized
+returns-clause-synchronized g c = (c.machine_law.ensures.promises c.run_command.new.log.labels c.run_command.ensures.run.run).synchronized
 
 pub returns-clause-asked : goal.returns-clause-asked
-returns-clause-asked g c = (promises_kept c.run_command.new.log.labels c.run_command.ensures.run.run).asked
+returns-clause-asked g c = (c.machine_law.ensures.promises c.run_command.new.log.labels c.run_command.ensures.run.run).asked
 
 pub returns-clause-owners : goal.returns-clause-owners
-returns-clause-owners g c = (promises_kept c.run_command.new.log.labels c.run_command.ensures.run.run).owners
+returns-clause-owners g c = (c.machine_law.ensures.promises c.run_command.new.log.labels c.run_command.ensures.run.run).owners
 
 pub returns-clause-actives : goal.returns-clause-actives
-returns-clause-actives g c = (promises_kept c.run_command.new.log.labels c.run_command.ensures.run.run).actives
+returns-clause-actives g c = (c.machine_law.ensures.promises c.run_command.new.log.labels c.run_command.ensures.run.run).actives
 
 pub returns-clause-causes : goal.returns-clause-causes
-returns-clause-causes g c = (promises_kept c.run_command.new.log.labels c.run_command.ensures.run.run).causes
+returns-clause-causes g c = (c.machine_law.ensures.promises c.run_command.new.log.labels c.run_command.ensures.run.run).causes

@@ -6,7 +6,6 @@ use Rattle.ckpt_machine.specs.Runs.{last}
 use Rattle.world_core.specs.Runs.{IsRunTo}
 use Rattle.session_run.specs.Follows.{FollowsFrom, Follows}
 use Rattle.session_run.proofs.Following.{follows_line, follows_end, drop_item}
-use Rattle.world_core.proofs.New.{new_run}
 use Rattle.session_run.specs.Growing.{AreLeft}
 use Rattle.session_run.proofs.Playable.{CanPlay-next, AreLeft-next}
 use Rattle.session_run.proofs.Fronts.{front_of_whole, front_in_line, rest_follows}
@@ -14,7 +13,7 @@ use Rattle.session_run.proofs.playing.play.Goals as goal
 
 pub loop-line-init : goal.loop-line-init
 loop-line-init c = record {
-  run = subst (IsRunTo c.args.world.now) (sym c.requires.log) (new_run c.args.world.now c.requires.world);
+  run = subst (IsRunTo c.args.world.now) (sym c.requires.log) (c.world_law.ensures.begins c.args.world.now c.requires.world);
   few = omega (arith, ap length c.requires.log);
   form = c.requires.form;
   start = λ e. ap (λ (R : RecordState). R.moment) c.requires.world.cluster;

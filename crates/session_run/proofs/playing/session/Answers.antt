@@ -1,9 +1,8 @@
 use Rattle.std.proofs.Common.{rules}
-use Rattle.ckpt_machine.proofs.Promises.{promises_kept}
 use Rattle.session_run.proofs.playing.session.Goals as goal
 
 pub returns-clause-promises : goal.returns-clause-promises
-returns-clause-promises g c = promises_kept c.play.new.log.labels c.play.ensures.run.run
+returns-clause-promises g c = c.machine_law.ensures.promises c.play.new.log.labels c.play.ensures.run.run
 
 pub returns-clause-follows : goal.returns-clause-follows
 returns-clause-follows g c = search rules

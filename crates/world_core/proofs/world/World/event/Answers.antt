@@ -1,5 +1,4 @@
-use Rattle.ckpt_machine.proofs.Promises.{promises_kept}
 use Rattle.world_core.proofs.world.World.event.Goals as goal
 
 pub returns-clause-promises : goal.returns-clause-promises
-returns-clause-promises c = promises_kept c.run_on.new.log.labels c.run_on.ensures.run.run
+returns-clause-promises c = c.machine_law.ensures.promises c.run_on.new.log.labels c.run_on.ensures.run.run
