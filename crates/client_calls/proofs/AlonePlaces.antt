@@ -1,6 +1,6 @@
 -- The place of a call among the asynchronous ones of its client.
 use Rattle.std.proofs.Common.{◌≡◌, ℕ, zero, suc, ◌+◌, ◌<◌, true, false, List, [], ◌∷◌, length, refl, sym, ap, subst, ◌∙◌, cond, arith}
-use Rattle.std.specs.Prelude.{Option, Some, None, not, take, slice_get}
+use Rattle.std.specs.Prelude.{Option, Some, None, take, slice_get}
 use Rattle.ckpt_types.specs.declared.identities.CallId.{CallId}
 use Rattle.client_calls.specs.declared.in_hand.InHand.{InHand}
 use Rattle.client_calls.specs.AlonePlaces.{IsPlaceOf, changed_alone, found_alone, has_call}

@@ -1,3 +1,1 @@
-pub mod LentPlaces
-pub mod Taken
 pub mod AlonePlaces

@@ -1,6 +1,5 @@
 -- What the record grants a step of a call, and how a label tells that it does not.
 use Rattle.std.specs.Prelude.{ℕ, Option, Result, Ok}
-use Rattle.ckpt_types.specs.declared.answers.Outcome.TheVariants.{NoMemory}
 use Rattle.node_msgs.specs.declared.next.RecordStep.{RecordStep}
 use Rattle.node_msgs.specs.declared.next.RecordStep.TheVariants as events
 use Rattle.node_msgs.specs.declared.replies.Reply.{Reply}
@@ -11,7 +10,6 @@ use Rattle.ckpt_machine.specs.Driving.{event_ckpt}
 use Rattle.ckpt_machine.specs.Drivers.{Driver}
 use Rattle.ckpt_machine.specs.Drivers as drivers
 use Rattle.ckpt_types.specs.declared.identities.CallId.{CallId}
-use Rattle.cluster_record.specs.declared.opening.OpenAnswer.TheVariants.{Refused}
 use Rattle.cluster_record.specs.RecordState.{RecordState, named}
 use Rattle.drive_open.specs.OpenStates.{found_in}
 

@@ -4,7 +4,6 @@ pub mod TableEnds
 pub mod TableView
 pub mod NewTable
 pub mod CallStates
-pub mod IterationPlaces
 pub mod Lending
 pub mod HandRooms
 pub mod HandSteps

@@ -2,7 +2,7 @@
 use Rattle.std.specs.Prelude.{◌≡◌, Option, Some, None, is_some}
 use Rattle.std.specs.Global.{Box}
 use Rattle.call_dispatch.specs.PendingCalls.{PendingCalls, no_pending}
-use Rattle.client_handles.specs.ClientState.{ClientState, IsValid}
+use Rattle.client_handles.specs.ClientState.{ClientState}
 use Rattle.ckpt_machine.specs.Machine.{no_tables}
 use Rattle.client_calls.specs.TableState.{TableState}
 use Rattle.client_calls.specs.declared.table.Table.TheInside.{Inside}
@@ -21,7 +21,6 @@ calls_in (Some pending) = pending.value
 abbrev pub table_shown : Inside → TableState
 table_shown t = record { next = t.next; roomy = is_some t.client; client = client_in t.client; pending = calls_in t.pending }
 
--- what always holds of what a client keeps, whether its room was taken or not; that for both is taken at once
-pub record HasClient (t : Inside) : Type 0 where
-  pub valid : IsValid (client_in t.client)
-  pub both : is_some t.pending ≡ is_some t.client
+-- the room for both is taken at once
+abbrev pub HasBoth : Inside → Type 0
+HasBoth t = is_some t.pending ≡ is_some t.client

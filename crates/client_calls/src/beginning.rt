@@ -8,7 +8,6 @@ ghost use Rattle.std.specs.Option.{option_or};
 ghost use Rattle.call_dispatch.specs.PendingCalls.{PendingCalls, given_answer};
 ghost use Rattle.client_calls.specs.Standings.{standing};
 ghost use Rattle.ckpt_machine.specs.Tables.{ckpt_of_handle, choice_of};
-ghost use Rattle.client_calls.specs.IterationPlaces.{gone_on_place};
 
 use crate::table::Table;
 use ckpt_types::{
@@ -108,16 +107,6 @@ fn dispatch_begin(given: Result<Given, AisError>) -> Option<Outcome>
     match given {
         Ok(given) => Some(Outcome::Done(Answer::Dispatched(given))),
         Err(error) => refused(error),
-    }
-}
-
-/// The place of the iteration with which an operation goes on.
-pub fn gone_on_place(op: &Op) -> Option<u8>
-    ensures { result ≡ gone_on_place (asked op.now) }
-{
-    match op {
-        Op::Next(iteration) => Some(*iteration),
-        _ => None,
     }
 }
 

@@ -1,12 +1,10 @@
 //! What the label of a step tells beside the end of its call.
 ghost use Rattle.std.specs.Prelude.{◌≡◌};
 ghost use Rattle.ckpt_machine.specs.Steps.{ended_details};
-ghost use Rattle.node_core.specs.Details.{details_told, pieces_told, section_told, status_told};
+ghost use Rattle.node_core.specs.Details.{details_told};
 ghost use Rattle.client_calls.specs.ReadTold.{read_told};
 
-use ckpt_types::{
-    Answer, Apart, CheckpointDescriptor, Outcome, Pieces, ReadBuf, SectionDescriptor,
-};
+use ckpt_types::{Answer, Outcome, Pieces, ReadBuf};
 use node_core::Lent;
 use node_msgs::{Details, Reply};
 
@@ -16,9 +14,16 @@ pub fn told_details(end: &Option<Outcome>, reply: &Reply, lent: Lent) -> Details
     ensures { result ≡ ended_details end.now (details_told reply.now lent) }
 {
     match (end, reply) {
-        (Some(_), Reply::Done(Answer::Pieces | Answer::Created)) => { told_pieces(lent.read) }
-        (Some(_), Reply::Done(Answer::Status)) => told_status(lent.status),
-        (Some(_), Reply::Done(Answer::Section)) => told_section(lent.section),
+        (Some(_), Reply::Done(Answer::Pieces | Answer::Created)) => lent.read.map_or(
+            Details::Nothing,
+            |read| Details::Pieces(Pieces::from_buf(read)),
+        ),
+        (Some(_), Reply::Done(Answer::Status)) => lent
+            .status
+            .map_or(Details::Nothing, |status| Details::Status(status)),
+        (Some(_), Reply::Done(Answer::Section)) => lent
+            .section
+            .map_or(Details::Nothing, |section| Details::Section(section)),
         _ => Details::Nothing,
     }
 }
@@ -31,32 +36,5 @@ pub fn told_read(end: &Option<Outcome>, reply: &Reply, read: ReadBuf) -> Details
     match (end, reply) {
         (Some(_), Reply::Done(Answer::Pieces)) => Details::Pieces(Pieces::from_buf(read)),
         _ => Details::Nothing,
-    }
-}
-
-fn told_pieces(read: Option<ReadBuf>) -> Details
-    ensures { result ≡ pieces_told read }
-{
-    match read {
-        None => Details::Nothing,
-        Some(read) => Details::Pieces(Pieces::from_buf(read)),
-    }
-}
-
-fn told_status(status: Option<Apart<CheckpointDescriptor>>) -> Details
-    ensures { result ≡ status_told status }
-{
-    match status {
-        None => Details::Nothing,
-        Some(status) => Details::Status(status),
-    }
-}
-
-fn told_section(section: Option<Apart<SectionDescriptor>>) -> Details
-    ensures { result ≡ section_told section }
-{
-    match section {
-        None => Details::Nothing,
-        Some(section) => Details::Section(section),
     }
 }

@@ -3,7 +3,7 @@ ghost use Rattle.cluster_record.specs.Makings.{makings_of};
 ghost use Rattle.std.specs.Prelude.{◌≡◌, ◌-◌, ◌^◌, ◌<◌, Some, IfOk, IsSome};
 ghost use Rattle.std.specs.Option.{option_map};
 ghost use Rattle.ckpt_types.specs.Limits.{client_numbers, nodes_max};
-ghost use Rattle.ckpt_machine.specs.Driving.{driver_next, driver_taken, driver_start, on_kept, kind_of_change, change_start, active_start, sync_start, done_end, event_ckpt, event_node, making_in, takes_memory, refused_cause, index_told};
+ghost use Rattle.ckpt_machine.specs.Driving.{driver_next, driver_taken, driver_start, kind_of_change, change_start, active_start, sync_start, done_end, event_ckpt, event_node, making_in, index_told};
 ghost use Rattle.cluster_record.specs.StepDone.{done_of};
 ghost use Rattle.cluster_record.specs.Ends.{ended_unless};
 ghost use Rattle.client_calls.specs.CallStates.{synchronized_by, driver_in, step_in};
@@ -20,8 +20,7 @@ ghost use Rattle.ckpt_types.specs.declared.answers.Answer.TheVariants as answers
 ghost use Rattle.client_calls.specs.UpdateSteps.{IsUpdate};
 ghost use Rattle.client_calls.specs.Granting.{event_granted};
 ghost use Rattle.client_calls.specs.Taking.{driver_outcome, driver_told};
-ghost use Rattle.ckpt_machine.specs.Drivers.{Once};
-ghost use Rattle.cluster_record.specs.DueOnce.{Close, Retain};
+ghost use Rattle.ckpt_machine.specs.Drivers.{Once, Open};
 
 use crate::beginning::{choice_of, ckpt_of_handle};
 use crate::one_step::OneStep;
@@ -73,16 +72,12 @@ pub enum DriverKind {
 }
 
 impl Driver {
-    fn by(kind: DriverKind) -> Driver
-        ensures { result ≡ driver_in kind }
-    {
-        Driver { kind }
-    }
-
     fn once(step: OneStep) -> Driver
         ensures { result ≡ Once (step_in step) }
     {
-        Driver::by(DriverKind::Once(step))
+        Driver {
+            kind: DriverKind::Once(step),
+        }
     }
 
     /// The driver of a call that begins now and goes on, on this handle if it names one that is there. The two share
@@ -101,12 +96,16 @@ impl Driver {
             Op::Client(r, _, _) => Ok(Driver::once(OneStep::Enter(*r))),
             Op::Open(_, name, _, timeout, attributes) => {
                 let ask = open_ask(name, attributes, number_of(&call.actor), cluster)?;
-                let deadline = cluster.moment_after(*timeout);
-                Ok(Driver::by(DriverKind::Open(OpenCall::begin(call, ask, Some(deadline)))))
+                let deadline = Some(cluster.moment_after(*timeout));
+                Ok(Driver {
+                    kind: DriverKind::Open(OpenCall::begin(call, ask, deadline)),
+                })
             }
             Op::OpenAsync(_, _, name, _, attributes) => {
                 let ask = open_ask(name, attributes, number_of(&call.actor), cluster)?;
-                Ok(Driver::by(DriverKind::Open(OpenCall::begin(call, ask, None))))
+                Ok(Driver {
+                    kind: DriverKind::Open(OpenCall::begin(call, ask, None)),
+                })
             }
             Op::Create(_, update)
             | Op::Delete(_, update)
@@ -123,8 +122,11 @@ impl Driver {
                 ckpt_of_handle(handle),
             )),
             Op::Next(_) => Ok(active_start(call, ActiveKind::Next, ckpt_of_handle(handle))),
-            Op::Close(_) => Ok(close_start(ckpt_of_handle(handle))),
-            Op::Retain(_, duration) => Ok(retain_start(*duration, ckpt_of_handle(handle))),
+            Op::Close(_) => Ok(Driver::once(OneStep::Close(there(ckpt_of_handle(handle))))),
+            Op::Retain(_, duration) => {
+                let ckpt = there(ckpt_of_handle(handle));
+                Ok(Driver::once(OneStep::Retain(ckpt, *duration)))
+            }
             Op::Unlink(name) => Ok(Driver::once(OneStep::Unlink(name.share()?))),
             Op::Finalize => Ok(Driver::once(OneStep::Leave)),
             Op::Sync(_, timeout) => {
@@ -136,7 +138,7 @@ impl Driver {
                 Ok(sync_start(call, SyncKind::Synchronize(None), ckpt_of_handle(handle)))
             }
             Op::Active(_) => {
-                let node = node_of(cluster, number_of(&call.actor));
+                let node = cluster.home_of(number_of(&call.actor));
                 Ok(sync_start(call, SyncKind::ActiveSet(node), ckpt_of_handle(handle)))
             }
             _ => unreachable!(),
@@ -251,18 +253,8 @@ fn open_ask(
         name: name.share()?,
         attributes: attributes.share()?,
         client,
-        node: node_of(cluster, client),
+        node: cluster.home_of(client),
     })
-}
-
-// The node of a client; 0 where it is not live, and then its open ends at once.
-fn node_of(cluster: &Record, client: u8) -> NodeId
-    ensures { result ≡ home_of client cluster.now }
-{
-    match cluster.node_of(client) {
-        None => 0,
-        Some(node) => node,
-    }
 }
 
 // A refusal of a vector tells the index of its first refused element, and any other tells none.
@@ -270,21 +262,12 @@ fn node_of(cluster: &Record, client: u8) -> NodeId
 fn index_told(op: &Op, outcome: Option<Outcome>) -> Option<Outcome>
     ensures { result ≡ option_map (index_told op.now) outcome }
 {
-    match outcome {
-        Some(Outcome::Refused(error, Cause::Index(index))) => {
-            Some(Outcome::Refused(error, refused_cause(op, index)))
-        }
-        _ => outcome,
-    }
-}
-
-// A refusal of a vector tells the index of its first refused element.
-fn refused_cause(op: &Op, index: u32) -> Cause
-    ensures { result ≡ refused_cause op.now index }
-{
+    let Some(Outcome::Refused(error, Cause::Index(_))) = outcome else {
+        return outcome;
+    };
     match op {
-        Op::Write(_, _) | Op::Read(_, _) => Cause::Index(index),
-        _ => Cause::Plain,
+        Op::Write(_, _) | Op::Read(_, _) => outcome,
+        _ => Some(Outcome::Refused(error, Cause::Plain)),
     }
 }
 
@@ -293,32 +276,20 @@ fn change_start(call: CallId, update: &Update, cluster: &Record, ckpt: Option<Ck
     requires { IsSome (change_start call (declares_at is_all cluster.now ckpt) (kind_of_change (declares_at is_weak cluster.now ckpt) update.now) ckpt) }
     ensures { change_start call (declares_at is_all cluster.now ckpt) (kind_of_change (declares_at is_weak cluster.now ckpt) update.now) ckpt ≡ Some result }
 {
-    let Some(ckpt) = ckpt else { unreachable!() };
-    if is_all_at(cluster, ckpt) {
-        Driver::by(DriverKind::Update(UpdateCall::begin(call, ckpt)))
-    } else {
-        let kind = kind_of_change(is_weak_at(cluster, ckpt), update);
-        Driver::by(DriverKind::Active(ActiveCall::begin(call, ckpt, kind)))
+    let ckpt = there(ckpt);
+    let Some(entry) = cluster.entry(ckpt) else {
+        return Driver {
+            kind: DriverKind::Active(ActiveCall::begin(call, ckpt, ActiveKind::Apply)),
+        };
+    };
+    if is_all(&entry.attributes) {
+        return Driver {
+            kind: DriverKind::Update(UpdateCall::begin(call, ckpt)),
+        };
     }
-}
-
-// Whether updates of a checkpoint are on all its replicas.
-fn is_all_at(cluster: &Record, ckpt: CkptId) -> bool
-    ensures { result ≡ declares_at is_all cluster.now (Some ckpt) }
-{
-    match cluster.declared(ckpt) {
-        None => false,
-        Some(attributes) => is_all(&attributes),
-    }
-}
-
-// Whether writes of a checkpoint are weak.
-fn is_weak_at(cluster: &Record, ckpt: CkptId) -> bool
-    ensures { result ≡ declares_at is_weak cluster.now (Some ckpt) }
-{
-    match cluster.declared(ckpt) {
-        None => false,
-        Some(attributes) => is_weak(&attributes),
+    let kind = kind_of_change(is_weak(&entry.attributes), update);
+    Driver {
+        kind: DriverKind::Active(ActiveCall::begin(call, ckpt, kind)),
     }
 }
 
@@ -339,32 +310,27 @@ fn active_start(call: CallId, kind: ActiveKind, ckpt: Option<CkptId>) -> Driver
     requires { IsSome (active_start call kind ckpt) }
     ensures { active_start call kind ckpt ≡ Some result }
 {
-    let Some(ckpt) = ckpt else { unreachable!() };
-    Driver::by(DriverKind::Active(ActiveCall::begin(call, ckpt, kind)))
+    Driver {
+        kind: DriverKind::Active(ActiveCall::begin(call, there(ckpt), kind)),
+    }
 }
 
 fn sync_start(call: CallId, kind: SyncKind, ckpt: Option<CkptId>) -> Driver
     requires { IsSome (sync_start call kind ckpt) }
     ensures { sync_start call kind ckpt ≡ Some result }
 {
-    let Some(ckpt) = ckpt else { unreachable!() };
-    Driver::by(DriverKind::Sync(SyncCall::begin(call, ckpt, kind)))
+    Driver {
+        kind: DriverKind::Sync(SyncCall::begin(call, there(ckpt), kind)),
+    }
 }
 
-fn close_start(ckpt: Option<CkptId>) -> Driver
-    requires { IsSome (on_kept ckpt (λ k. Once (Close k))) }
-    ensures { on_kept ckpt (λ k. Once (Close k)) ≡ Some result }
+// The checkpoint of a call that goes on, which keeps one.
+fn there(ckpt: Option<CkptId>) -> CkptId
+    requires { IsSome ckpt }
+    ensures { ckpt ≡ Some result }
 {
     let Some(ckpt) = ckpt else { unreachable!() };
-    Driver::once(OneStep::Close(ckpt))
-}
-
-fn retain_start(duration: i64, ckpt: Option<CkptId>) -> Driver
-    requires { IsSome (on_kept ckpt (λ k. Once (Retain k duration))) }
-    ensures { on_kept ckpt (λ k. Once (Retain k duration)) ≡ Some result }
-{
-    let Some(ckpt) = ckpt else { unreachable!() };
-    Driver::once(OneStep::Retain(ckpt, duration))
+    ckpt
 }
 
 /// The checkpoint of a step of the record, before it is done.
@@ -410,15 +376,5 @@ pub fn event_granted(
     match (step, &driver.kind) {
         (RecordStep::Open, DriverKind::Open(open_call)) => open_call.found(cluster),
         _ => Ok(event_ckpt(cluster, driver, step)),
-    }
-}
-
-/// Whether a step of the record takes memory, and may be refused it.
-pub fn takes_memory(step: &RecordStep) -> bool
-    ensures { result ≡ takes_memory step.now }
-{
-    match step {
-        RecordStep::Enter | RecordStep::Open | RecordStep::Create => true,
-        _ => false,
     }
 }

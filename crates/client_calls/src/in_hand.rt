@@ -113,14 +113,6 @@ impl InHand {
     {
         self.driver.synchronized()
     }
-
-    /// The room that it has for an iteration is taken out of it.
-    pub fn lend(&mut self) -> Option<Iteration>
-        ensures lent { result ≡ self.old.iteration }
-        ensures new { self.new ≡ record self.old { iteration = None } }
-    {
-        self.iteration.take()
-    }
 }
 
 /// What one place has of a snapshot is in the other from then on. Where there is none, as of most calls, nothing is moved.

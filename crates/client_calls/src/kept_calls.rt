@@ -1,23 +1,13 @@
 //! What becomes of the asynchronous calls of one client that are not dispatched.
-ghost use Rattle.ckpt_types.specs.Asks.{invocation_of};
-ghost use Rattle.std.specs.Prelude.{◌≡◌, ◌<◌, IfOk, IsFalse, map};
-ghost use Rattle.ckpt_types.specs.Limits.{pending_max};
-ghost use Rattle.call_dispatch.specs.PendingCalls.{callback_of, dispatched, given_answer, given_by, given_number, is_pending, no_pending, pending_count, with_begun};
-ghost use Rattle.client_handles.specs.ClientState.{IsValid};
-ghost use Rattle.ckpt_machine.specs.Steps.{async_call, kind_of, number_of_handle};
-ghost use Rattle.ckpt_machine.specs.Tables.{place_set, places_set};
+ghost use Rattle.std.specs.Prelude.{◌≡◌, IfOk, map};
+ghost use Rattle.call_dispatch.specs.PendingCalls.{callback_of, dispatched, given_answer, given_by, given_number, no_pending};
+ghost use Rattle.ckpt_machine.specs.Steps.{async_call};
+ghost use Rattle.ckpt_machine.specs.Tables.{places_set};
 
 use call_dispatch::{AsyncCall, EndedCall, Pending};
 use ckpt_types::{AisError, AsyncKind, CallId, Callback, DISPATCH_ALL, DISPATCH_ONE, Given, Op};
 use client_handles::{Client, HandleView};
 use std::alloc::{AllocError, Global};
-
-/// No asynchronous call. The room for those of a client is taken here.
-pub(crate) fn new_pending(alloc: Global) -> Result<Box<Pending>, AllocError>
-    ensures { IfOk result (λ pending. pending.value ≡ no_pending) }
-{
-    Ok(Box::new(alloc, Pending::new(alloc)?)?)
-}
 
 /// How many callbacks a dispatch gives where no call is kept: none.
 pub(crate) fn given_of_none(flags: u32) -> Result<Given, AisError>
@@ -33,50 +23,21 @@ pub(crate) fn given_of_none(flags: u32) -> Result<Given, AisError>
 pub(crate) fn async_call(call: CallId, op: &Op, handle: &Option<HandleView>) -> AsyncCall
     ensures { result ≡ async_call call op.now handle.now }
 {
-    AsyncCall {
-        call,
-        kind: kind_of(op),
-        invocation: invocation_of(op),
-        handle: number_of(handle),
-    }
-}
-
-fn kind_of(op: &Op) -> AsyncKind
-    ensures { result ≡ kind_of op.now }
-{
-    match op {
-        Op::OpenAsync(place, ..) => AsyncKind::Open(*place),
-        _ => AsyncKind::Sync,
-    }
-}
-
-fn invocation_of(op: &Op) -> u64
-    ensures { result ≡ invocation_of op.now }
-{
-    match op {
-        Op::OpenAsync(_, invocation, ..) | Op::SyncAsync(_, invocation) => *invocation,
-        _ => 0,
-    }
-}
-
-fn number_of(handle: &Option<HandleView>) -> u32
-    ensures { result ≡ number_of_handle handle.now }
-{
-    match handle {
+    let (kind, invocation) = match op {
+        Op::OpenAsync(place, invocation, ..) => (AsyncKind::Open(*place), *invocation),
+        Op::SyncAsync(_, invocation) => (AsyncKind::Sync, *invocation),
+        _ => (AsyncKind::Sync, 0),
+    };
+    let handle = match handle {
         None => 0,
         Some(handle) => handle.handle,
-    }
-}
-
-/// A call goes on by itself; there is room for it.
-pub(crate) fn begin_alone(pending: &mut Pending, call: AsyncCall)
-    requires new { IsFalse (is_pending call.call pending.old) }
-    requires room { pending_count pending.old < pending_max }
-    ensures { pending.new ≡ with_begun call pending.old }
-{
-    let Ok(()) = pending.begin(call) else {
-        unreachable!()
     };
+    AsyncCall {
+        call,
+        kind,
+        invocation,
+        handle,
+    }
 }
 
 /// The callbacks of calls that have ended.
@@ -92,8 +53,6 @@ pub(crate) fn callbacks_of(alloc: Global, ended: &[EndedCall]) -> Result<Vec<Cal
 
 /// Callbacks are given: the places of the opens that they tell are set, and the calls are dispatched.
 pub(crate) fn dispatch(client: &mut Client, pending: &mut Pending, flags: u32)
-    requires { IsValid client.old }
-    ensures kept { IsValid client.new }
     ensures client { client.new ≡ places_set (given_by flags pending.old) client.old }
     ensures pending { pending.new ≡ dispatched (given_number flags pending.old) pending.old }
 {
@@ -105,24 +64,13 @@ pub(crate) fn dispatch(client: &mut Client, pending: &mut Pending, flags: u32)
     pending.give(count);
 }
 
+// The callback of an open sets its place to the handle that it has opened.
 fn set_places(client: &mut Client, ended: &[EndedCall])
-    requires { IsValid client.old }
-    ensures kept { IsValid client.new }
-    ensures new { client.new ≡ places_set ended.now client.old }
+    ensures { client.new ≡ places_set ended.now client.old }
 {
     for call in ended {
-        set_place(client, call);
-    }
-}
-
-// The callback of an open sets its place to the handle that it has opened.
-fn set_place(client: &mut Client, ended: &EndedCall)
-    requires { IsValid client.old }
-    ensures kept { IsValid client.new }
-    ensures new { client.new ≡ place_set ended.now client.old }
-{
-    match ended.asked.kind {
-        AsyncKind::Open(place) => client.bind_open(place, ended.asked.handle),
-        AsyncKind::Sync => {}
+        if let AsyncKind::Open(place) = call.asked.kind {
+            client.bind_open(place, call.asked.handle);
+        }
     }
 }

@@ -1,9 +1,9 @@
 //! What the call of a client lends to a request, and what comes back of it.
-ghost use Rattle.std.specs.Prelude.{◌≡◌, ◌^◌, ◌<◌, [], length, None, Some, IfOk, IsSome, MatchOption, OnOk};
+ghost use Rattle.std.specs.Prelude.{◌≡◌, ◌^◌, ◌<◌, [], length, None, IfOk, MatchOption};
 ghost use Rattle.ckpt_types.specs.Asks.{update_of, elements_of};
 ghost use Rattle.ckpt_types.specs.declared.update.Update.TheVariants as updates;
 ghost use Rattle.node_core.specs.Lending.{bytes_asked, HasRoomToTell};
-ghost use Rattle.client_calls.specs.Lending.{IsLentBy, IsLentUpdate, IsLentRead};
+ghost use Rattle.client_calls.specs.Lending.{IsLentBy, IsLentRead};
 ghost use Rattle.client_calls.specs.UpdateSteps.{is_creation};
 
 use crate::hand_rooms::DECLARES_NOTHING;
@@ -29,67 +29,48 @@ pub fn lent_by(alloc: Global, op: &Op, request: &Request) -> Result<Lent, AllocE
     ensures lent { IfOk result (IsLentBy op.now request.now) }
     ensures iteration { IfOk result (λ lent. lent.iteration ≡ None) }
 {
-    let mut lent = Lent::nothing();
-    lend(alloc, op, request, &mut lent)?;
-    Ok(lent)
-}
-
-fn lend(alloc: Global, op: &Op, request: &Request, lent: &mut Lent) -> Result<(), AllocError>
-    ensures lent { OnOk result (IsLentBy op.now request.now lent.new) }
-    ensures iteration { OnOk result (lent.new.iteration ≡ lent.old.iteration) }
-{
     match request {
-        Request::Stage(_, _, _) | Request::Mark(_, _) => lend_update(alloc, op, lent),
-        Request::Commit(_, _) => lend_identifier(alloc, op, lent),
-        Request::Apply(_, _) => lend_change(alloc, op, lent),
-        Request::Read(_) => lend_read(alloc, op, lent),
-        Request::Status(_) => lend_status(alloc, lent),
-        Request::Next(_, _) => lend_section(alloc, lent),
-        _ => Ok(()),
+        Request::Stage(_, _, _) | Request::Mark(_, _) => Ok(Lent {
+            update: Some(share_update(alloc, op)?),
+            ..Lent::nothing()
+        }),
+        Request::Commit(_, _) => Ok(Lent {
+            read: room_for_id(alloc, op)?,
+            ..Lent::nothing()
+        }),
+        Request::Apply(_, _) => Ok(Lent {
+            read: room_for_id(alloc, op)?,
+            update: Some(share_update(alloc, op)?),
+            ..Lent::nothing()
+        }),
+        Request::Read(_) => read_lent(alloc, op),
+        Request::Status(_) => Ok(Lent {
+            status: Some(Apart::new(alloc, NO_STATUS)?),
+            ..Lent::nothing()
+        }),
+        Request::Next(_, _) => Ok(Lent {
+            section: Some(Apart::new(alloc, no_section())?),
+            ..Lent::nothing()
+        }),
+        _ => Ok(Lent::nothing()),
     }
 }
 
-fn lend_update(alloc: Global, op: &Op, lent: &mut Lent) -> Result<(), AllocError>
-    ensures update { OnOk result (lent.new.update ≡ Some (update_of op.now)) }
-    ensures read { OnOk result (lent.new.read ≡ lent.old.read) }
-    ensures iteration { OnOk result (lent.new.iteration ≡ lent.old.iteration) }
-{
-    lent.update = Some(share_update(alloc, op)?);
-    Ok(())
-}
-
-fn lend_identifier(alloc: Global, op: &Op, lent: &mut Lent) -> Result<(), AllocError>
-    ensures room { OnOk result (HasRoomToTell (update_of op.now) lent.new.read) }
-    ensures iteration { OnOk result (lent.new.iteration ≡ lent.old.iteration) }
+// Room for the identifier that an update tells, if it makes a section.
+fn room_for_id(alloc: Global, op: &Op) -> Result<Option<ReadBuf>, AllocError>
+    ensures { IfOk result (HasRoomToTell (update_of op.now)) }
 {
     let Some(update) = update_in(op) else {
-        return Ok(());
+        return Ok(None);
     };
-    reserve_id(alloc, update, &mut lent.read)
-}
-
-// What an update wants that is made at once: a share of it, and room for the identifier that it tells.
-fn lend_change(alloc: Global, op: &Op, lent: &mut Lent) -> Result<(), AllocError>
-    ensures lent { OnOk result (IsLentUpdate op.now lent.new) }
-    ensures iteration { OnOk result (lent.new.iteration ≡ lent.old.iteration) }
-{
-    lend_identifier(alloc, op, lent)?;
-    lend_update(alloc, op, lent)
-}
-
-fn reserve_id(alloc: Global, update: &Update, read: &mut Option<ReadBuf>) -> Result<(), AllocError>
-    ensures { OnOk result (HasRoomToTell update.now read.new) }
-{
     match update {
         Update::Create(NewId::Given(id), _, _) => {
-            *read = Some(ReadBuf::reserve(alloc, 1, id.as_slice().len())?);
-            Ok(())
+            Ok(Some(ReadBuf::reserve(alloc, 1, id.as_slice().len())?))
         }
         Update::Create(NewId::Generated, _, _) => {
-            *read = Some(ReadBuf::reserve(alloc, 1, GENERATED_ID_BYTES as usize)?);
-            Ok(())
+            Ok(Some(ReadBuf::reserve(alloc, 1, GENERATED_ID_BYTES as usize)?))
         }
-        _ => Ok(()),
+        _ => Ok(None),
     }
 }
 
@@ -118,30 +99,18 @@ pub fn creates(op: &Op) -> bool
     }
 }
 
-fn lend_read(alloc: Global, op: &Op, lent: &mut Lent) -> Result<(), AllocError>
-    ensures lent { OnOk result (IsLentRead op.now lent.new) }
-    ensures iteration { OnOk result (lent.new.iteration ≡ lent.old.iteration) }
+// What a read wants: a share of its elements, and a buffer that has room for what they may give.
+fn read_lent(alloc: Global, op: &Op) -> Result<Lent, AllocError>
+    ensures lent { IfOk result (IsLentRead op.now) }
+    ensures iteration { IfOk result (λ lent. lent.iteration ≡ None) }
 {
     let vector = share_elements(alloc, op)?;
-    lent.read = Some(reserve_for(alloc, vector.value().as_slice())?);
-    lent.vector = Some(vector);
-    Ok(())
-}
-
-fn lend_status(alloc: Global, lent: &mut Lent) -> Result<(), AllocError>
-    ensures status { OnOk result (IsSome lent.new.status) }
-    ensures iteration { OnOk result (lent.new.iteration ≡ lent.old.iteration) }
-{
-    lent.status = Some(Apart::new(alloc, NO_STATUS)?);
-    Ok(())
-}
-
-fn lend_section(alloc: Global, lent: &mut Lent) -> Result<(), AllocError>
-    ensures section { OnOk result (IsSome lent.new.section) }
-    ensures iteration { OnOk result (lent.new.iteration ≡ lent.old.iteration) }
-{
-    lent.section = Some(Apart::new(alloc, no_section())?);
-    Ok(())
+    let read = reserve_for(alloc, vector.value().as_slice())?;
+    Ok(Lent {
+        read: Some(read),
+        vector: Some(vector),
+        ..Lent::nothing()
+    })
 }
 
 // What a place for a section has before one is told.

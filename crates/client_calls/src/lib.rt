@@ -10,7 +10,6 @@ mod hand_rooms;
 mod in_hand;
 mod iterating;
 mod kept_calls;
-mod kept_client;
 mod lending;
 mod messages;
 mod one_step;

@@ -3,14 +3,14 @@ ghost use Rattle.std.specs.Prelude.{◌≡◌, Some};
 ghost use Rattle.ckpt_types.specs.declared.answers.Cause.TheVariants.{Plain};
 ghost use Rattle.ckpt_types.specs.declared.answers.Outcome.TheVariants.{Refused};
 ghost use Rattle.node_msgs.specs.declared.next.Next.TheVariants.{End};
-ghost use Rattle.cluster_record.specs.DueOnce.{enter_next, close_next, unlink_of_making, unlink_next, retain_of, retain_next, once_next};
+ghost use Rattle.cluster_record.specs.DueOnce.{enter_next, close_next, unlink_next, retain_next, once_next};
 ghost use Rattle.client_calls.specs.CallStates.{step_in};
-ghost use Rattle.client_calls.specs.Taking.{once_answer, once_outcome};
+ghost use Rattle.client_calls.specs.Taking.{once_outcome};
 
 use ckpt_types::{
     AisError, Answer, Bytes, CLIENTS_MAX, CallId, Cause, CkptId, NodeId, Outcome, SharedName,
 };
-use cluster_record::{Entry, Record};
+use cluster_record::Record;
 use node_msgs::{Next, RecordStep, Reply};
 
 /// What a call of one step does.
@@ -48,18 +48,12 @@ impl OneStep {
         ensures { result ≡ once_outcome reply.now (step_in self.now) }
     {
         match reply {
-            Reply::Done(_) => Some(Outcome::Done(self.answer())),
+            Reply::Done(_) => match self {
+                OneStep::Enter(_) => Some(Outcome::Done(Answer::Version)),
+                _ => Some(Outcome::Done(Answer::Nothing)),
+            },
             Reply::NoMemory => Some(Outcome::NoMemory),
             _ => None,
-        }
-    }
-
-    fn answer(&self) -> Answer
-        ensures { result ≡ once_answer (step_in self.now) }
-    {
-        match self {
-            OneStep::Enter(_) => Answer::Version,
-            _ => Answer::Nothing,
         }
     }
 }
@@ -91,16 +85,10 @@ fn unlink_next(cluster: &Record, name: &Bytes) -> Next
 {
     match cluster.named(name) {
         None => refused(AisError::NotExist),
-        Some(entry) => unlink_of_making(entry.making),
-    }
-}
-
-fn unlink_of_making(making: Option<CallId>) -> Next
-    ensures { result ≡ unlink_of_making making }
-{
-    match making {
-        None => Next::Event(RecordStep::Unlink),
-        Some(call) => Next::End(Outcome::Refused(AisError::TryAgain, Cause::Holder(call))),
+        Some(entry) => match entry.making {
+            None => Next::Event(RecordStep::Unlink),
+            Some(call) => Next::End(Outcome::Refused(AisError::TryAgain, Cause::Holder(call))),
+        },
     }
 }
 
@@ -110,17 +98,13 @@ fn retain_next(cluster: &Record, ckpt: CkptId) -> Next
 {
     match cluster.entry(ckpt) {
         None => refused(AisError::NotExist),
-        Some(entry) => retain_of(entry),
-    }
-}
-
-fn retain_of(entry: &Entry) -> Next
-    ensures { result ≡ retain_of (Some entry.now) }
-{
-    if entry.name.is_some() {
-        Next::Event(RecordStep::Retain)
-    } else {
-        refused(AisError::BadOperation)
+        Some(entry) => {
+            if entry.name.is_some() {
+                Next::Event(RecordStep::Retain)
+            } else {
+                refused(AisError::BadOperation)
+            }
+        }
     }
 }
 

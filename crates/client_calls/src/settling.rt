@@ -1,6 +1,6 @@
 //! What a step of the record makes of its client's table.
 ghost use Rattle.std.specs.Prelude.{◌≡◌, Some, None};
-ghost use Rattle.client_calls.specs.TableSettling.{table_given, table_settled, table_looked, MayGive, MaySettle};
+ghost use Rattle.client_calls.specs.TableSettling.{table_settled, table_looked, MaySettle};
 ghost use Rattle.cluster_record.specs.LookUps.{creation_flags_of};
 ghost use Rattle.cluster_record.specs.RecordState.{entry_of};
 
@@ -16,7 +16,11 @@ pub fn settle(table: &mut Table, cluster: &Record, op: &Op, step: &RecordStep, c
 {
     match step {
         RecordStep::Enter => table.register(op),
-        RecordStep::Open | RecordStep::Finish => give(table, cluster, op, ckpt),
+        RecordStep::Open | RecordStep::Finish => {
+            if let Some(ckpt) = ckpt {
+                table.give(op, ckpt, creation_flags(cluster, ckpt));
+            }
+        }
         RecordStep::Close => table.close(op),
         RecordStep::Leave => table.leave(),
         _ => {}
@@ -30,16 +34,6 @@ pub fn settle_look(table: &mut Table, op: &Op, end: &Outcome)
     match end {
         Outcome::Done(_) => table.close(op),
         _ => {}
-    }
-}
-
-// The client gets the handle that its open gives of the checkpoint, if there is one.
-fn give(table: &mut Table, cluster: &Record, op: &Op, ckpt: Option<CkptId>)
-    requires { MayGive op.now table.old }
-    ensures { table.new ≡ table_given cluster.now op.now ckpt table.old }
-{
-    if let Some(ckpt) = ckpt {
-        table.give(op, ckpt, creation_flags(cluster, ckpt));
     }
 }
 

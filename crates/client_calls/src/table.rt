@@ -2,30 +2,40 @@
 ghost use Rattle.std.specs.Prelude.{◌≡◌, ◌-◌, ◌+◌, ◌^◌, ◌<◌, ◌≤◌, true, IfOk, IsSome, OnErr, OnOk, MatchOption, length, map, take};
 ghost use Rattle.ckpt_types.specs.declared.answers.Answer.{Answer};
 ghost use Rattle.ckpt_types.specs.Asks.{asked, IsBuilt};
-ghost use Rattle.ckpt_types.specs.Limits.{places_max, checkpoints_max};
-ghost use Rattle.client_handles.specs.ClientState.{handle_at, has_handle_room, has_iteration_room, iterated_at, iteration_at, kept_at, lent, returned, emptied, ended, IsLent, IsNotLent, IsValid};
+ghost use Rattle.ckpt_types.specs.Attributes.{open_flags_of};
+ghost use Rattle.ckpt_types.specs.Limits.{checkpoints_max};
+ghost use Rattle.client_handles.specs.ClientState.{handle_at, handle_numbered, has_handle_room, has_iteration_room, iterated_at, emptied, ended, taken, IsValid};
 ghost use Rattle.call_dispatch.specs.PendingCalls.{callback_of, dispatched, given_answer, given_by, given_number, no_pending, pending_count, with_begun};
 ghost use Rattle.ckpt_machine.specs.Steps.{async_call, left_over};
-ghost use Rattle.ckpt_machine.specs.Tables.{handle_asked, handle_given, started, closing, handle_closed, has_place, places_set, registering};
+ghost use Rattle.ckpt_machine.specs.Tables.{flags_or_none, handle_asked, handle_given, kept_asked, started, closing, handle_closed, has_place, places_set, registering};
+ghost use Rattle.client_calls.specs.Lending.{come_back, lending, IsGoingOnWith, IsOutOf};
 ghost use Rattle.client_calls.specs.NewTable.{new_table};
 ghost use Rattle.client_calls.specs.TableEnds.{table_ended};
 ghost use Rattle.client_calls.specs.TableState.{with_room, with_client, begun_with, with_calls, begun_done, CanBegin, CanBeginDone, CanGoOnAlone};
 
-use crate::kept_calls::{
-    async_call, begin_alone, callbacks_of, dispatch, given_of_none, new_pending,
-};
-use crate::kept_client::{
-    close, end, give, handle_opened, leave, lend, new_client, no_callbacks, register, start,
-    take_back,
-};
+use crate::kept_calls::{async_call, callbacks_of, dispatch, given_of_none};
 use call_dispatch::Pending;
 use ckpt_types::{
-    AisError, CallId, Callback, CallbackSet, CkptId, Given, HANDLES_MAX, Op, Outcome,
+    AisError, Answer, CallId, Callback, CallbackSet, CkptId, Given, HANDLES_MAX, Op, OpenFlags,
+    Outcome,
 };
 use client_handles::{Client, HandleView};
 use section_iter::Iteration;
 use std::alloc::{AllocError, Global};
 use std::marker::Model;
+
+/// No callback is registered.
+const NO_CALLBACKS: CallbackSet = CallbackSet {
+    opens: false,
+    syncs: false,
+};
+
+/// Opened for nothing.
+const NO_FLAGS: OpenFlags = OpenFlags {
+    read: false,
+    write: false,
+    create: false,
+};
 
 /// What a client keeps.
 #[derive(Drop)]
@@ -43,11 +53,11 @@ impl Model for Table {
 
     ghost Value = { TableState };
 
-    ghost use Rattle.client_calls.specs.TableView.{table_shown, HasClient};
+    ghost use Rattle.client_calls.specs.TableView.{table_shown, HasBoth};
 
     ghost view = { table_shown };
 
-    ghost invariant = { HasClient };
+    ghost invariant = { HasBoth };
 }
 
 impl Table {
@@ -70,8 +80,8 @@ impl Table {
         if self.client.is_some() {
             return Ok(());
         }
-        let client = new_client(alloc)?;
-        self.pending = Some(new_pending(alloc)?);
+        let client = Box::new(alloc, Client::new(alloc, NO_CALLBACKS)?)?;
+        self.pending = Some(Box::new(alloc, Pending::new(alloc)?)?);
         self.client = Some(client);
         Ok(())
     }
@@ -99,7 +109,7 @@ impl Table {
         ensures { result ≡ self.now.client.callbacks }
     {
         match &self.client {
-            None => no_callbacks(),
+            None => NO_CALLBACKS,
             Some(client) => client.callbacks(),
         }
     }
@@ -207,36 +217,42 @@ impl Table {
         requires number { self.old.client.last_iteration < 2 ^ 32 - 1 }
         ensures { self.new ≡ with_client (started (asked op.now) iteration.room (λ choice. iteration.ids)) self.old }
     {
-        if let Some(client) = &mut self.client {
-            start(client, op, iteration);
-        }
+        let Op::Iter(place, over, _, _) = op else {
+            return;
+        };
+        let Some(handle) = self.handle(*over) else {
+            return;
+        };
+        let Some(client) = &mut self.client else {
+            unreachable!()
+        };
+        let Ok(()) = client.add_iteration(*place, handle.handle, iteration) else {
+            unreachable!()
+        };
     }
 
-    /// The iteration of a place is lent. The place goes on to stand for it.
-    pub fn lend_iteration(&mut self, place: u8) -> Option<Iteration>
-        requires place { place < places_max }
-        requires there { IsSome (iteration_at place self.old.client) }
-        requires here { IsNotLent place self.old.client }
-        ensures lent { result ≡ kept_at place self.old.client }
+    /// The iteration with which an operation goes on is lent. Its place goes on to stand for it.
+    pub fn lend_iteration(&mut self, op: &Op) -> Option<Iteration>
+        requires can { IsGoingOnWith (asked op.now) self.old.client }
+        ensures lent { result ≡ kept_asked (asked op.now) self.old.client }
         ensures valid { IsValid self.old.client }
-        ensures new { self.new ≡ with_client (lent place) self.old }
+        ensures new { self.new ≡ with_client (lending (asked op.now)) self.old }
     {
-        let Some(client) = &mut self.client else {
+        let (Some(client), Op::Next(place)) = (&mut self.client, op) else {
             unreachable!()
         };
-        lend(client, place)
+        client.lend_iteration(*place).ok()
     }
 
-    /// The iteration of a place, which is lent, comes back.
-    pub fn return_iteration(&mut self, place: u8, iteration: Iteration)
-        requires place { place < places_max }
-        requires out { IsLent place self.old.client }
-        ensures { self.new ≡ with_client (returned place iteration) self.old }
+    /// The iteration with which an operation went on comes back to its place.
+    pub fn return_iteration(&mut self, op: &Op, iteration: Iteration)
+        requires out { IsOutOf (asked op.now) self.old.client }
+        ensures { self.new ≡ with_client (come_back (asked op.now) iteration) self.old }
     {
-        let Some(client) = &mut self.client else {
+        let (Some(client), Op::Next(place)) = (&mut self.client, op) else {
             unreachable!()
         };
-        take_back(client, place, iteration);
+        client.return_iteration(*place, iteration);
     }
 
     /// The client begins one call more. Where it is answered OK, it has ended its iteration, is one that is not dispatched,
@@ -280,7 +296,9 @@ impl Table {
         let Some(pending) = &mut self.pending else {
             unreachable!()
         };
-        begin_alone(pending, async_call(call, op, handle));
+        let Ok(()) = pending.begin(async_call(call, op, handle)) else {
+            unreachable!()
+        };
     }
 
     // Callbacks are given: the places of the opens that they tell are set, and the calls are dispatched.
@@ -298,7 +316,7 @@ impl Table {
         ensures { self.new ≡ with_client (ended place) self.old }
     {
         if let Some(client) = &mut self.client {
-            end(client, place);
+            let _ended = client.end_iteration(place);
         }
     }
 
@@ -310,7 +328,9 @@ impl Table {
         let Some(client) = &mut self.client else {
             unreachable!()
         };
-        register(client, op);
+        if let Op::Client(_, _, callbacks) = op {
+            client.register(*callbacks);
+        }
     }
 
     /// The number of the handle that an operation closes, if it closes one.
@@ -333,7 +353,11 @@ impl Table {
         let (Some(client), Some(pending)) = (&self.client, &mut self.pending) else {
             return;
         };
-        pending.finish(call, handle_opened(client, &end), end);
+        let opened = match &end {
+            Outcome::Done(Answer::Opened(_)) => Some(client.last_handle()),
+            _ => None,
+        };
+        pending.finish(call, opened, end);
     }
 
     /// The asynchronous synchronisations over a handle that is closed go, if one is.
@@ -367,7 +391,16 @@ impl Table {
         let Some(client) = &mut self.client else {
             unreachable!()
         };
-        give(client, op, ckpt, creation_flags);
+        match op {
+            Op::Open(place, _, flags, _, _) => {
+                let number = take(client, ckpt, *flags, creation_flags);
+                client.bind(*place, number);
+            }
+            Op::OpenAsync(_, _, _, flags, _) => {
+                let _number = take(client, ckpt, *flags, creation_flags);
+            }
+            _ => {}
+        }
     }
 
     /// The handle is closed that an operation closes, and the iterations over it end. Where its place stands for none nothing
@@ -379,7 +412,7 @@ impl Table {
             return;
         };
         if let Some(client) = &mut self.client {
-            close(client, *place);
+            let _closed = client.drop_handle(*place);
         }
     }
 
@@ -389,7 +422,31 @@ impl Table {
         ensures { self.new ≡ with_client emptied self.old }
     {
         if let Some(client) = &mut self.client {
-            leave(client);
+            client.close_all();
         }
+    }
+}
+
+// A handle more of a checkpoint, opened by these flags, or for nothing where they are none; its number.
+fn take(client: &mut Client, ckpt: CkptId, flags: u32, creation_flags: u32) -> u32
+    requires room { has_handle_room client.old ≡ true }
+    requires number { client.old.last_number < 2 ^ 32 - 1 }
+    ensures there { IsSome (handle_numbered result client.new.handles) }
+    ensures number { result ≡ client.old.last_number + 1 }
+    ensures new { client.new ≡ taken ckpt (flags_or_none (open_flags_of flags)) creation_flags client.old }
+{
+    let Ok(number) = client.take_handle(ckpt, opened_for(flags), creation_flags) else {
+        unreachable!()
+    };
+    number
+}
+
+// What flags open for; nothing where they are none.
+fn opened_for(flags: u32) -> OpenFlags
+    ensures { result ≡ flags_or_none (open_flags_of flags) }
+{
+    match OpenFlags::from_bits(flags) {
+        Ok(flags) => flags,
+        Err(_) => NO_FLAGS,
     }
 }

@@ -22,8 +22,8 @@ use Rattle.client_handles.specs.declared.handle_view.HandleView.{HandleView}
 use Rattle.client_handles.specs.declared.kept.Bound.{Bound}
 use Rattle.client_handles.proofs.ClientLaws.{released-none}
 use Rattle.client_handles.proofs.IterationLaws.{HasIterations-new, HasIterations-taken, HasIterations-bound, HasIterations-released, HasIterations-emptied, HasIterations-added, HasIterations-keeping, HasIterations-ended}
-use Rattle.client_handles.proofs.RisingLaws.{numbered-at, remove-at, changed-at}
-use Rattle.client_handles.proofs.NumberedLaws.{numbered-All}
+use Rattle.client_handles.proofs.RisingLaws.{numbered-at, numbered-high, remove-at, changed-at}
+use Rattle.client_handles.proofs.NumberedLaws.{numbered-All, numbered-push_same}
 use Rattle.client_handles.proofs.KeptLemmas.{kept_numbered-none, kept_numbered-at, kept_numbered-under, AreNumbered-more, kept_numbered-more, kept_numbered-others, HaveKeys-more, AreNumbered-gone, kept_numbered-gone, kept_numbered-left, HaveKeys-gone}
 use Rattle.client_handles.proofs.ListedLemmas.{handles_up_to-none, handles_up_to-more, handles_up_to-gone, length-handles_up_to-gone, handle_numbered-past, handle_numbered-zero, handle_numbered-kept, RiseWithin-handles_up_to}
 
@@ -117,6 +117,14 @@ module _ (c : Inside) (sound : IsSound c) where
         handles_up_to-more c.last_number c.handles.slots new.slots h
         (kept_numbered-more c.last_number c.handles new key h sound.numbers vacant updates is_next)
         (kept_numbered-others c.last_number c.handles new key h sound.numbers vacant updates is_next)
+
+    -- it is found by its number
+    pub numbered-inserted : IsSome (handle_numbered (c.last_number + 1) (handles_up_to (c.last_number + 1) new.slots))
+    numbered-inserted =
+        let none_yet : handle_numbered (c.last_number + 1) (client_shown c).handles ≡ None = numbered-high handle_number (c.last_number + 1) 0 c.last_number (client_shown c).handles (omega arith) (RiseWithin-handles_up_to c.last_number c.handles.slots) in
+        let found : handle_numbered (c.last_number + 1) (handles_up_to (c.last_number + 1) new.slots) ≡ Some h =
+        ap (handle_numbered (c.last_number + 1)) handles_up_to-inserted ∙ numbered-push_same handle_number (c.last_number + 1) (client_shown c).handles h is_next none_yet in
+        subst (λ (o : Option HandleView). IsSome o) (sym found) cc
 
     pub IsSound-inserted : new.capacity ≡ c.handles.capacity → slab_len new ≡ slab_len c.handles + 1 → slab_len c.handles < handles_max → IsSound more
     IsSound-inserted capacity len room =

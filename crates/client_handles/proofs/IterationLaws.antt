@@ -5,6 +5,7 @@ use Rattle.std.specs.Option.{option_map, option_and_then, ok_or}
 use Rattle.std.proofs.lemmas.Bool.{cases_eq, eqb-true, eq-eqb, ne_eqb, ltb-true}
 use Rattle.std.proofs.lemmas.List.{length-map, get_or-set_same, get_or-set_other}
 use Rattle.std.proofs.lemmas.List.Elements.{All-filter, All-head, All-map, All-nil, All-push, All-tail, All-weaker, filter_passes}
+use Rattle.std.proofs.lemmas.Option.{none-some}
 use Rattle.ckpt_types.specs.declared.ais_error.AisError.{AisError}
 use Rattle.ckpt_types.specs.declared.ais_error.AisError.TheVariants.{BadHandle}
 use Rattle.ckpt_types.specs.declared.calls.CallbackSet.{CallbackSet}
@@ -167,6 +168,22 @@ iteration_at-lent_other place other s differs = numbered-keeping_other None (sli
 
 pub iteration_at-returned_other : (place other : ℕ) (kept : KeptIds) (s : ClientState) → slice_index s.iteration_places other ≢ slice_index s.iteration_places place → iteration_at other (returned place kept s) ≡ iteration_at other s
 iteration_at-returned_other place other kept s differs = numbered-keeping_other (Some kept) (slice_index s.iteration_places place) (slice_index s.iteration_places other) s.iterations differs
+
+absent_step : (kept : Option KeptIds) (x : BegunIteration) (rest left : List BegunIteration) (o : Option BegunIteration) → (o ≡ None → left ≡ rest) → (b : Bool) → cond b (Some x) o ≡ None → cond b (with_kept kept x) x ∷ left ≡ x ∷ rest
+absent_step kept x rest left o same true e = absurd (none-some x (sym e))
+absent_step kept x rest left o same false e = ap (λ ys. x ∷ ys) (same e)
+
+keeping-absent : (kept : Option KeptIds) (number : ℕ) (its : List BegunIteration) → numbered iteration_number number its ≡ None → keeping kept number its ≡ its
+keeping-absent kept number [] e = refl
+keeping-absent kept number (x ∷ its) e = absent_step kept x its (keeping kept number its) (numbered iteration_number number its) (keeping-absent kept number its) (iteration_number x == number) e
+
+-- where a place stands for none, none is lent
+pub lent-absent : (place : ℕ) (s : ClientState) → iteration_at place s ≡ None → s ≡ lent place s
+lent-absent place s none = λ i. record s { iterations = sym (keeping-absent None (slice_index s.iteration_places place) s.iterations none) i }
+
+-- and none ends
+pub ended-absent : (place : ℕ) (s : ClientState) → iteration_at place s ≡ None → s ≡ ended place s
+ended-absent place s none = λ i. record s { iterations = sym (without-absent iteration_number (slice_index s.iteration_places place) s.iterations none) i }
 
 -- what was handed out may be returned
 pub IsLent-lent : (place : ℕ) (s : ClientState) (kept : KeptIds) → Ok kept ≡ kept_iteration place s → IsLent place (lent place s)

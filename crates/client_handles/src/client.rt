@@ -155,6 +155,7 @@ impl Client {
         requires { IsTrue (has_handle_numbers self.old) }
         ensures answer { result ≡ taken_number self.old }
         ensures taken { OnOk result (self.new ≡ taken id flags creation_flags self.old) }
+        ensures opened { IfOk result (λ number. IsSome (handle_numbered number self.new.handles)) }
         ensures unchanged { OnErr result (self.new ≡ self.old) }
     {
         if !self.handle_room() {
@@ -248,8 +249,9 @@ impl Client {
     pub fn lend_iteration(&mut self, place: u8) -> Result<Iteration, AisError>
         requires { IsNotLent place self.old }
         ensures answer { result ≡ kept_iteration place self.old }
-        ensures lent { OnOk result (self.new ≡ lent place self.old) }
+        ensures lent { self.new ≡ lent place self.old }
         ensures unchanged { OnErr result (self.new ≡ self.old) }
+        ensures valid { IsValid self.old }
     {
         let number = number_at(&self.iteration_places, place);
         let Some(at) = place_of(self.iterations.as_slice(), number) else {
@@ -309,7 +311,7 @@ impl Client {
     /// changes.
     pub fn end_iteration(&mut self, place: u8) -> Result<(), AisError>
         ensures answer { result ≡ ended_answer place self.old }
-        ensures ended { OnOk result (self.new ≡ ended place self.old) }
+        ensures ended { self.new ≡ ended place self.old }
         ensures unchanged { OnErr result (self.new ≡ self.old) }
     {
         let number = number_at(&self.iteration_places, place);

@@ -1,3 +1,5 @@
+use Rattle.client_handles.specs.Client.{client_shown}
+use Rattle.client_handles.proofs.IterationLaws.{ended-absent}
 use Rattle.client_handles.proofs.ClientLemmas.{ended_answer-found, client_of-ended, IsSound-ended}
 use Rattle.client_handles.proofs.client.Client.end_iteration.Goals as goal
 
@@ -15,3 +17,8 @@ pub returns-clause-ended : goal.returns-clause-ended
 returns-clause-ended c =
     let found = rw c.number_at-number.ensures at (rw c.as_slice.ensures.value at c.in-Some.ensures.found) in
     rw (← c.self.view_is) (client_of-ended c.self.inside c.self.invariant c.args.place c.in-Some.at found c.remove.new.self c.remove.ensures.items)
+
+pub returns-in_default-clause-ended : goal.returns-in_default-clause-ended
+returns-in_default-clause-ended c =
+    let none = rw c.number_at-number.ensures at (rw c.as_slice.ensures.value at c.in_default.ensures.absent) in
+    rw (← c.self.view_is) (ended-absent c.args.place (client_shown c.self.inside) none)

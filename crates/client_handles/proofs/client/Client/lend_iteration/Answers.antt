@@ -1,8 +1,10 @@
 use Rattle.std.proofs.Common.{None, ap, sym, subst, ◌∙◌}
 use Rattle.std.specs.Option.{ok_or}
 use Rattle.ckpt_types.specs.declared.ais_error.AisError.TheVariants.{BadHandle}
+use Rattle.client_handles.specs.Client.{client_shown}
 use Rattle.client_handles.specs.ClientState.{IsNotLent}
-use Rattle.client_handles.proofs.ClientLemmas.{kept_iteration-found, kept-not_lent, client_of-kept, IsSound-kept}
+use Rattle.client_handles.proofs.ClientLemmas.{kept_iteration-found, kept-not_lent, client_of-kept, IsSound-kept, IsValid-shown}
+use Rattle.client_handles.proofs.IterationLaws.{lent-absent}
 use Rattle.client_handles.proofs.client.Client.lend_iteration.Goals as goal
 
 pub unreachable-requires : goal.unreachable-requires
@@ -24,3 +26,14 @@ pub returns-clause-lent : goal.returns-clause-lent
 returns-clause-lent c =
     let found = rw c.number_at-number.ensures at (rw c.as_slice.ensures.value at c.in-Some.ensures.found) in
     rw (← c.self.view_is) (client_of-kept c.self.inside c.self.invariant c.args.place c.in-Some.at found None c.take_kept.new.begun c.take_kept.ensures.items)
+
+pub returns-in_default-clause-lent : goal.returns-in_default-clause-lent
+returns-in_default-clause-lent c =
+    let none = rw c.number_at-number.ensures at (rw c.as_slice.ensures.value at c.in_default.ensures.absent) in
+    rw (← c.self.view_is) (lent-absent c.args.place (client_shown c.self.inside) none)
+
+pub returns-in_default-clause-valid : goal.returns-in_default-clause-valid
+returns-in_default-clause-valid c = rw (← c.self.view_is) (IsValid-shown c.self.inside c.self.invariant)
+
+pub returns-clause-valid : goal.returns-clause-valid
+returns-clause-valid c = rw (← c.self.view_is) (IsValid-shown c.self.inside c.self.invariant)

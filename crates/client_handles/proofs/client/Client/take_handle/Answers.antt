@@ -3,7 +3,7 @@ use Rattle.std.proofs.lemmas.Bool.{ltb-true}
 use Rattle.ckpt_types.specs.Limits.{handles_max}
 use Rattle.client_handles.specs.Client.{client_shown}
 use Rattle.client_handles.specs.ClientState.{has_handle_room}
-use Rattle.client_handles.proofs.ClientLemmas.{handles_up_to-inserted, IsSound-inserted}
+use Rattle.client_handles.proofs.ClientLemmas.{handles_up_to-inserted, numbered-inserted, IsSound-inserted}
 use Rattle.client_handles.proofs.client.Client.take_handle.Goals as goal
 
 pub invariant_of-self : goal.invariant_of-self
@@ -17,3 +17,6 @@ returns-clause-taken c =
     rw (← c.self.view_is)
     (ap (λ hs. record (client_shown c.self.inside) { last_number = c.self.inside.last_number + 1; handles = hs })
     (handles_up_to-inserted c.self.inside c.self.invariant _ _ _ c.insert_reserved.ensures.was_vacant c.insert_reserved.ensures.updates refl))
+
+pub returns-clause-opened : goal.returns-clause-opened
+returns-clause-opened c = numbered-inserted c.self.inside c.self.invariant _ _ _ c.insert_reserved.ensures.was_vacant c.insert_reserved.ensures.updates refl
