@@ -1,41 +1,30 @@
-//! What drives a call: what it does next, and how it ends.
+//! What drives a call: with what it begins, and what it does next.
 ghost use Rattle.cluster_record.specs.Makings.{makings_of};
 ghost use Rattle.std.specs.Prelude.{◌≡◌, ◌-◌, ◌^◌, ◌<◌, Some, IfOk, IsSome};
-ghost use Rattle.std.specs.Option.{option_map};
-ghost use Rattle.ckpt_types.specs.Limits.{client_numbers, nodes_max};
-ghost use Rattle.ckpt_machine.specs.Driving.{driver_next, driver_taken, driver_start, kind_of_change, change_start, active_start, sync_start, done_end, event_ckpt, event_node, making_in, index_told};
-ghost use Rattle.cluster_record.specs.StepDone.{done_of};
-ghost use Rattle.cluster_record.specs.Ends.{ended_unless};
-ghost use Rattle.client_calls.specs.CallStates.{synchronized_by, driver_in, step_in};
+ghost use Rattle.ckpt_types.specs.Limits.{client_numbers};
+ghost use Rattle.ckpt_machine.specs.Driving.{driver_next, driver_start, kind_of_change, change_start, active_start, sync_start, event_ckpt, event_node, making_in};
+ghost use Rattle.client_calls.specs.CallStates.{step_in};
 ghost use Rattle.cluster_record.specs.Calls.{client_of};
 ghost use Rattle.cluster_record.specs.RecordState.{home_of};
 ghost use Rattle.ckpt_types.specs.Asks.{asked};
 ghost use Rattle.ckpt_machine.specs.Options.{is_all, is_weak};
 ghost use Rattle.ckpt_machine.specs.Steps.{declares_at, kept_at_beginning};
 ghost use Rattle.ckpt_machine.specs.Tables.{rooms_in};
-ghost use Rattle.node_msgs.specs.declared.replies.Reply.TheVariants as replies;
-ghost use Rattle.node_msgs.specs.declared.steps.StepReply.TheVariants as words;
-ghost use Rattle.node_msgs.specs.declared.steps.Verb.TheVariants as verbs;
-ghost use Rattle.ckpt_types.specs.declared.answers.Answer.TheVariants as answers;
-ghost use Rattle.client_calls.specs.UpdateSteps.{IsUpdate};
 ghost use Rattle.client_calls.specs.Granting.{event_granted};
-ghost use Rattle.client_calls.specs.Taking.{driver_outcome, driver_told};
-ghost use Rattle.ckpt_machine.specs.Drivers.{Once, Open};
+ghost use Rattle.ckpt_machine.specs.Drivers.{Once};
 
 use crate::beginning::{choice_of, ckpt_of_handle};
 use crate::one_step::OneStep;
 use crate::options::{is_all, is_weak};
 use crate::table::Table;
-use ckpt_types::{
-    Answer, CallId, Cause, CkptId, NodeId, Op, Outcome, SharedAttributes, SharedName, Update,
-};
+use ckpt_types::{CallId, CkptId, NodeId, Op, SharedAttributes, SharedName, Update};
 use client_handles::HandleView;
 use cluster_record::{ActiveKind, Record, SyncKind, number_of};
 use drive_active::ActiveCall;
 use drive_open::{OpenCall, SharedAsk};
 use drive_sync::SyncCall;
 use drive_update::UpdateCall;
-use node_msgs::{Next, RecordStep, Reply};
+use node_msgs::{Next, RecordStep};
 use std::alloc::AllocError;
 use std::marker::Model;
 
@@ -155,17 +144,6 @@ impl Driver {
         }
     }
 
-    /// The checkpoint that the call synchronizes, or whose active it sets.
-    pub fn synchronized(&self) -> CkptId
-        requires { IsSome (synchronized_by self.now) }
-        ensures { synchronized_by self.now ≡ Some result }
-    {
-        let DriverKind::Sync(sync) = &self.kind else {
-            unreachable!()
-        };
-        sync.ckpt()
-    }
-
     /// What the call does next, by the record and by what its client's tables have a free place for.
     #[inline(always)]
     pub fn next(&self, cluster: &Record, table: &Table, c: u8) -> Next
@@ -181,62 +159,6 @@ impl Driver {
             DriverKind::Active(active) => active.next(cluster, table.has_iteration_room()),
             DriverKind::Sync(sync) => sync.next(cluster),
         }
-    }
-
-    /// The call takes a reply: of a node to what is next, or of the record to a step, with the record behind that. What
-    /// its operation ends with, if it ends.
-    #[inline(always)]
-    pub fn take(&mut self, op: &Op, cluster: &Record, reply: &Reply) -> Option<Outcome>
-        ensures new { self.new ≡ driver_told cluster.now reply.now self.old }
-        ensures outcome { result ≡ option_map (index_told op.now) (driver_outcome cluster.now reply.now self.old) }
-    {
-        let outcome = match &mut self.kind {
-            DriverKind::Update(update) => update.take(cluster, reply),
-            DriverKind::Active(active) => active.take(cluster, reply),
-            DriverKind::Sync(sync) => sync.take(cluster, reply),
-            DriverKind::Open(open_call) => open_call.take(cluster, reply),
-            DriverKind::Once(step) => step.take(reply),
-        };
-        index_told(op, outcome)
-    }
-
-    /// It takes that the record has done its step, on this checkpoint, as `take` of that reply; an open does so sooner.
-    #[inline(never)]
-    pub fn take_done(&mut self, op: &Op, cluster: &Record, ckpt: Option<CkptId>) -> Option<Outcome>
-        ensures new { self.new ≡ driver_told cluster.now (replies.Done answers.Nothing) self.old }
-        ensures outcome { result ≡ option_map (index_told op.now) (driver_outcome cluster.now (replies.Done answers.Nothing) self.old) }
-    {
-        let DriverKind::Open(open_call) = &mut self.kind else {
-            return self.take(op, cluster, &Reply::Done(Answer::Nothing));
-        };
-        index_told(op, open_call.take_step(cluster, ckpt))
-    }
-
-    /// The update takes that a node has staged it.
-    #[inline(always)]
-    pub fn staged(&mut self, cluster: &Record, ckpt: CkptId, r: NodeId)
-        requires update { IsUpdate self.old }
-        requires node { r < nodes_max }
-        ensures { self.new ≡ driver_taken (done_of cluster.now verbs.Stage (Some ckpt) (Some r) words.Ok) self.old }
-    {
-        let DriverKind::Update(update) = &mut self.kind else {
-            unreachable!()
-        };
-        update.staged(cluster, ckpt, r);
-    }
-
-    /// The update takes that a node has committed it. Whether it goes on, having a slot left.
-    #[inline(always)]
-    pub fn committed(&mut self, cluster: &Record, ckpt: CkptId, r: NodeId) -> bool
-        requires update { IsUpdate self.old }
-        requires node { r < nodes_max }
-        ensures new { self.new ≡ driver_taken (done_of cluster.now verbs.Commit (Some ckpt) (Some r) words.Ok) self.old }
-        ensures end { ended_unless result ≡ done_end (done_of cluster.now verbs.Commit (Some ckpt) (Some r) words.Ok) answers.Nothing self.new }
-    {
-        let DriverKind::Update(update) = &mut self.kind else {
-            unreachable!()
-        };
-        update.committed(cluster, ckpt, r)
     }
 }
 
@@ -255,20 +177,6 @@ fn open_ask(
         client,
         node: cluster.home_of(client),
     })
-}
-
-// A refusal of a vector tells the index of its first refused element, and any other tells none.
-#[inline(always)]
-fn index_told(op: &Op, outcome: Option<Outcome>) -> Option<Outcome>
-    ensures { result ≡ option_map (index_told op.now) outcome }
-{
-    let Some(Outcome::Refused(error, Cause::Index(_))) = outcome else {
-        return outcome;
-    };
-    match op {
-        Op::Write(_, _) | Op::Read(_, _) => outcome,
-        _ => Some(Outcome::Refused(error, Cause::Plain)),
-    }
 }
 
 // An update of all replicas, or of the active alone, as its checkpoint declares.

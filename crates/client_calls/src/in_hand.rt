@@ -1,6 +1,7 @@
 //! One call in hand, and the place in which it stands.
 ghost use Rattle.std.specs.Prelude.{◌≡◌, ◌<◌, Some, None, is_some, IsSome};
-ghost use Rattle.std.specs.Option.{option_and_then};
+ghost use Rattle.std.specs.Option.{option_and_then, option_map};
+ghost use Rattle.ckpt_machine.specs.Driving.{index_told};
 ghost use Rattle.ckpt_types.specs.OpWord.{word_of_op};
 ghost use Rattle.ckpt_types.specs.declared.answers.Answer.TheVariants as answers;
 ghost use Rattle.node_msgs.specs.declared.replies.Reply.TheVariants as replies;
@@ -17,8 +18,8 @@ ghost use Rattle.client_calls.specs.CallStates.{synchronized_by};
 ghost use Rattle.ckpt_types.specs.declared.identities.Who.TheVariants.{Actor};
 ghost use Rattle.client_calls.specs.Names.{client_by};
 
-use crate::drivers::Driver;
-use ckpt_types::{CallId, CkptId, NodeId, Op, Outcome, Who};
+use crate::drivers::{Driver, DriverKind};
+use ckpt_types::{Answer, CallId, Cause, CkptId, NodeId, Op, Outcome, Who};
 use cluster_record::{Record, number_of};
 use node_msgs::Reply;
 use run_labels::OpWord;
@@ -55,17 +56,28 @@ impl InHand {
         ensures new { self.new ≡ hand_told cluster.now reply.now self.old }
         ensures outcome { result ≡ hand_outcome cluster.now reply.now self.old }
     {
-        self.driver.take(&self.op, cluster, reply)
+        let outcome = match &mut self.driver.kind {
+            DriverKind::Update(update) => update.take(cluster, reply),
+            DriverKind::Active(active) => active.take(cluster, reply),
+            DriverKind::Sync(sync) => sync.take(cluster, reply),
+            DriverKind::Open(open_call) => open_call.take(cluster, reply),
+            DriverKind::Once(step) => step.take(reply),
+        };
+        index_told(&self.op, outcome)
     }
 
-    /// It takes that the record has done its step, on this checkpoint, with the record behind that. What it ends with, if
-    /// it ends.
-    #[inline(always)]
+    /// It takes that the record has done its step, on this checkpoint, with the record behind that, as `take` of that
+    /// reply; an open does so sooner. What it ends with, if it ends.
+    #[inline(never)]
     pub fn take_done(&mut self, cluster: &Record, ckpt: Option<CkptId>) -> Option<Outcome>
         ensures new { self.new ≡ hand_told cluster.now (replies.Done answers.Nothing) self.old }
         ensures outcome { result ≡ hand_outcome cluster.now (replies.Done answers.Nothing) self.old }
     {
-        self.driver.take_done(&self.op, cluster, ckpt)
+        let DriverKind::Open(open_call) = &mut self.driver.kind else {
+            return self.take(cluster, &Reply::Done(Answer::Nothing));
+        };
+        let outcome = open_call.take_step(cluster, ckpt);
+        index_told(&self.op, outcome)
     }
 
     /// It takes that its step was refused, by the record or for the memory that it takes. What it ends with, if it ends.
@@ -84,7 +96,10 @@ impl InHand {
         requires node { r < nodes_max }
         ensures { self.new ≡ hand_taken (done_of cluster.now verbs.Stage (Some ckpt) (Some r) words.Ok) self.old }
     {
-        self.driver.staged(cluster, ckpt, r);
+        let DriverKind::Update(update) = &mut self.driver.kind else {
+            unreachable!()
+        };
+        update.staged(cluster, ckpt, r);
     }
 
     /// The update takes that a node has committed it. Whether it goes on, having a slot left.
@@ -95,7 +110,10 @@ impl InHand {
         ensures new { self.new ≡ hand_taken (done_of cluster.now verbs.Commit (Some ckpt) (Some r) words.Ok) self.old }
         ensures end { ended_unless result ≡ hand_end (done_of cluster.now verbs.Commit (Some ckpt) (Some r) words.Ok) (replies.Done answers.Nothing) self.new }
     {
-        self.driver.committed(cluster, ckpt, r)
+        let DriverKind::Update(update) = &mut self.driver.kind else {
+            unreachable!()
+        };
+        update.committed(cluster, ckpt, r)
     }
 
     /// The room that it has for a snapshot is taken out of it, with what it has pulled.
@@ -111,7 +129,24 @@ impl InHand {
         requires { IsSome (synchronized_by self.now.driver) }
         ensures { synchronized_by self.now.driver ≡ Some result }
     {
-        self.driver.synchronized()
+        let DriverKind::Sync(sync) = &self.driver.kind else {
+            unreachable!()
+        };
+        sync.ckpt()
+    }
+}
+
+// A refusal of a vector tells the index of its first refused element, and any other tells none.
+#[inline(always)]
+fn index_told(op: &Op, outcome: Option<Outcome>) -> Option<Outcome>
+    ensures { result ≡ option_map (index_told op.now) outcome }
+{
+    let Some(Outcome::Refused(error, Cause::Index(_))) = outcome else {
+        return outcome;
+    };
+    match op {
+        Op::Write(_, _) | Op::Read(_, _) => outcome,
+        _ => Some(Outcome::Refused(error, Cause::Plain)),
     }
 }
 
