@@ -80,18 +80,6 @@ pub refused_told : (end : Outcome) → ((answer : Answer) → end ≡ Done answe
 refused_told (Done answer) other ask p = absurd (other answer refl)
 refused_told end other ask p = refl
 
--- nothing is asked of its client's table
-pub refused_can : (end : Outcome) → ((answer : Answer) → end ≡ Done answer → ⊥) → (call : CallId) (op : Op) (o : Option TableState) → IfSome o (CanBegin (Some end) call op)
-refused_can (Done answer) other call op o = absurd (other answer refl)
-refused_can end other call op None = tt
-refused_can end other call op (Some t) = tt
-
--- nor where it is no asynchronous one
-pub plain_can : (end : Outcome) (call : CallId) (op : Op) → is_async (word_of_op op) ≡ false → (o : Option TableState) → IfSome o (CanBegin (Some end) call op)
-plain_can end call op plain None = tt
-plain_can (Done answer) call op plain (Some t) = λ async. absurd (let it : false ≡ true = sym plain ∙ async in cc it)
-plain_can end call op plain (Some t) = tt
-
 -- where it is answered OK, it would not be refused
 pub was_unrefused : (ask : Ask) (due : Option Outcome) (answer : Answer) → IsBeginEnd ask due (Some (Done answer)) → is_unrefused due ≡ true
 was_unrefused ask due answer (inl same) = ap is_unrefused (sym same)

@@ -85,32 +85,12 @@ step_under v old new hand next op verb k r reply end details held same_call same
 -- a step of the record tells no count
 pub event_counts : (m : Machine) (step : RecordStep) (k r : Option ℕ) (reply : StepReply) → counted_at m (event_verb step) k r reply ≡ 0
 event_counts m events.Enter k r reply = refl
-event_counts m events.Leave k r reply = refl
-event_counts m events.Open k r reply = refl
-event_counts m events.Create k r reply = refl
-event_counts m events.Finish k r reply = refl
-event_counts m events.Undo k r reply = refl
-event_counts m events.Close k r reply = refl
-event_counts m events.Unlink k r reply = refl
-event_counts m events.Retain k r reply = refl
-event_counts m (events.Hold q) k r reply = refl
-event_counts m (events.Activate q) k r reply = refl
-event_counts m (events.Complete j q t) k r reply = refl
+event_counts m step k r reply = refl
 
 -- and a plain one pulls nothing
 pub event_pulls : (m : Machine) (s : CallState) (step : RecordStep) (k r : Option ℕ) (reply : StepReply) → IsPlain step → pulled_by m s (event_verb step) k r reply ≡ s.snapshot
-event_pulls m s events.Enter k r reply plain = refl
-event_pulls m s events.Leave k r reply plain = refl
-event_pulls m s events.Open k r reply plain = refl
-event_pulls m s events.Create k r reply plain = refl
-event_pulls m s events.Finish k r reply plain = refl
-event_pulls m s events.Undo k r reply plain = refl
-event_pulls m s events.Close k r reply plain = refl
-event_pulls m s events.Unlink k r reply plain = refl
-event_pulls m s events.Retain k r reply plain = refl
 event_pulls m s (events.Hold q) k r reply plain = absurd plain
-event_pulls m s (events.Activate q) k r reply plain = absurd plain
-event_pulls m s (events.Complete j q t) k r reply plain = refl
+event_pulls m s step k r reply plain = refl
 
 -- `behind` shows with the history `later` what the step changes, the call's own steps aside
 -- and the call is told this count, has this copy in its hand, and has pulled these effects then

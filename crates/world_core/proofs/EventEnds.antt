@@ -30,15 +30,15 @@ use Rattle.cluster_record.specs.declared.entries.Entry.{Entry}
 use Rattle.cluster_record.specs.declared.opening.OpenAnswer.TheVariants as opening
 use Rattle.cluster_record.specs.Calls.{same_call}
 use Rattle.cluster_record.specs.DueOnce as once
-use Rattle.cluster_record.specs.DueOpen.{OpenState, accepts, by_making, made_of, making_ckpt, on_making, open_next, reserve_or_finish, targets_of}
+use Rattle.cluster_record.specs.DueOpen.{OpenState, accepts, by_making, made_of, on_making, open_next, reserve_or_finish, targets_of}
 use Rattle.cluster_record.specs.DueSync.{SyncState, first_unserved, install_next, kind_next, sync_next, sync_on, synchronize_next, unless_held, unless_stale}
-use Rattle.cluster_record.specs.Ends.{hold_in, is_own, made_in, making_next, making_outcome_by, making_told_by, open_outcome_by, open_told_by, opened_in, refused_end, set_unless_held, setting_end, sync_outcome_by, sync_told_by}
+use Rattle.cluster_record.specs.Ends.{hold_in, is_own, made_in, making_next, making_outcome_by, making_told_by, open_outcome_by, opened_in, refused_end, set_unless_held, setting_end, sync_outcome_by, sync_told_by}
 use Rattle.cluster_record.specs.Identities.{IdentitiesRise}
 use Rattle.cluster_record.specs.LookUps.{at_ckpt, identity_in}
 use Rattle.cluster_record.specs.Opening.{answer_by, answer_named}
 use Rattle.cluster_record.specs.Placement.{adds}
 use Rattle.cluster_record.specs.Places.{change_key}
-use Rattle.cluster_record.specs.RecordState.{RecordState, can_be_held, can_lead, created_as, entry_of, finished, home_of, identity_of, is_live, is_name, joined, named, new_entry, opened, opened_with, stays, swept, undone, with_active, with_hold, generation_under}
+use Rattle.cluster_record.specs.RecordState.{RecordState, can_be_held, can_lead, created_as, entry_of, home_of, identity_of, is_live, is_name, joined, named, new_entry, opened, opened_with, stays, swept, with_active, with_hold, generation_under}
 use Rattle.cluster_record.specs.Refusals.{plainly}
 use Rattle.cluster_record.specs.StepDone.{done_of, first_lacking}
 use Rattle.cluster_record.proofs.IdentityLaws.{KeepsIdentity, AllAbove-entry_of, entry_of-find}
@@ -54,6 +54,7 @@ use Rattle.ckpt_machine.proofs.Actors.{same_call-refl}
 use Rattle.ckpt_machine.proofs.AskedFor.{DrivesFor, state_drives}
 use Rattle.ckpt_machine.proofs.Deadlines.{in_time-either}
 use Rattle.ckpt_machine.proofs.EntryLists.{AllStay-change_key, AllStay-push, filter-stays, find_key-change_key, stays-referred}
+use Rattle.ckpt_machine.proofs.Joining.{opened_with-identity}
 use Rattle.ckpt_machine.proofs.OptionLemmas.{IsSomeAnd-at}
 use Rattle.ckpt_machine.proofs.HeldIdentity.{with_active-identity, with_hold-identity}
 use Rattle.client_calls.specs.declared.in_hand.InHand.{InHand}
@@ -122,21 +123,12 @@ module _ (R : RecordState) (k : ℕ) (f : Entry → Entry) (same : KeepsIdentity
   named_changed : (name : List ℕ) → KeepsName f → named name R.entries ≡ Some e → e.identity ≡ k → named name (filter (stays R.moment) then_entries) ≡ Some (f e)
   named_changed name keeps was is = ap (named name) all_stay ∙ named_change_key name k f keeps R.entries e rises was is
 
--- a checkpoint that is opened stays, under its name and its identity, and made where it was
-joined_stays : (t : ℤ) (opener : ℕ) (up : List ℕ) (e : Entry) → stays t e ≡ true → stays t (joined opener up e) ≡ true
-joined_stays t opener up e stay = elim (adds e.attributes opener e.complete) as (λ b. stays t (cond b (record e { complete = slice_set e.complete opener (slice_index up opener) }) e) ≡ true) [ true ↦ stay | false ↦ stay ]
+-- a checkpoint that is opened changes in its nodes and its references alone
+joined_keeps : {X : Type 0} (f : Entry → X) (opener : ℕ) (up : List ℕ) (e : Entry) → ((nodes : List ℕ) → f (record e { complete = nodes }) ≡ f e) → f (joined opener up e) ≡ f e
+joined_keeps f opener up e same = elim (adds e.attributes opener e.complete) as (λ b. f (cond b (record e { complete = slice_set e.complete opener (slice_index up opener) }) e) ≡ f e) [ true ↦ same (slice_set e.complete opener (slice_index up opener)) | false ↦ refl ]
 
 opened_stays : (t : ℤ) (opener : ℕ) (up : List ℕ) (c : ℕ) (e : Entry) → stays t e ≡ true → stays t (opened_with opener up c e) ≡ true
-opened_stays t opener up c e stay = stays-referred t c (joined opener up e) (joined_stays t opener up e stay)
-
-opened_identity : (opener : ℕ) (up : List ℕ) (c : ℕ) → KeepsIdentity (opened_with opener up c)
-opened_identity opener up c e = elim (adds e.attributes opener e.complete) as (λ b. (cond b (record e { complete = slice_set e.complete opener (slice_index up opener) }) e).identity ≡ e.identity) [ true ↦ refl | false ↦ refl ]
-
-opened_name : (opener : ℕ) (up : List ℕ) (c : ℕ) → KeepsName (opened_with opener up c)
-opened_name opener up c e = elim (adds e.attributes opener e.complete) as (λ b. (cond b (record e { complete = slice_set e.complete opener (slice_index up opener) }) e).name ≡ e.name) [ true ↦ refl | false ↦ refl ]
-
-opened_making : (opener : ℕ) (up : List ℕ) (c : ℕ) (e : Entry) → (opened_with opener up c e).making ≡ e.making
-opened_making opener up c e = elim (adds e.attributes opener e.complete) as (λ b. (cond b (record e { complete = slice_set e.complete opener (slice_index up opener) }) e).making ≡ e.making) [ true ↦ refl | false ↦ refl ]
+opened_stays t opener up c e stay = stays-referred t c (joined opener up e) (joined_keeps (stays t) opener up e (λ nodes. refl) ∙ stay)
 
 hold_stays : (t : ℤ) (call : CallId) (e : Entry) → stays t e ≡ true → stays t (with_hold call e) ≡ true
 hold_stays t call e stay = elim (can_be_held e) as (λ b. stays t (cond b (record e { hold = Some call }) e) ≡ true) [ true ↦ stay | false ↦ stay ]
@@ -227,7 +219,7 @@ module _ (R : RecordState) (s : SyncState) (local : ℕ) (kind : s.kind ≡ Acti
 -- ---- a step that is done
 
 -- what the record has done of its step, once it is as N
-abbrev is_done : Reply
+abbrev pub is_done : Reply
 is_done = replies.Done answers.Nothing
 
 record TakesDone (R : RecordState) (x : Driver) (step : RecordStep) (N : RecordState) : Type 0 where
@@ -235,13 +227,14 @@ record TakesDone (R : RecordState) (x : Driver) (step : RecordStep) (N : RecordS
   told : driver_told N is_done x ≡ driver_taken (done_of N (event_verb step) (event_ckpt R x step) (event_node x step) words.Ok) x
 
 module _ (R : RecordState) (call : CallId) (rises : IdentitiesRise R.entries) (stay : AllStay R.moment R.entries) where
-  module _ (o : OpenState) (call_is : o.call ≡ call) where
-    abbrev behind : RecordStep → RecordState
-    behind step = event_after call (drivers.Open o) step R
+  -- an open that is making nothing
+  module _ (base : OpenState) (call_is : base.call ≡ call) where
+    abbrev o : OpenState
+    o = record base { making = None }
 
-    create_done : o.making ≡ None → (a : CreationAttributes) → o.ask.attrs ≡ Some a → named o.ask.name R.entries ≡ None → TakesDone R (drivers.Open o) events.Create (behind events.Create)
-    create_done none a given free =
-        let N = behind events.Create in
+    create_done : (a : CreationAttributes) → o.ask.attrs ≡ Some a → named o.ask.name R.entries ≡ None → TakesDone R (drivers.Open o) events.Create (event_after call (drivers.Open o) events.Create R)
+    create_done a given free =
+        let N = event_after call (drivers.Open o) events.Create R in
         let new : Entry = new_entry call o.ask.name a R in
         let own : same_call call o.call ≡ true = ap (same_call call) call_is ∙ same_call-refl call in
         let there : named o.ask.name N.entries ≡ Some new
@@ -249,50 +242,23 @@ module _ (R : RecordState) (call : CallId) (rises : IdentitiesRise R.entries) (s
         ∙ ap (named o.ask.name) (filter-stays R.moment (R.entries ++ new ∷ []) (AllStay-push R.moment R.entries new stay refl))
         ∙ named_push o.ask.name R.entries new free (own_name o.ask.name) in
         record {
-          outcome = ap (open_outcome_by N is_done o) none ∙ ap (opened_in o.call) there ∙ ap (λ b. cond b None (Some (Done (answers.Opened new.identity)))) own;
-          told = ap drivers.Open (ap (open_told_by N is_done o) none ∙ (λ i. record o { making = made_in o.call (there i) }) ∙ (λ i. record o { making = cond (own i) (made_of (Some new.identity)) None }));
+          outcome = ap (opened_in o.call) there ∙ ap (λ b. cond b None (Some (Done (answers.Opened new.identity)))) own;
+          told = (λ i. drivers.Open (record o { making = made_in o.call (there i) })) ∙ (λ i. drivers.Open (record o { making = cond (own i) (made_of (Some new.identity)) None }));
         }
 
-    open_done : o.making ≡ None → (e : Entry) → named o.ask.name R.entries ≡ Some e → entry_of e.identity R.entries ≡ Some e → e.making ≡ None → TakesDone R (drivers.Open o) events.Open (behind events.Open)
-    open_done none e found there made =
-        let N = behind events.Open in
+    open_done : (e : Entry) → named o.ask.name R.entries ≡ Some e → entry_of e.identity R.entries ≡ Some e → e.making ≡ None → TakesDone R (drivers.Open o) events.Open (event_after call (drivers.Open o) events.Open R)
+    open_done e found there made =
+        let N = event_after call (drivers.Open o) events.Open R in
         let home = home_of o.ask.client R in
         let f : Entry → Entry = opened_with home R.up o.ask.client in
         let after : named o.ask.name N.entries ≡ Some (f e)
         = ap (λ z. named o.ask.name (swept (at_ckpt (identity_in z) R (λ k. opened k o.ask.client R))).entries) found
-        ∙ named_changed R e.identity f (opened_identity home R.up o.ask.client) (opened_stays R.moment home R.up o.ask.client) e there rises stay o.ask.name (opened_name home R.up o.ask.client) found refl in
-        let made_then : (f e).making ≡ None = opened_making home R.up o.ask.client e ∙ made in
+        ∙ named_changed R e.identity f (opened_with-identity home R.up o.ask.client) (opened_stays R.moment home R.up o.ask.client) e there rises stay o.ask.name (λ x. joined_keeps (λ (y : Entry). y.name) home R.up x (λ nodes. refl)) found refl in
+        let made_then : (f e).making ≡ None = joined_keeps (λ (y : Entry). y.making) home R.up e (λ nodes. refl) ∙ made in
         record {
-          outcome = ap (open_outcome_by N is_done o) none ∙ ap (opened_in o.call) after ∙ ap (λ w. cond (is_own o.call w) None (Some (Done (answers.Opened (f e).identity)))) made_then
-              ∙ ap (λ k. Some (Done (answers.Opened k))) (opened_identity home R.up o.ask.client e) ∙ sym (ap (λ z. opened_end (identity_in z)) found);
-          told = ap drivers.Open (ap (open_told_by N is_done o) none ∙ (λ i. record o { making = made_in o.call (after i) }) ∙ (λ i. record o { making = cond (is_own o.call (made_then i)) (made_of (Some (f e).identity)) None }) ∙ (λ i. record o { making = sym none i }));
-        }
-
-    -- what ends a making leaves what is next of it
-    finished_next : (k : Option ℕ) (w : Making) → making_next (swept (at_ckpt k R (λ k. finished k o.ask.client R))) o w ≡ making_next R o w
-    finished_next None w = refl
-    finished_next (Some k) w = refl
-
-    undone_next : (k : Option ℕ) (w : Making) → making_next (swept (at_ckpt k R (λ k. undone k R))) o w ≡ making_next R o w
-    undone_next None w = refl
-    undone_next (Some k) w = refl
-
-    finish_done : (w : Making) → o.making ≡ Some w → making_next R o w ≡ Event events.Finish → TakesDone R (drivers.Open o) events.Finish (behind events.Finish)
-    finish_done w makes next =
-        let N = behind events.Finish in
-        let stays_next : making_next N o w ≡ Event events.Finish = finished_next (making_ckpt o.making) w ∙ next in
-        record {
-          outcome = ap (open_outcome_by N is_done o) makes ∙ ap (making_outcome_by N is_done w) stays_next ∙ sym (ap (λ z. opened_end (making_ckpt z)) makes);
-          told = ap drivers.Open (ap (open_told_by N is_done o) makes ∙ ap (making_told_by N is_done o) stays_next);
-        }
-
-    undo_done : (w : Making) → o.making ≡ Some w → making_next R o w ≡ Event events.Undo → TakesDone R (drivers.Open o) events.Undo (behind events.Undo)
-    undo_done w makes next =
-        let N = behind events.Undo in
-        let stays_next : making_next N o w ≡ Event events.Undo = undone_next (making_ckpt o.making) w ∙ next in
-        record {
-          outcome = ap (open_outcome_by N is_done o) makes ∙ ap (making_outcome_by N is_done w) stays_next;
-          told = ap drivers.Open (ap (open_told_by N is_done o) makes ∙ ap (making_told_by N is_done o) stays_next);
+          outcome = ap (opened_in o.call) after ∙ ap (λ w. cond (is_own o.call w) None (Some (Done (answers.Opened (f e).identity)))) made_then
+              ∙ ap (λ k. Some (Done (answers.Opened k))) (opened_with-identity home R.up o.ask.client e) ∙ sym (ap (λ z. opened_end (identity_in z)) found);
+          told = (λ i. drivers.Open (record o { making = made_in o.call (after i) })) ∙ (λ i. drivers.Open (record o { making = cond (is_own o.call (made_then i)) (made_of (Some (f e).identity)) None }));
         }
 
   module _ (u : SyncState) (local : ℕ) (kind : u.kind ≡ ActiveSet local) (e : Entry) (there : entry_of u.ckpt R.entries ≡ Some e) where
@@ -323,19 +289,28 @@ module _ (m : Machine) (s : CallState) (rises : IdentitiesRise m.cluster.entries
   abbrev Done_of : Driver → RecordStep → Type 0
   Done_of x step = TakesDone m.cluster x step (event_after s.call x step m.cluster)
 
+  -- what holds of an open that is making this, holds of one by what it is making
+  of_making : (o : OpenState) (step : RecordStep) (w : Option Making) → o.making ≡ w → Done_of (drivers.Open (record o { making = w })) step → Done_of (drivers.Open o) step
+  of_making o step w makes done = subst (λ w. Done_of (drivers.Open (record o { making = w })) step) (sym makes) done
+
   opens_done : (o : OpenState) → o.call ≡ s.call → open_next m.cluster rooms.handles o ≡ Event events.Open → event_refusal m.cluster events.Open (drivers.Open o) ≡ None → IsSomeAnd (named o.ask.name m.cluster.entries) (FitsOpen m o.ask) → Done_of (drivers.Open o) events.Open
   opens_done o call_is next granted there =
       let (e, found, fits) = IsSomeAnd-at (named o.ask.name m.cluster.entries) (FitsOpen m o.ask) there in
       let made : e.making ≡ None = made_as e o.ask.attrs (home_of o.ask.client m.cluster) e.making refl (subst (λ z. refusal_in (answer_named m.cluster o.ask.attrs (home_of o.ask.client m.cluster) z) ≡ None) found granted) in
-      open_done m.cluster s.call rises stay o call_is (makes_nothing m.cluster rooms.handles o events.Open (λ none. none) next) e found (entry_of-find _ m.cluster.entries e rises found) made
+      of_making o events.Open None (makes_nothing m.cluster rooms.handles o events.Open (λ none. none) next) (open_done m.cluster s.call rises stay o call_is e found (entry_of-find _ m.cluster.entries e rises found) made)
 
-  finishes_done : (o : OpenState) (w : Option Making) → o.making ≡ w → o.call ≡ s.call → by_making m.cluster rooms.handles o w ≡ Event events.Finish → IsFinishable m o.ask.client w → Done_of (drivers.Open o) events.Finish
-  finishes_done o None makes call_is next ready = absurd ready
-  finishes_done o (Some w) makes call_is next ready = finish_done m.cluster s.call rises stay o call_is w makes next
+  -- what ends a making leaves what is next of it
+  finishes_done : (o : OpenState) (w : Option Making) → o.making ≡ w → by_making m.cluster rooms.handles o w ≡ Event events.Finish → IsFinishable m o.ask.client w → Done_of (drivers.Open o) events.Finish
+  finishes_done o None makes next ready = absurd ready
+  finishes_done o (Some w) makes next ready = of_making o events.Finish (Some w) makes (
+      let N = event_after s.call (drivers.Open (record o { making = Some w })) events.Finish m.cluster in
+      record { outcome = ap (making_outcome_by N is_done w) next; told = ap (λ n. drivers.Open (making_told_by N is_done (record o { making = Some w }) n)) next })
 
-  undoes_done : (o : OpenState) (w : Option Making) → o.making ≡ w → o.call ≡ s.call → by_making m.cluster rooms.handles o w ≡ Event events.Undo → IsSomeAnd w (λ w. Unit {0}) → Done_of (drivers.Open o) events.Undo
-  undoes_done o None makes call_is next ready = absurd ready
-  undoes_done o (Some w) makes call_is next ready = undo_done m.cluster s.call rises stay o call_is w makes next
+  undoes_done : (o : OpenState) (w : Option Making) → o.making ≡ w → by_making m.cluster rooms.handles o w ≡ Event events.Undo → IsSomeAnd w (λ w. Unit {0}) → Done_of (drivers.Open o) events.Undo
+  undoes_done o None makes next ready = absurd ready
+  undoes_done o (Some w) makes next ready = of_making o events.Undo (Some w) makes (
+      let N = event_after s.call (drivers.Open (record o { making = Some w })) events.Undo m.cluster in
+      record { outcome = ap (making_outcome_by N is_done w) next; told = ap (λ n. drivers.Open (making_told_by N is_done (record o { making = Some w }) n)) next })
 
   -- each call takes it so
   takes_done : (x : Driver) (step : RecordStep) → DrivesFor s.call (asked s.op) x → driver_next m.cluster rooms x ≡ Event step → event_refusal m.cluster step x ≡ None → IsEventReady m s x step → Done_of x step
@@ -346,10 +321,10 @@ module _ (m : Machine) (s : CallState) (rises : IdentitiesRise m.cluster.entries
   takes_done (drivers.Once (once.Retain k duration)) events.Retain drives next granted ready = record { outcome = refl; told = refl }
   takes_done (drivers.Open o) events.Create drives next granted ready =
       let (a, given, any) = IsSomeAnd-at o.ask.attrs (λ a. Unit {0}) ready.1 in
-      create_done m.cluster s.call rises stay o drives.call_is (makes_nothing m.cluster rooms.handles o events.Create (λ none. none) next) a given ready.2
+      of_making o events.Create None (makes_nothing m.cluster rooms.handles o events.Create (λ none. none) next) (create_done m.cluster s.call rises stay o drives.call_is a given ready.2)
   takes_done (drivers.Open o) events.Open drives next granted ready = opens_done o drives.call_is next granted ready.0
-  takes_done (drivers.Open o) events.Finish drives next granted ready = finishes_done o o.making refl drives.call_is next ready.0
-  takes_done (drivers.Open o) events.Undo drives next granted ready = undoes_done o o.making refl drives.call_is next ready.0
+  takes_done (drivers.Open o) events.Finish drives next granted ready = finishes_done o o.making refl next ready.0
+  takes_done (drivers.Open o) events.Undo drives next granted ready = undoes_done o o.making refl next ready.0
   takes_done (drivers.Sync u) (events.Hold r) drives next granted ready =
       let (local, kind) = sets_active m.cluster u (events.Hold r) next in
       let (e, there, can) = IsSomeAnd-at (entry_of u.ckpt m.cluster.entries) (λ e. can_be_held e ≡ true) ready.4.can in
@@ -430,32 +405,26 @@ module _ (m : Machine) (o : OpenState) (there : IsSomeAnd (named o.ask.name m.cl
 module _ (m : Machine) (s : CallState) (rooms : Rooms) where
   -- what is granted is not refused
   pub granted_is : (x : Driver) (step : RecordStep) → IsEventReady m s x step → IsGrantedAt m.cluster x step (event_granted m.cluster x step)
-  granted_is (drivers.Once (once.Enter r)) events.Enter ready = (refl, refl)
-  granted_is (drivers.Once once.Leave) events.Leave ready = (refl, refl)
-  granted_is (drivers.Once (once.Close k)) events.Close ready = (refl, refl)
-  granted_is (drivers.Once (once.Unlink name)) events.Unlink ready = (refl, refl)
-  granted_is (drivers.Once (once.Retain k duration)) events.Retain ready = (refl, refl)
-  granted_is (drivers.Open o) events.Create ready = (refl, refl)
   granted_is (drivers.Open o) events.Open ready = granted_open m o ready.0
-  granted_is (drivers.Open o) events.Finish ready = (refl, refl)
-  granted_is (drivers.Open o) events.Undo ready = (refl, refl)
-  granted_is (drivers.Sync u) (events.Hold r) ready = (refl, refl)
-  granted_is (drivers.Sync u) (events.Activate r) ready = (refl, refl)
-  granted_is x step ready = absurd ready
+  granted_is (drivers.Open o) step ready = (refl, refl)
+  granted_is x events.Open ready = (refl, refl)
+  granted_is x step ready = (refl, refl)
+
+  takes_none : false ≡ true → ⊥
+  takes_none takes = cc takes
 
   -- each call ends by its refusal
   takes_refused : (x : Driver) (step : RecordStep) (reply : Reply) → driver_next m.cluster rooms x ≡ Event step → IsEventReady m s x step → IsRefusedAs (event_refusal m.cluster step x) step reply → EndsRefused m.cluster x step reply
-  takes_refused (drivers.Once (once.Enter r)) events.Enter reply next ready refused = memory_ends m.cluster (drivers.Once (once.Enter r)) events.Enter reply refl refused refl
-  takes_refused (drivers.Once once.Leave) events.Leave reply next ready refused = memory_ends m.cluster (drivers.Once once.Leave) events.Leave reply refl refused refl
-  takes_refused (drivers.Once (once.Close k)) events.Close reply next ready refused = memory_ends m.cluster (drivers.Once (once.Close k)) events.Close reply refl refused refl
-  takes_refused (drivers.Once (once.Unlink name)) events.Unlink reply next ready refused = memory_ends m.cluster (drivers.Once (once.Unlink name)) events.Unlink reply refl refused refl
-  takes_refused (drivers.Once (once.Retain k duration)) events.Retain reply next ready refused = memory_ends m.cluster (drivers.Once (once.Retain k duration)) events.Retain reply refl refused refl
+  takes_refused (drivers.Once x) step reply next ready refused = memory_ends m.cluster (drivers.Once x) step reply (by_step step) refused refl where
+    by_step : (step : RecordStep) → event_refusal m.cluster step (drivers.Once x) ≡ None
+    by_step events.Open = refl
+    by_step step = refl
   takes_refused (drivers.Open o) events.Create reply next ready refused = memory_ends m.cluster (drivers.Open o) events.Create reply refl refused (ap (open_outcome_by m.cluster replies.NoMemory o) (makes_nothing m.cluster rooms.handles o events.Create (λ none. none) next))
   takes_refused (drivers.Open o) events.Open reply next ready refused = open_ends m o ready.0 ready.3 (makes_nothing m.cluster rooms.handles o events.Open (λ none. none) next) (event_refusal m.cluster events.Open (drivers.Open o)) reply refl refused
-  takes_refused (drivers.Open o) events.Finish reply next ready refused = absurd (let no : false ≡ true = (memory_alone events.Finish reply refused).1 in cc no)
-  takes_refused (drivers.Open o) events.Undo reply next ready refused = absurd (let no : false ≡ true = (memory_alone events.Undo reply refused).1 in cc no)
-  takes_refused (drivers.Sync u) (events.Hold r) reply next ready refused = absurd (let no : false ≡ true = (memory_alone (events.Hold r) reply refused).1 in cc no)
-  takes_refused (drivers.Sync u) (events.Activate r) reply next ready refused = absurd (let no : false ≡ true = (memory_alone (events.Activate r) reply refused).1 in cc no)
+  takes_refused (drivers.Open o) events.Enter reply next ready refused = absurd ready
+  takes_refused (drivers.Open o) step reply next ready refused = absurd (takes_none (memory_alone step reply refused).1)
+  takes_refused (drivers.Sync u) (events.Hold r) reply next ready refused = absurd (takes_none (memory_alone (events.Hold r) reply refused).1)
+  takes_refused (drivers.Sync u) (events.Activate r) reply next ready refused = absurd (takes_none (memory_alone (events.Activate r) reply refused).1)
   takes_refused x step reply next ready refused = absurd ready
 
 -- marks keep a hold off, whose call is live
@@ -466,20 +435,9 @@ takes_kept_off R u r by next lives = ap (sync_outcome_by R (replies.Held by) u) 
 
 -- no step of the record is told with an index
 done_alike : (op : Op) (step : RecordStep) (k : Option ℕ) → option_map (index_told op) (event_end step k) ≡ event_end step k
-done_alike op events.Enter k = refl
-done_alike op events.Leave k = refl
-done_alike op events.Open None = refl
 done_alike op events.Open (Some k) = refl
-done_alike op events.Create k = refl
-done_alike op events.Finish None = refl
 done_alike op events.Finish (Some k) = refl
-done_alike op events.Undo k = refl
-done_alike op events.Close k = refl
-done_alike op events.Unlink k = refl
-done_alike op events.Retain k = refl
-done_alike op (events.Hold r) k = refl
-done_alike op (events.Activate r) k = refl
-done_alike op (events.Complete j r t) k = refl
+done_alike op step k = refl
 
 refused_alike : (op : Op) (refusal : Option Outcome) (step : RecordStep) (reply : Reply) (end : Outcome) → IsRefusedAs refusal step reply → IsRefusedWith refusal step (refusal_word reply) end → index_told op end ≡ end
 refused_alike op (Some why) step (replies.Held by) end refused is = let w : end ≡ Refused TryAgain (causes.Holder by) = is ∙ refused in ap (index_told op) w ∙ sym w

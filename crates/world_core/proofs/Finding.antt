@@ -95,6 +95,14 @@ seen_same : (o : CallId) (n : ℕ) (marks : Option Marked) (p : Option Slot) →
 seen_same o n marks None fits = refl
 seen_same o n marks (Some slot) fits = λ i. Some (record slot { count = sym fits.0 i })
 
+-- a replica that the machine has, the node has, and is complete for its checkpoint
+pub replica_shown : (E : List Effect) (o : CallId) (n : ℕ) (y : Option Replica) → IsSome (shown_replica E o (where_complete n y)) → (x : Replica) × (y ≡ Some x) × (where_complete n y ≡ Some x)
+replica_shown E o n y there = by_test (n == 0) y there where
+  by_test : (b : Bool) (y : Option Replica) → IsSome (shown_replica E o (cond b None y)) → (x : Replica) × (y ≡ Some x) × (cond b None y ≡ Some x)
+  by_test true y there = absurd (cc there)
+  by_test false None there = absurd (cc there)
+  by_test false (Some x) there = (x, refl, refl)
+
 -- the replica that a due request finds
 pub record There (k c : ℕ) (e : Option Entry) (E : List Effect) (o : CallId) (y : Option Replica) (P : Replica → Type 0) : Type 0 where
   pub replica : Replica

@@ -1,11 +1,10 @@
 -- A node comes to lead a checkpoint, with what was held, where something was: what the world shows then.
-use Rattle.std.proofs.Common.{◌≡◌, ℕ, ◌<◌, List, [], length, Bool, true, false, cond, refl, sym, ap, subst, ◌∙◌}
-use Rattle.std.specs.Prelude.{Option, Some, None, IsSome, is_some, ◌==◌, ◌&&◌, slice_index, slice_set}
+use Rattle.std.proofs.Common.{◌≡◌, ℕ, List, [], Bool, true, false, cond, refl, sym, ap, subst, ◌∙◌}
+use Rattle.std.specs.Prelude.{Option, Some, None, IsSome, is_some, ◌==◌, slice_index}
 use Rattle.cluster_record.specs.declared.entries.Entry.{Entry}
-use Rattle.cluster_record.specs.Places.{change_key, list_or, put2}
+use Rattle.cluster_record.specs.Places.{put2}
 use Rattle.cluster_record.specs.RecordState.{entry_of, complete_of}
 use Rattle.cluster_record.specs.StepDone.{generation_in}
-use Rattle.cluster_record.proofs.Places.{there_is}
 use Rattle.ckpt_types.specs.declared.identities.CallId.{CallId}
 use Rattle.node_core.specs.Nodes.{replica_key}
 use Rattle.replica.specs.Replicas.{Replica}
@@ -14,14 +13,12 @@ use Rattle.ckpt_machine.specs.Machine.{Machine, Effect, ReplicaState, Snapshot}
 use Rattle.ckpt_machine.specs.Steps.{change_replica, led_from, with_lead}
 use Rattle.world_core.specs.declared.world.World.{World}
 use Rattle.world_core.specs.Holding.{HoldsOnlyWhatStands}
-use Rattle.world_core.specs.Leading.{copy_held, leading, nodes_led}
+use Rattle.world_core.specs.Leading.{copy_held, leading, nodes_led, CanLead}
 use Rattle.world_core.specs.Nodes.{replica_in, with_changed}
 use Rattle.world_core.specs.Shows.{History, HistoryFits, FitsCopy, FitsReplica, FitsSlot, FitsSnapshot, complete_replica, machine_of, shown_copy, shown_replica, shown_slot, shown_snapshot, where_complete}
-use Rattle.world_core.proofs.HoldingLaws.{holds_changed}
-use Rattle.world_core.proofs.Maps.{changed_here, complete_at_node, fits_replica, put_replica, reserved_same}
 use Rattle.world_core.proofs.Recording.{zero_there}
+use Rattle.world_core.proofs.ReplicaChanged.{IsShownBy, replica_changed}
 use Rattle.world_core.proofs.ReplicaSteps.{unchanged}
-use Rattle.world_core.proofs.Serve.{node_within}
 
 -- ---- what is held
 
@@ -72,6 +69,11 @@ led_fits snapshot held C is counts k e E x generation rest its = subst (λ s. Fi
   by_held None counts rest = its
   by_held (Some s) counts rest = (its.0, its.1, counts, subst (FitsSlot s.count x.marks) (sym (rest refl)) tt)
 
+-- nothing is staged on the replica that takes over what is held
+led_free : (r : ℕ) (held : Option copies.Snapshot) (x : Replica) (e : Entry) → (slice_index e.complete r == 0) ≡ false → CanLead r held (Some x) (Some e) → IsSome held → x.slot ≡ None
+led_free r None x e complete can some = absurd (cc some)
+led_free r (Some s) x e complete can some = (can complete).free
+
 -- where the node has a replica
 abbrev if_there : {X : Type 0} → Option Replica → X → X → X
 if_there None then else = else
@@ -84,8 +86,7 @@ led_history y snapshot k r h = record h {
   origins = if_there y (put2 h.origins k r (h.origins k r)) h.origins;
 }
 
-module _ (v : World) (h : History) (fitting : HistoryFits v h) (standing : HoldsOnlyWhatStands v.cluster v.nodes) (eight : length v.nodes ≡ 8) (k r : ℕ) (within : r < 8) (snapshot : Option Snapshot) (held : Option copies.Snapshot) (has : HeldAs snapshot held)
-    (rest : IsSome held → (x : Replica) → complete_replica v.cluster v.nodes k r ≡ Some x → x.slot ≡ None) where
+module _ (v : World) (h : History) (fitting : HistoryFits v h) (standing : HoldsOnlyWhatStands v.cluster v.nodes) (k r : ℕ) (snapshot : Option Snapshot) (held : Option copies.Snapshot) (has : HeldAs snapshot held) (can : CanLead r held (replica_in v.nodes k r) (entry_of k v.cluster.entries)) where
   abbrev m : Machine
   m = machine_of v h
 
@@ -99,90 +100,45 @@ module _ (v : World) (h : History) (fitting : HistoryFits v h) (standing : Holds
   o = h.origins k r
 
   -- the machine behind it is shown by these nodes, which hold only what stands
-  pub record ShownLed (nodes : List (List Replica)) (y : Option Replica) : Type 0 where
-    pub same : led_from snapshot k r m ≡ machine_of (record v { nodes = nodes }) (led_history y snapshot k r h)
-    pub fits : HistoryFits (record v { nodes = nodes }) (led_history y snapshot k r h)
-    pub holds : HoldsOnlyWhatStands v.cluster nodes
+  abbrev pub IsShownLed : List (List Replica) → Option Replica → Type 0
+  IsShownLed nodes y = IsShownBy (led_from snapshot k r m) (record v { nodes = nodes }) (led_history y snapshot k r h)
 
   -- where the node has no complete replica nothing changes
-  unled : complete_replica v.cluster v.nodes k r ≡ None → ShownLed v.nodes None
-  unled none = record {
-    same = ap (λ y. change_replica m k r (shown_replica E o y) (with_lead snapshot (generation_in its_entry))) none;
-    fits = fitting;
-    holds = standing;
-  }
+  unled : complete_replica v.cluster v.nodes k r ≡ None → IsShownLed v.nodes (complete_replica v.cluster v.nodes k r)
+  unled none = subst (IsShownLed v.nodes) (sym none) (record { same = ap (λ y. change_replica m k r (shown_replica E o y) (with_lead snapshot (generation_in its_entry))) none; fits = fitting; holds = standing })
 
   module _ (e : Entry) (found : its_entry ≡ Some e) (complete : (slice_index e.complete r == 0) ≡ false) where
-    complete_here : (slice_index (complete_of its_entry) r == 0) ≡ false
-    complete_here = ap (λ o. slice_index (complete_of o) r == 0) found ∙ complete
-
     complete_as : complete_replica v.cluster v.nodes k r ≡ replica_in v.nodes k r
-    complete_as = ap (λ b. cond b None (replica_in v.nodes k r)) complete_here
+    complete_as = (λ i. where_complete (slice_index (complete_of (found i)) r) (replica_in v.nodes k r)) ∙ ap (λ b. cond b None (replica_in v.nodes k r)) complete
 
     abbrev f : Replica → Replica
     f = leading held e.generation
 
-    -- without a replica its nodes are as they were
-    none_changed : replica_in v.nodes k r ≡ None → with_changed k r f v.nodes ≡ v.nodes
-    none_changed none = unchanged v.nodes k r f none
+    led : (x : Replica) → replica_in v.nodes k r ≡ Some x → IsShownLed (with_changed k r f v.nodes) (Some x)
+    led x there =
+        let complete_is : complete_replica v.cluster v.nodes k r ≡ Some x = complete_as ∙ there in
+        let its : FitsReplica k (Some e) E (Some x) = subst (λ (z : Option Entry × Option Replica). FitsReplica k z.0 E z.1) (λ i. (found i, complete_is i)) (fitting.replicas k r) in
+        let free : IsSome held → x.slot ≡ None = led_free r held x e complete (subst (λ (z : Option Replica × Option Entry). CanLead r held z.0 z.1) (λ i. (there i, found i)) can) in
+        let shown = replica_changed v h fitting standing k r e found complete f (leads_key held e.generation) x there (effects_led snapshot E) (led_fits snapshot held has.effects has.same has.counts k e E x e.generation free its) in
+        record {
+          same = (λ i. change_replica m k r (shown_replica E o (complete_is i)) (with_lead snapshot (generation_in (found i))))
+              ∙ ap (λ y. record m { replicas = put2 m.replicas k r y }) (led_state snapshot held has.effects has.same E o x e.generation) ∙ shown.same;
+          fits = shown.fits;
+          holds = shown.holds;
+        }
 
-    module _ (x : Replica) (there : replica_in v.nodes k r ≡ Some x) where
-      abbrev nodes : List (List Replica)
-      nodes = with_changed k r f v.nodes
-
-      complete_is : complete_replica v.cluster v.nodes k r ≡ Some x
-      complete_is = complete_as ∙ there
-
-      its : FitsReplica k (Some e) E (Some x)
-      its = subst (λ (z : Option Entry × Option Replica). FitsReplica k z.0 E z.1) (λ i. (found i, complete_is i)) (fitting.replicas k r)
-
-      at_each : (j q : ℕ) → replica_in nodes j q ≡ cond ((j == k) && (q == r)) (Some (f x)) (replica_in v.nodes j q)
-      at_each = changed_here v.nodes k r f (leads_key held e.generation) x there
-
-      complete_each : (j q : ℕ) → complete_replica v.cluster nodes j q ≡ cond ((j == k) && (q == r)) (Some (f x)) (complete_replica v.cluster v.nodes j q)
-      complete_each = complete_at_node v.cluster v.nodes nodes k r (f x) at_each complete_here
-
-      abbrev later : History
-      later = led_history (Some x) snapshot k r h
-
-      led : ShownLed nodes (Some x)
-      led = record {
-        same =
-            (λ i. change_replica m k r (shown_replica E o (complete_is i)) (with_lead snapshot (generation_in (found i))))
-            ∙ ap (λ y. record m { replicas = put2 m.replicas k r y }) (led_state snapshot held has.effects has.same E o x e.generation)
-            ∙ (let replicas = put_replica h.effects h.origins (complete_replica v.cluster v.nodes) (complete_replica v.cluster nodes) k r (effects_led snapshot E) o (f x) complete_each in
-            let reserved = reserved_same v.cluster v.nodes nodes k r (f x) x there at_each in
-            λ i. record (machine_of (record v { nodes = nodes }) later) { replicas = replicas i; reserved = λ j q. reserved j q i });
-        fits = record {
-          replicas = fits_replica v.cluster h.effects (complete_replica v.cluster v.nodes) (complete_replica v.cluster nodes) k r (effects_led snapshot E) (f x) complete_each
-              (subst (λ o. FitsReplica k o (effects_led snapshot E) (Some (f x))) (sym found) (led_fits snapshot held has.effects has.same has.counts k e E x e.generation (λ some. rest some x complete_is) its)) fitting.replicas;
-          copies = fitting.copies;
-          hands = fitting.hands;
-        };
-        holds =
-            let (xs, at) = there_is v.nodes r (node_within v.nodes k r x there) in
-            subst (λ o. HoldsOnlyWhatStands v.cluster (slice_set v.nodes r (change_key replica_key k f (list_or o)))) (sym at)
-            (holds_changed v.cluster v.nodes standing r xs at k e f (leads_key held e.generation) found complete);
-      }
-
-    by_replica : (y : Option Replica) → replica_in v.nodes k r ≡ y → ShownLed (with_changed k r f v.nodes) y
-    by_replica None none = subst (λ nodes. ShownLed nodes None) (sym (none_changed none)) (unled (complete_as ∙ none))
-    by_replica (Some x) there = led x there
-
-    of_complete : ShownLed (with_changed k r f v.nodes) (complete_replica v.cluster v.nodes k r)
-    of_complete = subst (ShownLed (with_changed k r f v.nodes)) (sym complete_as) (by_replica (replica_in v.nodes k r) refl)
+    by_replica : (y : Option Replica) → replica_in v.nodes k r ≡ y → IsShownLed (with_changed k r f v.nodes) (complete_replica v.cluster v.nodes k r)
+    by_replica None none = subst (λ nodes. IsShownLed nodes (complete_replica v.cluster v.nodes k r)) (sym (unchanged v.nodes k r f none)) (unled (complete_as ∙ none))
+    by_replica (Some x) there = subst (IsShownLed (with_changed k r f v.nodes)) (sym (complete_as ∙ there)) (led x there)
 
   -- by what it has
-  by_none : complete_replica v.cluster v.nodes k r ≡ None → ShownLed v.nodes (complete_replica v.cluster v.nodes k r)
-  by_none none = subst (ShownLed v.nodes) (sym none) (unled none)
+  by_test : (e : Entry) → its_entry ≡ Some e → (b : Bool) → (slice_index e.complete r == 0) ≡ b → IsShownLed (cond b v.nodes (with_changed k r (leading held e.generation) v.nodes)) (complete_replica v.cluster v.nodes k r)
+  by_test e found true none = unled ((λ i. where_complete (slice_index (complete_of (found i)) r) (replica_in v.nodes k r)) ∙ ap (λ b. cond b None (replica_in v.nodes k r)) none)
+  by_test e found false complete = by_replica e found complete (replica_in v.nodes k r) refl
 
-  by_test : (e : Entry) → its_entry ≡ Some e → (b : Bool) → (slice_index e.complete r == 0) ≡ b → ShownLed (cond b v.nodes (with_changed k r (leading held e.generation) v.nodes)) (complete_replica v.cluster v.nodes k r)
-  by_test e found true none = by_none (ap (λ o. where_complete (slice_index (complete_of o) r) (replica_in v.nodes k r)) found ∙ ap (λ b. cond b None (replica_in v.nodes k r)) none)
-  by_test e found false complete = of_complete e found complete
-
-  by_entry : (o : Option Entry) → its_entry ≡ o → ShownLed (nodes_led k r held o v.nodes) (complete_replica v.cluster v.nodes k r)
-  by_entry None gone = by_none (ap (λ o. where_complete (slice_index (complete_of o) r) (replica_in v.nodes k r)) gone ∙ ap (λ n. where_complete n (replica_in v.nodes k r)) (zero_there r))
+  by_entry : (o : Option Entry) → its_entry ≡ o → IsShownLed (nodes_led k r held o v.nodes) (complete_replica v.cluster v.nodes k r)
+  by_entry None gone = unled ((λ i. where_complete (slice_index (complete_of (gone i)) r) (replica_in v.nodes k r)) ∙ ap (λ n. where_complete n (replica_in v.nodes k r)) (zero_there r))
   by_entry (Some e) found = by_test e found (slice_index e.complete r == 0) refl
 
-  pub shown_led : ShownLed (nodes_led k r held its_entry v.nodes) (complete_replica v.cluster v.nodes k r)
+  pub shown_led : IsShownLed (nodes_led k r held its_entry v.nodes) (complete_replica v.cluster v.nodes k r)
   shown_led = by_entry its_entry refl

@@ -35,10 +35,10 @@ pub mod Pulling
 pub mod Putting
 pub mod Readiness
 pub mod RecordEvent
-pub mod RecordSteps
 pub mod Recording
 pub mod RequestRows
 mod CopySteps
+pub mod ReplicaChanged
 mod ReplicaSteps
 pub mod Reserve
 pub mod Rows

@@ -17,20 +17,19 @@ use Rattle.node_msgs.specs.declared.next.RecordStep.TheVariants as events
 use Rattle.cluster_record.specs.declared.clients.LiveClient.{LiveClient}
 use Rattle.cluster_record.specs.Calls.{client_of}
 use Rattle.cluster_record.specs.DueOpen.{making_ckpt}
-use Rattle.cluster_record.specs.LookUps.{identity_in, at_ckpt, creation_flags_of}
+use Rattle.cluster_record.specs.LookUps.{identity_in, at_ckpt}
 use Rattle.cluster_record.specs.Places.{find_key}
-use Rattle.cluster_record.specs.RecordState.{RecordState, client_key, named, is_live_client, created_as, opened, finished, undone, unlinked, entry_of}
+use Rattle.cluster_record.specs.RecordState.{RecordState, client_key, named, is_live_client, created_as, opened, finished, undone, unlinked}
 use Rattle.ckpt_machine.specs.Drivers.{Driver}
 use Rattle.ckpt_machine.specs.Drivers as drivers
 use Rattle.cluster_record.specs.DueOnce.{OneStep}
 use Rattle.cluster_record.specs.DueOnce as once
 use Rattle.world_core.specs.declared.world.World.{World}
-use Rattle.client_handles.specs.ClientState.{ClientState, emptied}
-use Rattle.ckpt_types.specs.Asks.{asked}
-use Rattle.ckpt_machine.specs.Tables.{handle_given, closing, registering}
+use Rattle.client_handles.specs.ClientState.{ClientState}
 use Rattle.world_core.specs.RecordAfter.{once_change, event_change, event_after}
 use Rattle.world_core.specs.LiveRooms.{room_is_taken, LiveHaveRoom}
-use Rattle.world_core.specs.Settling.{tables_given, settled, looked}
+use Rattle.world_core.specs.Settling.{settled, looked}
+use Rattle.client_calls.specs.TableSettling.{table_looked, table_settled}
 use Rattle.client_calls.specs.TableState.{TableState, with_calls, with_client}
 use Rattle.world_core.specs.TablesState.{table_changed, at_client}
 use Rattle.world_core.proofs.TableFields.{field_same}
@@ -57,23 +56,22 @@ module _ (w : World) (R : RecordState) (c : ℕ) where
   pub rooms_calls : (change : PendingCalls → PendingCalls) → LiveHaveRoom R w.tables → LiveHaveRoom R (at_client c (with_calls change) w.tables)
   rooms_calls change rooms = rooms_at (with_calls change) (λ t. refl) rooms
 
-  rooms_given : (N : RecordState) (op : Op) (k : Option ℕ) → LiveHaveRoom R w.tables → LiveHaveRoom R (tables_given N c op k w.tables)
-  rooms_given N op None rooms = rooms
-  rooms_given N op (Some k) rooms = rooms_client (handle_given (asked op) k (creation_flags_of (entry_of k N.entries))) rooms
-
   -- by what a step of the record makes of it
+  settled_roomy : (N : RecordState) (op : Op) (step : RecordStep) (k : Option ℕ) (t : TableState) → t.roomy ≡ (table_settled N op step k t).roomy
+  settled_roomy N op events.Open (Some k) t = refl
+  settled_roomy N op events.Finish (Some k) t = refl
+  settled_roomy N op step k t = refl
+
   pub rooms_settled : (N : RecordState) (op : Op) (step : RecordStep) (k : Option ℕ) → LiveHaveRoom R w.tables → LiveHaveRoom R (settled N c op step k w.tables)
-  rooms_settled N op events.Enter k rooms = rooms_client (registering (asked op)) rooms
-  rooms_settled N op events.Open k rooms = rooms_given N op k rooms
-  rooms_settled N op events.Finish k rooms = rooms_given N op k rooms
-  rooms_settled N op events.Close k rooms = rooms_client (closing (asked op)) rooms
-  rooms_settled N op events.Leave k rooms = rooms_client emptied rooms
-  rooms_settled N op step k rooms = rooms
+  rooms_settled N op step k rooms = rooms_at (table_settled N op step k) (settled_roomy N op step k) rooms
 
   -- and a look at it
-  pub rooms_looked : (o : Outcome) (op : Op) → LiveHaveRoom R w.tables → LiveHaveRoom R (looked o c op w.tables)
-  rooms_looked (Done answer) op rooms = rooms_client (closing (asked op)) rooms
-  rooms_looked o op rooms = rooms
+  looked_roomy : (end : Outcome) (op : Op) (t : TableState) → t.roomy ≡ (table_looked end op t).roomy
+  looked_roomy (Done answer) op t = refl
+  looked_roomy end op t = refl
+
+  pub rooms_looked : (end : Outcome) (op : Op) → LiveHaveRoom R w.tables → LiveHaveRoom R (looked end c op w.tables)
+  rooms_looked end op rooms = rooms_at (table_looked end op) (looked_roomy end op) rooms
 
 -- an end of which a client is to be told changes none either
 pub rooms_ended : (w : World) (R : RecordState) (v : Who) (end : Option Outcome) → LiveHaveRoom R w.tables → LiveHaveRoom R (ended_tables v end w.tables)

@@ -48,6 +48,7 @@ use Rattle.world_core.proofs.Held.{copy_stays, state_in, in_hand_is, driver_is, 
 use Rattle.world_core.proofs.LiveRooms.{rooms_ended, rooms_looked}
 use Rattle.world_core.proofs.Maps.{HasUnder, hand_left, under_other, under_own}
 use Rattle.world_core.proofs.RecordEvent.{closing_shown}
+use Rattle.world_core.proofs.TableFields.{client_same}
 use Rattle.world_core.proofs.Recording.{GoesAt, none_pulled, with_effects, record_is, record_fits}
 use Rattle.world_core.specs.HandsState.{HandsState, hand_at, set_at}
 use Rattle.client_calls.specs.Names.{client_by}
@@ -114,7 +115,7 @@ module _ (w : World) (v : Who) (o : Outcome) (hand : InHand) (held : hand_at w.h
 
   look_changes : (h : History) → IsKnown w h → making_in hand.driver ≡ None → (end : Outcome) → changed (machine_of w h) (state_in h v hand) verbs.Look None None (look_word end) ≡ machine_of (looked_world end) h
   look_changes h is none (Done answer) = closing_shown w h (client_by v) (state_in h v hand) (actor_is w h v hand held is.facts)
-  look_changes h is none end = ap (λ (making : Option ℕ). without_making making (machine_of w h)) (makes h is ∙ none)
+  look_changes h is none end = ap (λ (making : Option ℕ). without_making making (machine_of w h)) (makes h is ∙ none) ∙ ap (λ tables. machine_of (record w { tables = tables }) h) (sym (client_same w.tables (client_by v) (λ t. t) (λ t. refl)))
 
   -- the world behind it
   abbrev done_world : World
@@ -155,6 +156,7 @@ module _ (w : World) (v : Who) (o : Outcome) (hand : InHand) (held : hand_at w.h
     late_changes : (h : History) → IsKnown w h → (end : Outcome) → IsNoDone (End end) → changed (machine_of w h) (state_in h v hand) verbs.Look None None (look_word end) ≡ machine_of (left_world end) (with_effects w h)
     late_changes h is (Done answer) refused = absurd refused
     late_changes h is end refused = ap (λ (making : Option ℕ). without_making making (machine_of w h)) (makes h is ∙ making) ∙ record_is w h R (goes h is) refl (none_new h is)
+        ∙ ap (λ tables. machine_of (record w { cluster = R; tables = tables }) (with_effects w h)) (sym (client_same w.tables (client_by v) (λ t. t) (λ t. refl)))
 
     abbrev late_world : World
     late_world = behind_step w v hand held (left_world o) (with_effects w) verbs.Look None None (look_word o) (Some o) beside.Nothing 0 hand.snapshot (pulled_by_client v)

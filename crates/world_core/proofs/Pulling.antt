@@ -1,5 +1,5 @@
 -- A pull: what it tells is due, and what the world shows behind it.
-use Rattle.std.proofs.Common.{◌≡◌, ℕ, Bool, true, false, List, [], ◌∷◌, length, refl, sym, ap, subst, ◌∙◌, cond}
+use Rattle.std.proofs.Common.{◌≡◌, ℕ, Bool, true, false, List, [], ◌∷◌, refl, sym, ap, subst, ◌∙◌, cond}
 use Rattle.std.specs.Prelude.{Option, Some, None, IsSomeAnd, is_some, ◌==◌, ◌||◌}
 use Rattle.std.proofs.lemmas.Bool.{eqb-true}
 use Rattle.ckpt_types.specs.declared.identities.CallId.{CallId}
@@ -17,6 +17,7 @@ use Rattle.ckpt_machine.specs.Machine.{Machine, Effect, ReplicaState}
 use Rattle.ckpt_machine.specs.Options.{is_all}
 use Rattle.ckpt_machine.specs.Propagation.{source_of, on_node, source_at, pull_unless, pull_reply, pull_answer, copied, with_pulled}
 use Rattle.ckpt_machine.specs.Steps.{IsDue, after, snapshot_under}
+use Rattle.ckpt_machine.proofs.OptionLemmas.{IsSomeAnd-at}
 use Rattle.world_core.specs.declared.snapshots.Background.{Background}
 use Rattle.world_core.specs.declared.world.World.{World}
 use Rattle.world_core.specs.Backgrounds.{background_key, background_in, where_pulled, pulled_in, filled_unless, HasRoom, HaveRooms}
@@ -64,69 +65,16 @@ module _ (w : World) (h : History) (is : IsKnown w h) (k : ℕ) where
   abbrev on : ℕ → Option Replica
   on r = complete_replica w.cluster w.nodes k r
 
-  -- what it asks
-  can_pull_at : (o : Option ℕ) → o ≡ source_of entry → CanPull (on_node on o) (background_in w.snapshots k)
-  can_pull_at None from = tt
-  can_pull_at (Some r) from = by_replica (on r) (is.fits.replicas k r)
-    where
-      here : (e : Entry) × (entry ≡ Some e) × (is_all e.attributes ≡ false)
-      here = source_entry entry r (sym from)
-
-      by_room : (e : Entry) (x : Replica) (o : Option Background) → x.attributes ≡ e.attributes → IsSomeAnd o (λ b. b.snap.attributes ≡ e.attributes) → IsSomeAnd o (λ b. b.snap.attributes ≡ x.attributes)
-      by_room e x None same room = absurd room
-      by_room e x (Some b) same room = room ∙ sym same
-
-      by_replica : (y : Option Replica) → FitsReplica k entry (h.effects k r) y → CanPull y (background_in w.snapshots k)
-      by_replica None fits = tt
-      by_replica (Some x) fits =
-          let (e, there, alone) = here in
-          let declared : FitsReplica k (Some e) (h.effects k r) (Some x) = subst (λ o. FitsReplica k o (h.effects k r) (Some x)) there fits in
-          by_room e x (background_in w.snapshots k) declared.1 (room_there e (background_in w.snapshots k) (subst (λ o. HasRoom o (background_in w.snapshots k)) there (is.keeps k)) alone)
-
-  pub can_pull : CanPull (source_in w.cluster w.nodes k) (background_in w.snapshots k)
-  can_pull = can_pull_at (source_of entry) refl
-
-  -- ---- what it tells
-
-  told_count : (c : Option CallId) (E : List Effect) (x : Replica) → length E ≡ x.count → pull_held c x.count ≡ pull_unless c (record { sections = x.sections; effects = E; generation = x.generation; slot = None; marks = x.marks })
-  told_count (Some holder) E x counts = refl
-  told_count None E x counts = ap pulls.Ok (sym counts)
-
-  told_replica : (E : List Effect) (o : CallId) (y : Option Replica) → FitsReplica k entry E y → pull_told y ≡ pull_reply (shown_replica E o y)
-  told_replica E o None fits = refl
-  told_replica E o (Some x) fits = by_call (call_of x.marks)
-    where
-      by_call : (c : Option CallId) → pull_held c x.count ≡ pull_unless c (record { sections = x.sections; effects = E; generation = x.generation; slot = shown_slot o x.slot; marks = x.marks })
-      by_call (Some holder) = refl
-      by_call None = ap pulls.Ok (sym fits.2)
-
-  told_at : (o : Option ℕ) → pull_told (on_node on o) ≡ pull_reply (on_node (m.replicas k) o)
-  told_at None = refl
-  told_at (Some r) = told_replica (h.effects k r) (h.origins k r) (on r) (is.fits.replicas k r)
-
-  pub pull_due : pull_told (source_in w.cluster w.nodes k) ≡ pull_answer m k
-  pull_due = told_at (source_of entry)
-
-  -- ---- what is shown behind it
-
-  abbrev with_snapshots : List Background → World
-  with_snapshots backgrounds = record w { snapshots = backgrounds }
-
-  -- the machine behind a pull of this replica, of which the answer was this, is shown by these snapshots
-  record Shown (reply : PullReply) (x : Option ReplicaState) (backgrounds : List Background) : Type 0 where
+  -- a pull of this replica tells what is due, and the machine behind it is shown by these snapshots
+  record ShownPull (x : Option ReplicaState) (is_due reply : PullReply) (backgrounds : List Background) : Type 0 where
+    due : reply ≡ is_due
     history : History
-    same : with_pulled m k reply x ≡ machine_of (with_snapshots backgrounds) history
-    fits : HistoryFits (with_snapshots backgrounds) history
-
-  as_before : (reply : PullReply) (x : Option ReplicaState) (backgrounds : List Background) → with_pulled m k reply x ≡ m → backgrounds ≡ w.snapshots → Shown reply x backgrounds
-  as_before reply x backgrounds same snapshots = subst (Shown reply x) (sym snapshots) (record { history = h; same = same; fits = is.fits })
+    same : with_pulled m k reply x ≡ machine_of (record w { snapshots = backgrounds }) history
+    fits : HistoryFits (record w { snapshots = backgrounds }) history
 
   module _ (r : ℕ) (from : Some r ≡ source_of entry) (x : Replica) (here : on r ≡ Some x) where
     abbrev E : List Effect
     E = h.effects k r
-
-    its : FitsReplica k entry E (Some x)
-    its = subst (FitsReplica k entry E) here (is.fits.replicas k r)
 
     abbrev X : ReplicaState
     X = record { sections = x.sections; effects = E; generation = x.generation; slot = shown_slot (h.origins k r) x.slot; marks = x.marks }
@@ -134,12 +82,15 @@ module _ (w : World) (h : History) (is : IsKnown w h) (k : ℕ) where
     declared : (e : Entry) × (entry ≡ Some e) × (is_all e.attributes ≡ false)
     declared = source_entry entry r (sym from)
 
-    room : (b : Background) × (background_in w.snapshots k ≡ Some b)
-    room = by_room (background_in w.snapshots k) refl (room_there declared.0 (background_in w.snapshots k) (subst (λ o. HasRoom o (background_in w.snapshots k)) declared.1 (is.keeps k)) declared.2)
-      where
-        by_room : (o : Option Background) → background_in w.snapshots k ≡ o → IsSomeAnd o (λ b. b.snap.attributes ≡ declared.0.attributes) → (b : Background) × (background_in w.snapshots k ≡ Some b)
-        by_room None there none = absurd none
-        by_room (Some b) there same = (b, there)
+    its : FitsReplica k (Some declared.0) E (Some x)
+    its = subst (λ (z : Option Entry × Option Replica). FitsReplica k z.0 E z.1) (λ i. (declared.1 i, here i)) (is.fits.replicas k r)
+
+    -- what it asks
+    can : CanPull (Some x) (background_in w.snapshots k)
+    can = subst (λ a. IsSomeAnd (background_in w.snapshots k) (λ b. b.snap.attributes ≡ a)) (sym its.1) (room_there declared.0 (background_in w.snapshots k) (subst (λ o. HasRoom o (background_in w.snapshots k)) declared.1 (is.keeps k)) declared.2)
+
+    room : (b : Background) × (background_in w.snapshots k ≡ Some b) × (b.snap.attributes ≡ x.attributes)
+    room = IsSomeAnd-at (background_in w.snapshots k) (λ b. b.snap.attributes ≡ x.attributes) can
 
     abbrev b : Background
     b = room.0
@@ -172,10 +123,13 @@ module _ (w : World) (h : History) (is : IsKnown w h) (k : ℕ) where
     fits_case true F s fits = its.2
     fits_case false F s fits = fits
 
-    taken : Shown (pulls.Ok x.count) (Some X) then
-    taken = record {
+    -- marks hold it off
+    by_call : (c : Option CallId) → ShownPull (Some X) (pull_unless c X) (pull_held c x.count) (change_key background_key k (filled_unless c x) w.snapshots)
+    by_call (Some holder) = subst (ShownPull (Some X) (pulls.Held holder) (pulls.Held holder)) (sym (change_nothing background_key k w.snapshots)) (record { due = refl; history = h; same = refl; fits = is.fits })
+    by_call None = record {
+      due = ap pulls.Ok (sym its.2);
       history = later;
-      same = λ i. record (machine_of (with_snapshots then) later) { snapshots = λ j. same_then j i };
+      same = λ i. record (machine_of (record w { snapshots = then }) later) { snapshots = λ j. same_then j i };
       fits = record {
         replicas = is.fits.replicas;
         copies = λ j. subst (FitsSnapshot (put h.copied k E j)) (sym (pulled_then j)) (fits_case (j == k) (h.copied j) (pulled_in w.snapshots j) (is.fits.copies j));
@@ -183,19 +137,17 @@ module _ (w : World) (h : History) (is : IsKnown w h) (k : ℕ) where
       };
     }
 
-    by_call : (c : Option CallId) → Shown (pull_held c x.count) (Some X) (change_key background_key k (filled_unless c x) w.snapshots)
-    by_call (Some holder) = as_before (pulls.Held holder) (Some X) (change_key background_key k (λ b. b) w.snapshots) refl (change_nothing background_key k w.snapshots)
-    by_call None = taken
+  -- of the replica there, with what it asks
+  pulled_at : (r : ℕ) → Some r ≡ source_of entry → (y : Option Replica) → on r ≡ y →
+      (let X = shown_replica (h.effects k r) (h.origins k r) y in ShownPull X (pull_reply X) (pull_told y) (snapshots_pulled y k w.snapshots) × CanPull y (background_in w.snapshots k))
+  pulled_at r from None here = (record { due = refl; history = h; same = refl; fits = is.fits }, tt)
+  pulled_at r from (Some x) here = (by_call r from x here (call_of x.marks), can r from x here)
 
-  pulled_at : (r : ℕ) → Some r ≡ source_of entry → (y : Option Replica) → on r ≡ y → Shown (pull_told y) (shown_replica (h.effects k r) (h.origins k r) y) (snapshots_pulled y k w.snapshots)
-  pulled_at r from None here = as_before pulls.Nothing None w.snapshots refl refl
-  pulled_at r from (Some x) here = by_call r from x here (call_of x.marks)
-
-  pulled_by : (o : Option ℕ) → o ≡ source_of entry → Shown (pull_told (on_node on o)) (on_node (m.replicas k) o) (snapshots_pulled (on_node on o) k w.snapshots)
-  pulled_by None from = as_before pulls.Nothing None w.snapshots refl refl
+  pulled_by : (o : Option ℕ) → o ≡ source_of entry → (let X = on_node (m.replicas k) o in let y = on_node on o in ShownPull X (pull_reply X) (pull_told y) (snapshots_pulled y k w.snapshots) × CanPull y (background_in w.snapshots k))
+  pulled_by None from = (record { due = refl; history = h; same = refl; fits = is.fits }, tt)
   pulled_by (Some r) from = pulled_at r from (on r) refl
 
-  pull_shown : Shown (pull_told (source_in w.cluster w.nodes k)) (source_at m k) (snapshots_pulled (source_in w.cluster w.nodes k) k w.snapshots)
+  pull_shown : let y = source_in w.cluster w.nodes k in ShownPull (source_at m k) (pull_answer m k) (pull_told y) (snapshots_pulled y k w.snapshots) × CanPull y (background_in w.snapshots k)
   pull_shown = pulled_by (source_of entry) refl
 
 -- ---- the rooms stay
@@ -230,8 +182,8 @@ pulled_rooms entries backgrounds k (Some x) keeps = rooms_filled entries backgro
 
 pull_does : (w : World) (k : ℕ) → let x = source_in w.cluster w.nodes k in Does w (record w { snapshots = snapshots_pulled x k w.snapshots }) (labels.Pulled k (pull_told x))
 pull_does w k = let x = source_in w.cluster w.nodes k in record {
-  due_is = λ m s f. subst (λ (m : Machine). IsDue m (labels.Pulled k (pull_told x))) (sym s.same) (pull_due w s.history (known_by w m s f) k);
-  shows = λ m s f. let behind = pull_shown w s.history (known_by w m s f) k in record {
+  due_is = λ m s f. subst (λ (m : Machine). IsDue m (labels.Pulled k (pull_told x))) (sym s.same) (pull_shown w s.history (known_by w m s f) k).0.due;
+  shows = λ m s f. let behind = (pull_shown w s.history (known_by w m s f) k).0 in record {
     history = behind.history;
     same = ap (λ (m : Machine). after m (labels.Pulled k (pull_told x))) s.same ∙ behind.same;
     fits = behind.fits;
@@ -243,7 +195,7 @@ pull_does w k = let x = source_in w.cluster w.nodes k in record {
 
 -- what is asked of the world for it
 pub can_pull_shown : (w : World) (k : ℕ) → IsShown w → CanPull (source_in w.cluster w.nodes k) (background_in w.snapshots k)
-can_pull_shown w k shown = can_pull w shown.shows.history (known w shown) k
+can_pull_shown w k shown = (pull_shown w shown.shows.history (known w shown) k).1
 
 -- with the parts as the code names them
 pub pull_done : (w : World) (k : ℕ) (reply : PullReply) (backgrounds : List Background) → reply ≡ pull_told (source_in w.cluster w.nodes k) → backgrounds ≡ snapshots_pulled (source_in w.cluster w.nodes k) k w.snapshots → Propagates (IsPulledOf k) w (record w { snapshots = backgrounds }) (labels.Pulled k reply)

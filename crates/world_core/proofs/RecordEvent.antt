@@ -1,6 +1,6 @@
 -- A step of the record, whatever the step: done, or refused by the record or for the memory that it takes.
-use Rattle.std.proofs.Common.{◌≡◌, inl, inr, ℕ, List, length, true, false, refl, sym, ap, subst, ◌∙◌}
-use Rattle.std.specs.Prelude.{Option, Some, None, IsSome, IsSomeAnd, slice_get}
+use Rattle.std.proofs.Common.{◌≡◌, inl, inr, ℕ, List, length, true, false, refl, sym, ap, subst, ◌∙◌, ◌+◌, arith}
+use Rattle.std.specs.Prelude.{Option, Some, None, IsSome, IsSomeAnd, slice_get, Result, Ok, Err, is_err, OnOk, OnErr}
 use Rattle.ckpt_types.specs.declared.answers.Outcome.{Outcome}
 use Rattle.ckpt_types.specs.declared.identities.ActorName.{ActorName}
 use Rattle.ckpt_types.specs.declared.identities.ActorName.TheVariants.{Client}
@@ -15,55 +15,67 @@ use Rattle.node_msgs.specs.declared.details.Details.TheVariants as beside
 use Rattle.run_labels.specs.declared.labels.Label.{Label}
 use Rattle.run_labels.specs.declared.labels.Label.TheVariants.{Stepped}
 use Rattle.ckpt_types.specs.OpWord.{word_of_op}
-use Rattle.client_handles.specs.ClientState.{ClientState, emptied}
+use Rattle.client_handles.specs.ClientState.{ClientState, emptied, has_handle_room}
 use Rattle.cluster_record.specs.declared.calls.Making.{Making}
 use Rattle.cluster_record.specs.declared.entries.Entry.{Entry}
-use Rattle.cluster_record.specs.Calls.{number_of, client_of}
+use Rattle.cluster_record.specs.Calls.{number_of, client_of, left}
 use Rattle.cluster_record.specs.DueOnce as once
-use Rattle.cluster_record.specs.DueOpen.{making_ckpt}
+use Rattle.cluster_record.specs.DueOpen.{making_ckpt, OpenState}
 use Rattle.cluster_record.specs.LookUps.{creation_flags_of, at_ckpt, identity_in}
-use Rattle.cluster_record.specs.RecordState.{RecordState, entry_of, named, opened, finished, undone, unlinked, swept}
+use Rattle.cluster_record.specs.RecordState.{RecordState, entry_of, named, opened, finished, undone, unlinked, swept, is_live_client}
 use Rattle.ckpt_types.specs.Asks.{Ask, asked}
 use Rattle.ckpt_types.specs.Asks as asks
 use Rattle.ckpt_machine.specs.Drivers.{Driver}
 use Rattle.ckpt_machine.specs.Drivers as drivers
 use Rattle.ckpt_machine.specs.Driving.{driver_next, event_ckpt, event_node, event_end, event_refusal}
 use Rattle.ckpt_machine.specs.Facts.{IsEventReady, IsFinishable}
-use Rattle.ckpt_machine.specs.Machine.{Machine, CallState, no_tables}
+use Rattle.ckpt_machine.specs.Machine.{Machine, CallState, Effect, no_tables}
+use Rattle.snap_copy.specs.Snapshots as copies
 use Rattle.ckpt_machine.specs.Steps.{Told, IsDone, IsEventAnswer, IsRecordAnswer, at_some, changed, kept_off, led_from, pulled_by, created_for, retained_for, driver_of, record_step, with_closed, with_given, with_record, with_tables, without_calls, without_syncs}
 use Rattle.replica.specs.Replicas.{Replica}
 use Rattle.world_core.specs.Nodes.{replica_in}
-use Rattle.ckpt_machine.specs.Tables.{handle_closed, handle_given, closing, registering}
+use Rattle.ckpt_machine.specs.Tables.{handle_closed, handle_given, closing, registering, has_place}
 use Rattle.ckpt_machine.proofs.AskedFor.{DrivesFor, state_drives}
 use Rattle.client_calls.specs.declared.in_hand.InHand.{InHand}
 use Rattle.world_core.specs.declared.world.World.{World}
 use Rattle.world_core.specs.Freeing.{freed, freed_world}
-use Rattle.world_core.specs.Happenings.{rooms_at}
+use Rattle.world_core.specs.Happenings.{rooms_at, IsStep}
 use Rattle.world_core.specs.Holding.{HoldsOnlyWhatStands}
-use Rattle.world_core.specs.LiveRooms.{room_is_taken}
 use Rattle.world_core.specs.declared.snapshots.Background.{Background}
 use Rattle.world_core.specs.Backgrounds.{background_in, pulled_in}
 use Rattle.world_core.specs.RecordAfter.{event_after, nodes_behind, snapshots_behind}
-use Rattle.world_core.specs.RecordReady.{IsPlain, IsRefusedWith}
-use Rattle.world_core.specs.Settling.{tables_closed, tables_given, settled, CanSettle}
-use Rattle.world_core.specs.Shows.{Does, IsShown, History, HistoryFits, machine_of, tables_of}
+use Rattle.world_core.specs.RecordReady.{IsPlain, IsRefusedWith, CanAdd, HasFound, IsRecordReady}
+use Rattle.world_core.specs.Settling.{settled, CanSettle, CanGive}
+use Rattle.world_core.specs.Shows.{Does, IsShown, History, HistoryFits, machine_of, tables_of, HasNumbersLeft}
 use Rattle.world_core.specs.TablesState.{kept_by, at_client}
-use Rattle.client_calls.specs.TableState.{with_client}
+use Rattle.client_calls.specs.TableState.{TableState, with_client}
 use Rattle.world_core.specs.Alone.{calls_gone, ended_at, gone_with, syncs_gone}
-use Rattle.world_core.proofs.AloneSteps.{MayGoWith, all_gone, gone_fits, gone_here, rooms_gone, syncs_are}
+use Rattle.world_core.proofs.AloneSteps.{MayGoWith, all_gone, gone_fits, gone_here, rooms_gone, syncs_are, gone_clients, gone_set}
 use Rattle.world_core.proofs.WaitedFor.{may_go_with}
-use Rattle.world_core.proofs.CallSteps.{pulled_by_client, event_counts, event_pulls, IsKnown, known, known_by, behind_step, IsShownBehind, step_before}
+use Rattle.world_core.proofs.CallSteps.{pulled_by_client, event_counts, event_pulls, IsKnown, known, known_by, behind_step, IsShownBehind, step_before, step_told, step_under}
 use Rattle.world_core.proofs.Freeing.{does_before, does_freed}
 use Rattle.world_core.proofs.Adding.{AddedAt, added_record, added_fits, holds_added}
-use Rattle.world_core.proofs.Going.{event_goes, event_adds, event_once, event_keeps}
-use Rattle.world_core.proofs.Held.{copy_stays, IsCopyBehind, state_in, in_hand_is, driver_is, name_is, actor_is, due_is}
+use Rattle.world_core.proofs.Going.{event_goes, event_adds, event_once, event_keeps, event_free}
+use Rattle.world_core.proofs.Held.{copy_stays, state_in, in_hand_is, driver_is, name_is, actor_is, due_is}
+use Rattle.world_core.specs.LiveRooms.{LiveHaveRoom, room_is_taken}
 use Rattle.world_core.proofs.LiveRooms.{EntersWithRoom, rooms_ended, rooms_settled, rooms_after}
 use Rattle.world_core.proofs.Recording.{GoesAt, none_pulled, with_effects, record_is, record_fits}
 use Rattle.world_core.proofs.SnapshotRooms.{behind-pulled, event_has}
-use Rattle.world_core.specs.HandsState.{hand_at, set_at}
+use Rattle.world_core.specs.HandsState.{HandsState, hand_at, set_at}
 use Rattle.client_calls.specs.Names.{client_by}
 use Rattle.ckpt_types.specs.declared.identities.Who.{Who}
-use Rattle.world_core.proofs.TableFields.{change_is}
+use Rattle.world_core.proofs.TableFields.{change_is, client_same}
+use Rattle.std.proofs.lemmas.Bool.{lt-ltb, ltb-true}
+use Rattle.ckpt_types.specs.declared.words.OpWord.{OpWord}
+use Rattle.cluster_record.specs.Makings.{makings_of}
+use Rattle.cluster_record.specs.StepDone.{done_of}
+use Rattle.ckpt_types.specs.Limits.{handles_max}
+use Rattle.client_calls.specs.HandSteps.{hand_taken}
+use Rattle.world_core.proofs.Granted.{has_found}
+use Rattle.world_core.proofs.OpenRoom.{open_room}
+use Rattle.world_core.proofs.Readiness.{record_ready}
+use Rattle.world_core.proofs.Maps.{HasUnder, hand_left, under_other, under_own}
+use Rattle.ckpt_types.specs.declared.identities.Who.TheVariants.{Actor}
 
 -- ---- what is there of what a step is about
 
@@ -82,6 +94,19 @@ finishable_there m c (Some making) ready = refl
 ckpt_there : (making : Option Making) → IsSome making → IsSome (making_ckpt making)
 ckpt_there None there = absurd (cc there)
 ckpt_there (Some making) there = refl
+
+-- what is said of a result, where it is known which it is
+pub when_ok : {T E : Type 0} (P : Type 0) (r : Result T E) → is_err r ≡ false → OnOk r P → P
+when_ok P (Ok x) is h = h
+when_ok P (Err e) is h = absurd cc
+
+pub when_err : {T E : Type 0} (P : Type 0) (r : Result T E) → is_err r ≡ true → OnErr r P → P
+when_err P (Ok x) is h = absurd cc
+when_err P (Err e) is h = h
+
+-- where there is a place for one handle more beside those in the making, there is room for it
+place_is_room : (making : ℕ) (t : ClientState) → has_place making t ≡ true → has_handle_room t ≡ true
+place_is_room making t place = let few = ltb-true (length t.handles + making) handles_max place in lt-ltb (length t.handles) handles_max (omega (arith, few))
 
 -- ---- what it makes of the machine, by its driver
 
@@ -126,7 +151,7 @@ module _ (m : Machine) (s : CallState) where
 -- ---- where it is refused
 
 -- it is not done
-abbrev IsNotOk : StepReply → Type 0
+abbrev pub IsNotOk : StepReply → Type 0
 IsNotOk words.Ok = ⊥
 IsNotOk reply = Unit {0}
 
@@ -136,15 +161,11 @@ refused_leaves m s step k r words.Ok not_ok = absurd not_ok
 refused_leaves m s events.Enter k r reply not_ok = refl
 refused_leaves m s step k r reply not_ok = refl
 
-not_ok : (refusal : Option Outcome) (step : RecordStep) (reply : StepReply) (end : Outcome) → IsRefusedWith refusal step reply end → IsNotOk reply
-not_ok (Some why) step words.Refused end refused = tt
-not_ok None step words.Memory end refused = tt
-not_ok refusal step reply end refused = absurd refused
-
-refused_answer : (refusal : Option Outcome) (step : RecordStep) (verb : Verb) (k r : Option ℕ) (reply : StepReply) (end : Outcome) → IsRefusedWith refusal step reply end → IsRecordAnswer refusal step (record { verb = verb; ckpt = k; node = r; reply = reply; end = Some end; details = beside.Nothing })
-refused_answer (Some why) step verb k r words.Refused end refused = (refl, ap Some refused)
-refused_answer None step verb k r words.Memory end refused = inr (refused.0, refl, ap Some refused.1)
-refused_answer refusal step verb k r reply end refused = absurd refused
+-- a step that is refused, or lacks its memory, is told so
+refused_so : (refusal : Option Outcome) (step : RecordStep) (verb : Verb) (k r : Option ℕ) (reply : StepReply) (end : Outcome) → IsRefusedWith refusal step reply end → IsNotOk reply × IsRecordAnswer refusal step (record { verb = verb; ckpt = k; node = r; reply = reply; end = Some end; details = beside.Nothing })
+refused_so (Some why) step verb k r words.Refused end refused = (tt, (refl, ap Some refused))
+refused_so None step verb k r words.Memory end refused = (tt, inr (refused.0, refl, ap Some refused.1))
+refused_so refusal step verb k r reply end refused = absurd refused
 
 -- ---- what it makes of the client's table
 
@@ -162,20 +183,20 @@ module _ (w : World) (h : History) (c : ℕ) (s : CallState) (actor : s.call.act
   has_table : room_is_taken (slice_get w.tables c) ≡ true → (X : Type 0) → slice_get w.tables c ≡ None → X
   has_table taken X none = let no : true ≡ false = sym taken ∙ ap room_is_taken none in absurd (cc no)
 
-  given_shown : (k : Option ℕ) → room_is_taken (slice_get w.tables c) ≡ true → at_some k (machine_of w h) (λ k. with_given s k (machine_of w h)) ≡ machine_of (record w { tables = tables_given w.cluster c s.op k w.tables }) h
-  given_shown None taken = refl
-  given_shown (Some k) taken = table_changes (handle_given (asked s.op) k (creation_flags_of (entry_of k w.cluster.entries))) (has_table taken _)
+  -- where it leaves the client's table as it is
+  table_stays : (change : TableState → TableState) → ((t : TableState) → change t ≡ t) → machine_of w h ≡ machine_of (record w { tables = at_client c change w.tables }) h
+  table_stays change same = ap (λ tables. machine_of (record w { tables = tables }) h) (sym (client_same w.tables c change same))
 
   -- the handle that the call closes, if it closes one
   abbrev pub handle : Option ℕ
   handle = handle_closed (asked s.op) (kept_by w.tables c)
 
   -- it is closed, with the synchronisations over it
-  pub closing_shown : with_closed s (machine_of w h) ≡ machine_of (syncs_gone c handle (record w { tables = tables_closed c s.op w.tables })) h
+  pub closing_shown : with_closed s (machine_of w h) ≡ machine_of (syncs_gone c handle (record w { tables = at_client c (with_client (closing (asked s.op))) w.tables })) h
   closing_shown =
       ap (λ (a : ActorName). without_syncs (handle_closed (asked s.op) (tables_of w.tables a)) a (with_tables a (closing (asked s.op)) (machine_of w h))) actor
       ∙ ap (without_syncs handle (Client c)) (change_is w h c (closing (asked s.op)) (λ none. closing-none (asked s.op)))
-      ∙ syncs_are (record w { tables = tables_closed c s.op w.tables }) h c handle
+      ∙ syncs_are (record w { tables = at_client c (with_client (closing (asked s.op))) w.tables }) h c handle
 
   leaving_shown : without_calls s.call.actor (with_tables s.call.actor emptied (machine_of w h)) ≡ machine_of (calls_gone c (record w { tables = at_client c (with_client emptied) w.tables })) h
   leaving_shown =
@@ -186,13 +207,13 @@ module _ (w : World) (h : History) (c : ℕ) (s : CallState) (actor : s.call.act
   settles : (step : RecordStep) (k : Option ℕ) → IsPlain step → CanSettle c s.op step w.tables →
       besides s step k (machine_of w h) ≡ machine_of (gone_with step c handle (record w { tables = settled w.cluster c s.op step k w.tables })) h
   settles events.Enter k plain can = table_changes (registering (asked s.op)) (has_table can _)
-  settles events.Open k plain can = given_shown k can.roomy
-  settles events.Finish k plain can = given_shown k can.roomy
+  settles events.Open (Some k) plain can = table_changes (handle_given (asked s.op) k (creation_flags_of (entry_of k w.cluster.entries))) (has_table can.roomy _)
+  settles events.Finish (Some k) plain can = table_changes (handle_given (asked s.op) k (creation_flags_of (entry_of k w.cluster.entries))) (has_table can.roomy _)
   settles events.Close k plain can = closing_shown
   settles events.Leave k plain can = leaving_shown
   settles (events.Hold r) k plain can = absurd plain
   settles (events.Activate r) k plain can = absurd plain
-  settles step k plain can = refl
+  settles step k plain can = table_stays (λ t. t) (λ t. refl)
 
 -- ---- the step as it is told
 
@@ -298,12 +319,8 @@ module _ (w : World) (v : Who) (step : RecordStep) (hand : InHand) (held : hand_
       answer = subst (λ o. IsEventAnswer (kept_off m k step) o step (parts reply end)) (ap (event_refusal w.cluster step) driver) answer;
     }
 
-    plainly_told : (reply : StepReply) (end : Option Outcome) → IsPlain step → IsRecordAnswer (event_refusal w.cluster step hand.driver) step (parts reply end) → IsDone m s (Event step) (parts reply end)
-    plainly_told reply end plain answer = told_so reply end (subst (λ o. IsEventAnswer o (event_refusal w.cluster step hand.driver) step (parts reply end)) (sym (plain_kept k step plain)) answer)
-
-    -- it pulls nothing
-    stays : (reply : StepReply) → IsPlain step → IsCopyBehind (with_effects w h) v hand (pulled_by m s verb k r reply) (h.pulled v) hand.snapshot
-    stays reply plain = let copy = copy_stays w h v hand held is.fits in record { same = event_pulls m s step k r reply plain; room = copy.room; counts = copy.counts }
+    plain_answer : (reply : StepReply) (end : Option Outcome) → IsPlain step → IsRecordAnswer (event_refusal w.cluster step hand.driver) step (parts reply end) → IsEventAnswer (kept_off m k step) (event_refusal w.cluster step hand.driver) step (parts reply end)
+    plain_answer reply end plain answer = subst (λ o. IsEventAnswer o (event_refusal w.cluster step hand.driver) step (parts reply end)) (sym (plain_kept k step plain)) answer
 
     module _ (eight : length w.nodes ≡ 8) (granted : event_refusal w.cluster step hand.driver ≡ None) where
       -- so the machine is shown where the record has taken the step
@@ -318,21 +335,40 @@ module _ (w : World) (v : Who) (step : RecordStep) (hand : InHand) (held : hand_
     shown_done : length w.nodes ≡ 8 → event_refusal w.cluster step hand.driver ≡ None → IsPlain step → CanSettle (client_by v) hand.op step w.tables →
         IsShownBehind w v hand held (settled_world w v hand step) (with_effects w) verb k r words.Ok end beside.Nothing 0 hand.snapshot (pulled_by_client v) (Event step) h
     shown_done eight granted plain can = record {
-      done = plainly_told words.Ok end plain (subst (λ o. IsRecordAnswer o step (parts words.Ok end)) (sym granted) (inl (refl, refl)));
+      done = told_so words.Ok end (plain_answer words.Ok end plain (subst (λ o. IsRecordAnswer o step (parts words.Ok end)) (sym granted) (inl (refl, refl))));
       change = done_beside eight granted ∙ settles recorded (with_effects w h) (client_by v) s (actor_is w h v hand held is.facts) step k plain can;
       fits = let f = fits_recorded eight granted in gone_fits (settled_alone w v hand step) (client_by v) (closed_in w v hand) step (with_effects w h) (record { replicas = f.replicas; copies = f.copies; hands = f.hands });
       count_is = event_counts m step k r words.Ok;
-      copy_is = stays words.Ok plain;
+      copy_is = let copy = copy_stays w h v hand held is.fits in record { same = event_pulls m s step k r words.Ok plain; room = copy.room; counts = copy.counts };
     }
 
-    shown_refused : (reply : StepReply) (end : Outcome) → IsPlain step → IsRefusedWith (event_refusal w.cluster step hand.driver) step reply end → IsShownBehind w v hand held w (λ h. h) verb k r reply (Some end) beside.Nothing 0 hand.snapshot (pulled_by_client v) (Event step) h
-    shown_refused reply end plain refused = record {
-      done = plainly_told reply (Some end) plain (refused_answer (event_refusal w.cluster step hand.driver) step verb k r reply end refused);
-      change = refused_leaves m s step k r reply (not_ok (event_refusal w.cluster step hand.driver) step reply end refused);
-      fits = is.fits;
-      count_is = event_counts m step k r reply;
-      copy_is = let copy = stays reply plain in record { same = copy.same; room = copy.room; counts = copy.counts };
-    }
+  -- ---- the whole of a step, with what it tells
+
+  -- it is done, and leaves these calls in hand, these tables, and this copy in its own hand; the nodes are freed of what is gone
+  module _ (hands : HandsState) (tables : List TableState) (copy : Option copies.Snapshot) (pulled : History → Option (List Effect)) where
+    abbrev behind : World
+    behind = record recorded { hands = hands; tables = tables }
+
+    pub done_does : length w.nodes ≡ 8 → event_refusal w.cluster step hand.driver ≡ None → hand_at hands v ≡ Some hand → ((h : History) → IsKnown w h → IsShownBehind w v hand held behind (with_effects w) verb k r words.Ok end beside.Nothing 0 copy pulled (Event step) h) →
+        (LiveHaveRoom w.cluster w.tables → LiveHaveRoom R tables) → Does w (freed_world (behind_step w v hand held behind (with_effects w) verb k r words.Ok end beside.Nothing 0 copy pulled)) (told words.Ok end)
+    done_does eight granted still shown rooms = does_freed w (behind_step w v hand held behind (with_effects w) verb k r words.Ok end beside.Nothing 0 copy pulled) (told words.Ok end)
+        (step_before w v hand held behind (with_effects w) verb k r words.Ok end beside.Nothing 0 copy pulled (Event step) next still (λ h. refl) shown)
+        (λ m s f. holds_after s.history (known_by w m s f) eight granted)
+        (λ m s f. let is = known_by w m s f in event_has w.cluster w.snapshots is.keeps is.facts.rises is.facts.up_to hand.call hand.driver step)
+        (λ m s f. rooms_ended behind R v end (rooms s.rooms))
+
+  -- it is not done, and the call ends: nothing else changes
+  pub ended_does : (reply : StepReply) (end : Outcome) → IsNotOk reply → ((h : History) → IsKnown w h → let m = machine_of w h in let s = state_in h v hand in (pulled_by m s verb k r reply ≡ s.snapshot) × IsEventAnswer (kept_off m k step) (event_refusal w.cluster step hand.driver) step (parts reply (Some end))) →
+      Does w (ended_at v (Some end) (record w { hands = set_at w.hands v None })) (told reply (Some end))
+  ended_does reply end not_ok answers = does_before w (ended_at v (Some end) (record w { hands = set_at w.hands v None })) (told reply (Some end))
+      (step_before w v hand held w (λ h. h) verb k r reply (Some end) beside.Nothing 0 hand.snapshot (pulled_by_client v) (Event step) next held (λ h. refl) (λ h is. record {
+        done = told_so h is reply (Some end) (answers h is).1;
+        change = refused_leaves (machine_of w h) (state_in h v hand) step k r reply not_ok;
+        fits = is.fits;
+        count_is = event_counts (machine_of w h) step k r reply;
+        copy_is = let copy = copy_stays w h v hand held is.fits in record { same = (answers h is).0; room = copy.room; counts = copy.counts };
+      }))
+      (λ m s f. s.holds) (λ m s f. s.keeps) (λ m s f. rooms_ended w w.cluster v (Some end) s.rooms)
 
   -- the call is one that its client waits for, where others go with its step
   pub goes_own : IsShown w → MayGoWith step v
@@ -367,16 +403,114 @@ module _ (w : World) (v : Who) (step : RecordStep) (hand : InHand) (held : hand_
   pub event_does : IsShown w → length w.nodes ≡ 8 → event_refusal w.cluster step hand.driver ≡ None → IsPlain step → CanSettle (client_by v) hand.op step w.tables → (step ≡ events.Enter → room_is_taken (slice_get w.tables (client_by v)) ≡ true) → Does w (freed_world done_world) (told words.Ok end)
   event_does shown eight granted plain can roomy =
       let behind = settled_world w v hand step in
-      does_freed w done_world (told words.Ok end)
-      (step_before w v hand held behind (with_effects w) verb k r words.Ok end beside.Nothing 0 hand.snapshot (pulled_by_client v) (Event step) next (gone_here (settled_alone w v hand step) (client_by v) (closed_in w v hand) step v (goes_own shown) ∙ held) (λ h. refl) (λ h is. shown_done h is eight granted plain can))
-      (λ m s f. holds_after s.history (known_by w m s f) eight granted)
-      (λ m s f. let is = known_by w m s f in event_has w.cluster w.snapshots is.keeps is.facts.rises is.facts.up_to hand.call hand.driver step)
-      (λ m s f. rooms_ended behind R v end (rooms_gone (settled_alone w v hand step) (client_by v) (closed_in w v hand) R step (rooms_settled w R (client_by v) R hand.op step k (rooms_after hand.call hand.driver step w.cluster w.tables (enters shown roomy) s.rooms))))
+      done_does behind.hands behind.tables hand.snapshot (pulled_by_client v) eight granted (gone_here (settled_alone w v hand step) (client_by v) (closed_in w v hand) step v (goes_own shown) ∙ held) (λ h is. shown_done h is eight granted plain can)
+      (λ rooms. rooms_gone (settled_alone w v hand step) (client_by v) (closed_in w v hand) R step (rooms_settled w R (client_by v) R hand.op step k (rooms_after hand.call hand.driver step w.cluster w.tables (enters shown roomy) rooms)))
 
   -- it is refused, and the call ends
   pub refused_does : (reply : StepReply) (end : Outcome) → IsPlain step → IsRefusedWith (event_refusal w.cluster step hand.driver) step reply end → Does w (ended_at v (Some end) (record w { hands = set_at w.hands v None })) (told reply (Some end))
-  refused_does reply end plain refused =
-      let new = ended_at v (Some end) (record w { hands = set_at w.hands v None }) in
-      does_before w new (told reply (Some end))
-      (step_before w v hand held w (λ h. h) verb k r reply (Some end) beside.Nothing 0 hand.snapshot (pulled_by_client v) (Event step) next held (λ h. refl) (λ h is. shown_refused h is reply end plain refused))
-      (λ m s f. s.holds) (λ m s f. s.keeps) (λ m s f. rooms_ended w w.cluster v (Some end) s.rooms)
+  refused_does reply end plain refused = let so = refused_so (event_refusal w.cluster step hand.driver) step verb k r reply end refused in ended_does reply end so.0
+      (λ h is. (event_pulls (machine_of w h) (state_in h v hand) step k r reply plain, plain_answer h is reply (Some end) plain so.1))
+
+  -- ---- what the step asks, and what it makes of the world with the parts as the code names them
+
+  module _ (shown : IsShown w) where
+    -- an open in hand has room for the handle of what it is making, and its client has taken its room
+    open_known : (o : OpenState) → hand.driver ≡ drivers.Open o → (IsSome o.making → has_handle_room (kept_by w.tables (client_by v)) ≡ true) × (room_is_taken (slice_get w.tables (client_by v)) ≡ true)
+    open_known o drives =
+        let h = shown.shows.history in
+        let is : IsKnown w h = known w shown in
+        let facts = is.facts.opens v (state_in h v hand) o (in_hand_is w h v hand held) (sym (driver_is w h v hand held is.fits) ∙ drives) in
+        let actor : hand.call.actor ≡ Client (client_by v) = actor_is w h v hand held is.facts in
+        (λ making. ap (λ (a : ActorName). has_handle_room (tables_of w.tables a)) (sym actor) ∙ facts.0 making, shown.shows.rooms (client_by v) (ap (λ (a : ActorName). is_live_client (number_of a) w.cluster) (sym actor) ∙ facts.1))
+
+    can_give : (o : OpenState) → hand.driver ≡ drivers.Open o → HasNumbersLeft w → has_handle_room (kept_by w.tables (client_by v)) ≡ true → CanGive (client_by v) hand.op w.tables
+    can_give o drives roomy room =
+        let h = shown.shows.history in
+        let is : IsKnown w h = known w shown in
+        record { built = is.facts.built v (state_in h v hand) (in_hand_is w h v hand held); roomy = (open_known o drives).1; room = room; number = roomy.handles (client_by v) }
+
+    abbrev IsReady : Driver → RecordStep → Type 0
+    IsReady x step = let h = shown.shows.history in IsEventReady (machine_of w h) (state_in h v hand) x step
+
+    by_step : (step : RecordStep) (x : Driver) → hand.driver ≡ x → (step ≡ events.Enter → room_is_taken (slice_get w.tables (client_by v)) ≡ true) → HasNumbersLeft w → driver_next w.cluster (rooms_at w (client_by v)) x ≡ Event step → event_refusal w.cluster step x ≡ None → IsReady x step → CanSettle (client_by v) hand.op step w.tables
+    by_step events.Enter x drives has_room roomy next granted ready = has_room refl
+    by_step events.Open (drivers.Open o) drives has_room roomy next granted ready = can_give o drives roomy (place_is_room (makings_of (client_by v) w.cluster.entries) (kept_by w.tables (client_by v)) (open_room w.cluster (rooms_at w (client_by v)).handles o next granted))
+    by_step events.Finish (drivers.Open o) drives has_room roomy next granted ready = can_give o drives roomy ((open_known o drives).0 (finishable_there (machine_of w shown.shows.history) o.ask.client o.making ready.0))
+    by_step events.Open (drivers.Once once.Leave) drives has_room roomy next granted ready = absurd ready
+    by_step events.Open x drives has_room roomy next granted ready = absurd ready
+    by_step events.Finish (drivers.Once once.Leave) drives has_room roomy next granted ready = absurd ready
+    by_step events.Finish x drives has_room roomy next granted ready = absurd ready
+    by_step step x drives has_room roomy next granted ready = tt
+
+    -- what the step makes of the client's table can be made
+    pub can_settle : event_refusal w.cluster step hand.driver ≡ None → HasNumbersLeft w → (step ≡ events.Enter → room_is_taken (slice_get w.tables (client_by v)) ≡ true) → CanSettle (client_by v) hand.op step w.tables
+    can_settle granted roomy has_room = by_step step hand.driver refl has_room roomy next granted (event_ready shown)
+
+    -- what the step asks of the record
+    pub is_ready : event_refusal w.cluster step hand.driver ≡ None → HasNumbersLeft w → IsRecordReady hand.call w.cluster hand.driver step
+    is_ready granted roomy = let h = shown.shows.history in record_ready (machine_of w h) (state_in h v hand) hand.driver step granted roomy.identity roomy.references (event_ready shown)
+
+    -- where it opens a checkpoint, that is the one that was looked up
+    pub is_found : (k : Option ℕ) → event_refusal w.cluster step hand.driver ≡ None → HasNumbersLeft w → k ≡ event_ckpt w.cluster hand.driver step → HasFound w.cluster hand.driver step k
+    is_found k granted roomy is = has_found hand.call w.cluster hand.driver step k is (known w shown).facts.rises (is_ready granted roomy)
+
+    -- what it adds, the node does not have yet
+    pub can_add : event_refusal w.cluster step hand.driver ≡ None → CanAdd hand.driver step w.cluster w.nodes
+    can_add granted =
+        let h = shown.shows.history in
+        let is : IsKnown w h = known w shown in
+        event_free w h is.facts is.holds (state_in h v hand) hand.driver step granted (event_ready shown)
+
+    -- ---- what it makes of the world, with the parts as the code names them
+
+    -- where asynchronous calls go with the step, the place of its own is set all the same
+    goes_apart : (place : Option InHand) → gone_with step (client_by v) (closed_in w v hand) (record (settled_alone w v hand step) { hands = set_at w.hands v place }) ≡ record (settled_world w v hand step) { hands = set_at (settled_world w v hand step).hands v place }
+    goes_apart place = gone_set (settled_alone w v hand step) (client_by v) (closed_in w v hand) step v place (goes_own shown)
+
+    -- the call is in hand till then
+    stays_held : hand_at (settled_world w v hand step).hands v ≡ Some hand
+    stays_held = gone_here (settled_alone w v hand step) (client_by v) (closed_in w v hand) step v (goes_own shown) ∙ held
+
+    -- ---- the step that is done
+
+    abbrev its_end : Option Outcome
+    its_end = end
+
+    abbrev its_label : Label
+    its_label = told words.Ok end
+
+    abbrev its_taken : InHand
+    its_taken = hand_taken (done_of R verb k r words.Ok) hand
+
+    -- the world behind it
+    abbrev its_world : World
+    its_world = freed_world done_world
+
+    event_told : event_refusal w.cluster step hand.driver ≡ None → IsPlain step → HasNumbersLeft w → (step ≡ events.Enter → room_is_taken (slice_get w.tables (client_by v)) ≡ true) → length w.nodes ≡ 8 →
+        IsStep v w its_world its_label
+    event_told granted plain roomy has_room eight =
+        let G : HandsState = (settled_world w v hand step).hands in
+        let under : HasUnder G v (left its_end its_taken) its_world.hands = hand_left G v hand its_taken its_end stays_held refl in
+        step_told v w its_world hand its_taken (word_of_op hand.op) verb k r words.Ok end beside.Nothing held refl refl
+        (under_own G its_world.hands v (left its_end its_taken) under)
+        (λ d other. under_other G its_world.hands v (left its_end its_taken) under (Actor (Client d)) other ∙ gone_clients (settled_alone w v hand step) (client_by v) (closed_in w v hand) step d)
+        (event_does shown eight granted plain (can_settle granted roomy has_room) has_room)
+
+    -- it is done, and the nodes are freed of what is gone
+    pub event_step : (new : World) (R : RecordState) (nodes : List (List Replica)) (backgrounds : List Background) (tables : List TableState) (taken : InHand) (place : Option InHand) (c : ℕ) (closed : Option ℕ) (word : OpWord) (verb : Verb) (k r : Option ℕ) (end : Option Outcome) → event_refusal w.cluster step hand.driver ≡ None → IsPlain step → HasNumbersLeft w →
+        (step ≡ events.Enter → room_is_taken (slice_get w.tables (client_by v)) ≡ true) → length w.nodes ≡ 8 → R ≡ event_after hand.call hand.driver step w.cluster → k ≡ event_ckpt w.cluster hand.driver step → r ≡ event_node hand.driver step → end ≡ event_end step k → tables ≡ settled R c hand.op step k w.tables →
+        taken ≡ hand_taken (done_of R (event_verb step) k r words.Ok) hand → place ≡ left end taken → nodes ≡ nodes_behind hand.driver step w.cluster w.nodes → backgrounds ≡ snapshots_behind hand.driver step w.cluster w.snapshots → c ≡ client_by v → closed ≡ handle_closed (asked hand.op) (kept_by w.tables c) →
+        new ≡ ended_at v end (freed_world (gone_with step c closed (record w { cluster = R; nodes = nodes; snapshots = backgrounds; tables = tables; hands = set_at w.hands v place }))) → word ≡ word_of_op hand.op → verb ≡ event_verb step →
+        IsStep v w new (Stepped hand.call word verb k r words.Ok end beside.Nothing)
+    event_step new R nodes backgrounds tables taken place c closed word verb k r end granted plain roomy has_room eight R_is k_is r_is end_is tables_are taken_is place_is nodes_are backgrounds_are c_is closed_is new_is word_is verb_is =
+        rw (new_is, closed_is, place_is, taken_is, tables_are, nodes_are, backgrounds_are, end_is, R_is, k_is, r_is, c_is, word_is, verb_is)
+        (subst (λ (x : World). IsStep v w (ended_at v its_end (freed_world x)) its_label) (sym (goes_apart (left its_end its_taken))) (event_told granted plain roomy has_room eight))
+
+    -- it is refused, by the record or for the memory that it takes, and the call ends
+    pub refused_step : (new : World) (word : OpWord) (verb : Verb) (k r : Option ℕ) (reply : StepReply) (end : Outcome) → IsPlain step → IsRefusedWith (event_refusal w.cluster step hand.driver) step reply end → new ≡ ended_at v (Some end) (record w { hands = set_at w.hands v None }) →
+        k ≡ event_ckpt w.cluster hand.driver step → r ≡ event_node hand.driver step → word ≡ word_of_op hand.op → verb ≡ event_verb step →
+        IsStep v w new (Stepped hand.call word verb k r reply (Some end) beside.Nothing)
+    refused_step new word verb k r reply end plain refused new_is k_is r_is word_is verb_is =
+        step_under v w new hand hand word verb k r reply (Some end) beside.Nothing held refl refl
+        (subst (λ (x : World). HasUnder w.hands v None x.hands) (sym new_is) (hand_left w.hands v hand hand (Some end) held refl))
+        (rw (new_is, k_is, r_is, word_is, verb_is) (refused_does reply end plain refused))

@@ -1,5 +1,5 @@
 -- A client's table with another one in its place, as the machine has it.
-use Rattle.std.proofs.Common.{◌≡◌, ℕ, Bool, true, false, Option, Some, None, refl, sym, ap, ◌∙◌, cond, ◌==◌}
+use Rattle.std.proofs.Common.{◌≡◌, ℕ, Bool, true, false, List, Option, Some, None, refl, sym, ap, ◌∙◌, cond, ◌==◌}
 use Rattle.std.specs.Prelude.{slice_get, slice_set}
 use Rattle.std.proofs.lemmas.Bool.{eqb-true}
 use Rattle.ckpt_types.specs.declared.identities.ActorName.{ActorName}
@@ -14,7 +14,7 @@ use Rattle.world_core.specs.declared.world.World.{World}
 use Rattle.client_calls.specs.TableState.{TableState, next_in, kept_in, pending_in, with_calls, with_client}
 use Rattle.world_core.specs.TablesState.{kept_by, pending_by, table_changed, at_client}
 use Rattle.world_core.specs.Shows.{History, machine_of, next_of, pending_of, tables_of}
-use Rattle.world_core.proofs.Maps.{same_there}
+use Rattle.world_core.proofs.Maps.{same_there, set_again}
 
 -- what is the same of two tables is the same where the one stands for the other
 field_case : {X : Type 0} (f : Option TableState → X) (t t' : TableState) → f (Some t) ≡ f (Some t') → (b : Bool) (o : Option TableState) → (b ≡ true → o ≡ Some t) → f o ≡ f (cond b (Some t') o)
@@ -58,6 +58,13 @@ module _ (w : World) (c : ℕ) (t t' : TableState) (table : slice_get w.tables c
   pub pendings_same : t.pending ≡ t'.pending → (a : ActorName) → pending_of w.tables a ≡ pending_of new_world.tables a
   pendings_same same (Client d) = field_same pending_in same d
   pendings_same same (Node r) = refl
+
+-- a change that changes nothing leaves all as they were
+pub client_same : (tables : List TableState) (c : ℕ) (change : TableState → TableState) → ((t : TableState) → change t ≡ t) → at_client c change tables ≡ tables
+client_same tables c change same = by_table (slice_get tables c) refl where
+  by_table : (o : Option TableState) → slice_get tables c ≡ o → table_changed c change tables o ≡ tables
+  by_table None table = refl
+  by_table (Some t) table = ap (slice_set tables c) (same t) ∙ set_again tables c t table
 
 -- ---- a change of what a client keeps
 

@@ -3,7 +3,6 @@ use Rattle.std.proofs.Common.{◌≡◌, ℕ, ◌<◌, List, length, Bool, Optio
 use Rattle.std.specs.Prelude.{◌-◌, ◌^◌, slice_get, slice_set}
 use Rattle.std.proofs.lemmas.Option.{slice_get_within}
 use Rattle.ckpt_types.specs.declared.answers.Outcome.{Outcome}
-use Rattle.ckpt_types.specs.declared.answers.Outcome.TheVariants.{Done}
 use Rattle.ckpt_types.specs.declared.operation.Op.{Op}
 use Rattle.ckpt_types.specs.Asks.{asked}
 use Rattle.node_msgs.specs.declared.next.RecordStep.{RecordStep}
@@ -14,10 +13,9 @@ use Rattle.node_msgs.specs.declared.requests.Request.{Request}
 use Rattle.node_msgs.specs.declared.requests.Request.TheVariants as requests
 use Rattle.section_iter.specs.KeptIds.{KeptIds}
 use Rattle.client_handles.specs.declared.handle_view.HandleView.{HandleView}
-use Rattle.client_handles.specs.ClientState.{ClientState, emptied, has_handle_room}
-use Rattle.cluster_record.specs.LookUps.{creation_flags_of}
-use Rattle.cluster_record.specs.RecordState.{RecordState, entry_of}
-use Rattle.ckpt_machine.specs.Tables.{handle_given, closing, registering, started}
+use Rattle.client_handles.specs.ClientState.{ClientState, has_handle_room}
+use Rattle.cluster_record.specs.RecordState.{RecordState}
+use Rattle.ckpt_machine.specs.Tables.{started}
 use Rattle.client_calls.specs.Lending.{lending, come_back, table_lending, table_keeping}
 use Rattle.world_core.specs.TablesLending.{tables_lending, tables_keeping}
 use Rattle.world_core.specs.LiveRooms.{room_is_taken}
@@ -55,18 +53,10 @@ module _ (tables : List TableState) (c : ℕ) (t : TableState) (there : slice_ge
   stays = set_again tables c t there
 
   pub settled_is : (R : RecordState) (op : Op) (step : RecordStep) (k : Option ℕ) → slice_set tables c (table_settled R op step k t) ≡ settled R c op step k tables
-  settled_is R op events.Enter k = changed_is (with_client (registering (asked op)))
-  settled_is R op events.Open None = stays
-  settled_is R op events.Open (Some k) = changed_is (with_client (handle_given (asked op) k (creation_flags_of (entry_of k R.entries))))
-  settled_is R op events.Finish None = stays
-  settled_is R op events.Finish (Some k) = changed_is (with_client (handle_given (asked op) k (creation_flags_of (entry_of k R.entries))))
-  settled_is R op events.Close k = changed_is (with_client (closing (asked op)))
-  settled_is R op events.Leave k = changed_is (with_client emptied)
-  settled_is R op step k = stays
+  settled_is R op step k = changed_is (table_settled R op step k)
 
   pub looked_is : (end : Outcome) (op : Op) → slice_set tables c (table_looked end op t) ≡ looked end c op tables
-  looked_is (Done answer) op = changed_is (with_client (closing (asked op)))
-  looked_is end op = stays
+  looked_is end op = changed_is (table_looked end op)
 
   pub lending_is : (request : Request) (op : Op) → slice_set tables c (table_lending request op t) ≡ tables_lending request c op tables
   lending_is (requests.Next call k) op = changed_is (with_client (lending (asked op)))

@@ -61,10 +61,6 @@ next_begun w c number op h live due end client table built none may number_is ha
   end_is = subst (λ o. IsBeginEnd (asked op) o end) (due_is ∙ ap (λ live. begin_end (standing_in live h c w.tables) (asked op)) live_is) answer;
 }
 
--- one that is answered is so at once
-pub is_at_once : (w : World) (c : ℕ) (call : CallId) (op : Op) (h : Option HandleView) (o : Option Outcome) (end : Outcome) → o ≡ Some end → IsNextBegun w c call op h o → IsAnsweredAtOnce w c call op h end
-is_at_once w c call op h o end answered is = record { client = is.client; table = is.table; built = is.built; none = is.none; may = is.may; call_is = is.call_is; handle = is.handle; end_is = subst (λ o. IsBeginEnd (asked op) (begin_end (standing_in (is_live_client c w.cluster) h c w.tables) (asked op)) o) answered is.end_is }
-
 -- the call in hand
 pub hand_begun : (call : CallId) (op : Op) (kept : Kept) (hand : InHand) (iteration : Option KeptIds) (snapshot : Option Snapshot) → hand ≡ record hand { call = call; op = op; iteration = iteration; snapshot = snapshot } → iteration ≡ room_for (asked op) kept.room → snapshot ≡ copy_room_for (asked op) kept.declares
     → driver_start call (asked op) kept ≡ Some hand.driver → IsHandBegun call op kept hand

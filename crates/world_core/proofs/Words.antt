@@ -1,12 +1,11 @@
 -- The labels that answer without a call: the words in place of a call, and the first nodes coming up.
 use Rattle.std.proofs.Common.{◌≡◌, ℕ, ◌<◌, ◌≤◌, Bool, true, false, refl, sym, ap, subst, ◌∙◌}
-use Rattle.std.specs.Prelude.{◌≢◌, Option, Some, None}
+use Rattle.std.specs.Prelude.{Option, Some, None}
 use Rattle.ckpt_types.specs.declared.identities.Who.{Who}
 use Rattle.ckpt_types.specs.declared.identities.Who.TheVariants.{Actor, Call}
 use Rattle.ckpt_types.specs.Limits.{nodes_max}
 use Rattle.run_labels.specs.declared.words.Said.TheVariants.{Idle}
 use Rattle.run_labels.specs.declared.labels.Label.TheVariants.{Word, Nodes}
-use Rattle.client_calls.specs.declared.in_hand.InHand.{InHand}
 use Rattle.cluster_record.specs.declared.entries.Entry.{Entry}
 use Rattle.world_core.specs.declared.world.World.{World}
 use Rattle.cluster_record.specs.RecordState.{RecordState, entry_of, brought_up, empty_record}
@@ -15,17 +14,11 @@ use Rattle.ckpt_machine.specs.Steps.{IsWord, after}
 use Rattle.world_core.specs.HandsState.{hand_at}
 use Rattle.world_core.specs.Shows.{Does, History, machine_of, shown_hand, where_not_complete, reserved_in}
 use Rattle.client_calls.specs.LineWords.{step_word}
-use Rattle.world_core.specs.Happenings.{IsIdle}
 use Rattle.world_core.proofs.HoldingLaws.{held_by_none}
 
 -- the call in hand under a name, as the machine has it: none where there is none
 pub none_in_hand : (w : World) (h : History) (v : Who) → hand_at w.hands v ≡ None → (machine_of w h).in_hand v ≡ None
 none_in_hand w h v free = ap (shown_hand (h.beginnings v) (h.steps v) (h.created v) (h.pulled v)) free
-
--- and else one
-pub words_in_hand : (h : History) (v : Who) (o : Option InHand) → o ≢ None → shown_hand (h.beginnings v) (h.steps v) (h.created v) (h.pulled v) o ≢ None
-words_in_hand h v None held none = held refl
-words_in_hand h v (Some hand) held none = absurd (cc none)
 
 -- a `step` or `finish` line of a name under which nothing is in hand
 pub idle_said : (w : World) (v : Who) (finish : Bool) → hand_at w.hands v ≡ None → Does w w (Word v (step_word finish) Idle)
@@ -38,10 +31,6 @@ idle_said w v finish none = record {
   said m (Actor a) false free = free
   said m (Call call) true free = free
   said m (Call call) false free = free
-
--- and its answer
-pub is_idle : (w : World) (v : Who) (finish : Bool) → hand_at w.hands v ≡ None → IsIdle v finish w w (Word v (step_word finish) Idle)
-is_idle w v finish none = record { none = none; word = (refl, refl, refl, refl); does = idle_said w v finish none }
 
 -- ---- the first nodes come up
 

@@ -1,46 +1,29 @@
--- What a step of the record makes of its client's table.
+-- What a step of the record makes of its client's table, among those of all.
 use Rattle.std.specs.Prelude.{◌≡◌, ℕ, ◌-◌, ◌^◌, ◌<◌, List, Option, Some, None, true, slice_get}
 use Rattle.ckpt_types.specs.declared.answers.Outcome.{Outcome}
-use Rattle.ckpt_types.specs.declared.answers.Outcome.TheVariants.{Done}
 use Rattle.ckpt_types.specs.declared.operation.Op.{Op}
 use Rattle.node_msgs.specs.declared.next.RecordStep.{RecordStep}
 use Rattle.node_msgs.specs.declared.next.RecordStep.TheVariants as events
-use Rattle.client_handles.specs.ClientState.{has_handle_room, emptied}
-use Rattle.cluster_record.specs.LookUps.{creation_flags_of}
+use Rattle.client_handles.specs.ClientState.{has_handle_room}
 use Rattle.cluster_record.specs.Makings.{making_undone}
-use Rattle.cluster_record.specs.RecordState.{RecordState, entry_of, swept}
-use Rattle.ckpt_types.specs.Asks.{asked, IsBuilt}
-use Rattle.ckpt_machine.specs.Tables.{handle_given, closing, registering}
+use Rattle.cluster_record.specs.RecordState.{RecordState, swept}
+use Rattle.ckpt_types.specs.Asks.{IsBuilt}
 use Rattle.world_core.specs.declared.world.World.{World}
 use Rattle.world_core.specs.Freeing.{freed_world}
 use Rattle.world_core.specs.LiveRooms.{room_is_taken}
-use Rattle.client_calls.specs.TableState.{TableState, with_client}
+use Rattle.client_calls.specs.TableSettling.{table_looked, table_settled}
+use Rattle.client_calls.specs.TableState.{TableState}
 use Rattle.world_core.specs.TablesState.{kept_by, at_client}
 
 -- ---- of all tables
 
--- the client of an open gets a handle of a checkpoint, where there is one
-abbrev pub tables_given : RecordState → ℕ → Op → Option ℕ → List TableState → List TableState
-tables_given R c op None tables = tables
-tables_given R c op (Some k) tables = at_client c (with_client (handle_given (asked op) k (creation_flags_of (entry_of k R.entries)))) tables
-
--- the handle is closed that a call closes, if it closes one
-abbrev pub tables_closed : ℕ → Op → List TableState → List TableState
-tables_closed c op tables = at_client c (with_client (closing (asked op))) tables
-
--- R is the record after the step; one that becomes live has registered its callbacks
+-- R is the record after the step
 abbrev pub settled : RecordState → ℕ → Op → RecordStep → Option ℕ → List TableState → List TableState
-settled R c op events.Enter k tables = at_client c (with_client (registering (asked op))) tables
-settled R c op events.Open k tables = tables_given R c op k tables
-settled R c op events.Finish k tables = tables_given R c op k tables
-settled R c op events.Close k tables = tables_closed c op tables
-settled R c op events.Leave k tables = at_client c (with_client emptied) tables
-settled R c op step k tables = tables
+settled R c op step k tables = at_client c (table_settled R op step k) tables
 
--- where the record alone says that a call is done, its handle is closed, if it closes one
+-- where the record alone says that a call is done
 abbrev pub looked : Outcome → ℕ → Op → List TableState → List TableState
-looked (Done answer) c op tables = tables_closed c op tables
-looked end c op tables = tables
+looked end c op tables = at_client c (table_looked end op) tables
 
 -- what a call is making is undone, where it is making something; what is over goes with it, and the replicas and the snapshots of what is gone
 abbrev pub without_making_of : Option ℕ → World → World

@@ -24,7 +24,7 @@ use Rattle.world_core.proofs.EventEnds.{done_ends, done_keeps, refused_ends}
 use Rattle.world_core.proofs.Going.{length-behind}
 use Rattle.world_core.proofs.Held.{next_for}
 use Rattle.world_core.proofs.NoneGone.{none_freed}
-use Rattle.world_core.proofs.RecordSteps.{can_add, can_settle, is_found, is_ready, when_ok, when_err, event_step, refused_step}
+use Rattle.world_core.proofs.RecordEvent.{can_add, can_settle, is_found, is_ready, when_ok, when_err, event_step, refused_step}
 use Rattle.world_core.proofs.TableSteps.{kept_is, may_settle, settled_is}
 use Rattle.world_core.proofs.world.World.record_step.Goals as goal
 

@@ -11,7 +11,7 @@ use Rattle.world_core.specs.Alone.{ended_at}
 use Rattle.world_core.specs.HandsState.{hand_at, set_at}
 use Rattle.world_core.proofs.EventEnds.{refused_ends}
 use Rattle.world_core.proofs.Held.{next_for}
-use Rattle.world_core.proofs.RecordSteps.{refused_step}
+use Rattle.world_core.proofs.RecordEvent.{refused_step}
 use Rattle.world_core.proofs.world.World.refuse_step.Goals as goal
 
 pub returns : goal.returns

@@ -1,0 +1,54 @@
+-- The replica of a checkpoint on a node that is complete for it is changed: what the world shows then.
+use Rattle.std.proofs.Common.{◌≡◌, ℕ, List, false, cond, sym, ap, subst, ◌∙◌}
+use Rattle.std.specs.Prelude.{Some, ◌==◌, ◌&&◌, slice_index, slice_set}
+use Rattle.cluster_record.specs.declared.entries.Entry.{Entry}
+use Rattle.cluster_record.specs.Places.{change_key, list_or, put2}
+use Rattle.cluster_record.specs.RecordState.{entry_of, complete_of}
+use Rattle.cluster_record.proofs.Places.{there_is}
+use Rattle.ckpt_machine.specs.Machine.{Machine, Effect}
+use Rattle.node_core.specs.Nodes.{replica_key}
+use Rattle.replica.specs.Replicas.{Replica}
+use Rattle.world_core.specs.declared.world.World.{World}
+use Rattle.world_core.specs.Holding.{HoldsOnlyWhatStands}
+use Rattle.world_core.specs.Nodes.{replica_in, with_changed}
+use Rattle.world_core.specs.Shows.{History, HistoryFits, FitsReplica, complete_replica, machine_of, shown_replica}
+use Rattle.world_core.proofs.HoldingLaws.{holds_changed}
+use Rattle.world_core.proofs.Maps.{changed_here, complete_at_node, fits_replica, put_replica, reserved_same}
+use Rattle.world_core.proofs.Serve.{node_within}
+
+-- the world shows this state of the machine with this history, and its nodes hold only what stands
+pub record IsShownBy (m : Machine) (w : World) (h : History) : Type 0 where
+  pub same : m ≡ machine_of w h
+  pub fits : HistoryFits w h
+  pub holds : HoldsOnlyWhatStands w.cluster w.nodes
+
+module _ (w : World) (h : History) (fits : HistoryFits w h) (holds : HoldsOnlyWhatStands w.cluster w.nodes) (k r : ℕ) (e : Entry) (found : entry_of k w.cluster.entries ≡ Some e) (complete : (slice_index e.complete r == 0) ≡ false)
+    (f : Replica → Replica) (keeps_key : (x : Replica) → replica_key (f x) ≡ replica_key x) (x : Replica) (there : replica_in w.nodes k r ≡ Some x) (E : List Effect) where
+  abbrev nodes : List (List Replica)
+  nodes = with_changed k r f w.nodes
+
+  at_each : (j q : ℕ) → replica_in nodes j q ≡ cond ((j == k) && (q == r)) (Some (f x)) (replica_in w.nodes j q)
+  at_each = changed_here w.nodes k r f keeps_key x there
+
+  complete_each : (j q : ℕ) → complete_replica w.cluster nodes j q ≡ cond ((j == k) && (q == r)) (Some (f x)) (complete_replica w.cluster w.nodes j q)
+  complete_each = complete_at_node w.cluster w.nodes nodes k r (f x) at_each (ap (λ o. slice_index (complete_of o) r == 0) found ∙ complete)
+
+  -- with these effects, which the changed one counts
+  abbrev pub with_effects_of : History
+  with_effects_of = record h { effects = put2 h.effects k r E; origins = put2 h.origins k r (h.origins k r) }
+
+  pub replica_changed : FitsReplica k (Some e) E (Some (f x)) → IsShownBy (record (machine_of w h) { replicas = put2 (machine_of w h).replicas k r (shown_replica E (h.origins k r) (Some (f x))) }) (record w { nodes = nodes }) with_effects_of
+  replica_changed its = record {
+    same =
+        let replicas = put_replica h.effects h.origins (complete_replica w.cluster w.nodes) (complete_replica w.cluster nodes) k r E (h.origins k r) (f x) complete_each in
+        let reserved = reserved_same w.cluster w.nodes nodes k r (f x) x there at_each in
+        λ i. record (machine_of (record w { nodes = nodes }) with_effects_of) { replicas = replicas i; reserved = λ j q. reserved j q i };
+    fits = record {
+      replicas = fits_replica w.cluster h.effects (complete_replica w.cluster w.nodes) (complete_replica w.cluster nodes) k r E (f x) complete_each (subst (λ o. FitsReplica k o E (Some (f x))) (sym found) its) fits.replicas;
+      copies = fits.copies;
+      hands = fits.hands;
+    };
+    holds =
+        let (xs, at) = there_is w.nodes r (node_within w.nodes k r x there) in
+        subst (λ o. HoldsOnlyWhatStands w.cluster (slice_set w.nodes r (change_key replica_key k f (list_or o)))) (sym at) (holds_changed w.cluster w.nodes holds r xs at k e f keeps_key found complete);
+  }
