@@ -13,7 +13,7 @@ use Rattle.cluster_record.specs.declared.calls.SyncKind.TheVariants.{Synchronize
 use Rattle.cluster_record.specs.declared.calls.UpdatePhase.{UpdatePhase}
 use Rattle.cluster_record.specs.declared.calls.UpdatePhase.TheVariants.{Staging, Committing}
 use Rattle.cluster_record.specs.declared.entries.Entry.{Entry}
-use Rattle.cluster_record.specs.DueSync.{SyncState, is_unserved}
+use Rattle.cluster_record.specs.DueSync.{SyncState}
 use Rattle.cluster_record.specs.RecordState.{RecordState, entry_of, complete_of}
 use Rattle.ckpt_machine.specs.Drivers.{Driver}
 use Rattle.ckpt_machine.specs.Drivers as drivers
@@ -24,6 +24,7 @@ use Rattle.ckpt_machine.specs.Left.{lacking, having, unserved, making_left, acti
 use Rattle.ckpt_machine.specs.Machine.{Machine, CallState}
 use Rattle.ckpt_machine.specs.Shape.{Shape}
 use Rattle.ckpt_machine.specs.Steps.{driver_of}
+use Rattle.ckpt_machine.proofs.Served.{unserved-few}
 
 -- ---- some are left
 
@@ -120,19 +121,9 @@ active_few (kinds.Weak n) (Some marks) few = let elements = few.0 in let left = 
 active_few kind None few = omega arith
 active_few kind (Some marks) few = absurd few
 
-one_or_none : (b : Bool) (x n : ℕ) → x ≤ n → cond b 1 0 + x ≤ n + 1
-one_or_none true x n few = omega (arith, few)
-one_or_none false x n few = omega (arith, few)
-
--- no more nodes are left to serve than there are
-unserved_few : (complete : List ℕ) (served : List Bool) → unserved complete served ≤ length complete
-unserved_few [] served = omega arith
-unserved_few (v ∷ cs) [] = omega arith
-unserved_few (v ∷ cs) (b ∷ bs) = let few = one_or_none (is_unserved v b) (unserved cs bs) (length cs) (unserved_few cs bs) in omega (arith, few)
-
 sync_few : (complete : List ℕ) (s : SyncState) (pulled : Option PulledAt) → length complete ≡ 8 → sync_left complete s pulled ≤ 66
 sync_few complete s None eight = omega arith
-sync_few complete s (Some pulled) eight = let few = unserved_few complete s.served in omega (arith, few, eight)
+sync_few complete s (Some pulled) eight = let few = unserved-few complete s.served in omega (arith, few, eight)
 
 setting_few : (call : CallId) (o : Option Entry) → setting_left call o ≤ 66
 setting_few call None = omega arith

@@ -190,37 +190,16 @@ sets_active R s step next = by_entry (entry_of s.ckpt R.entries) next where
   by_entry None next = absurd (cc next)
   by_entry (Some e) next = by_kind e s.kind refl next
 
-abbrev IsAnEvent : Next → Type 0
-IsAnEvent (Event step) = Unit {0}
-IsAnEvent next = ⊥
-
-event_outcome : (R : RecordState) (reply : Reply) (s : SyncState) (next : Next) → IsAnEvent next → sync_outcome_by R reply s next ≡ setting_end R reply s
-event_outcome R reply s (Event step) is = refl
-event_outcome R reply s next is = absurd is
-
-event_told : (R : RecordState) (reply : Reply) (s : SyncState) (next : Next) → IsAnEvent next → sync_told_by R reply s next ≡ s
-event_told R reply s (Event step) is = refl
-event_told R reply s next is = absurd is
-
--- what is next of the setting of an active, where no other call holds its checkpoint, which has an active
-module _ (R : RecordState) (s : SyncState) (local : ℕ) (kind : s.kind ≡ ActiveSet local) (e : Entry) (there : entry_of s.ckpt R.entries ≡ Some e) where
-  next_is : sync_next R s ≡ unless_held s.call local e.active e.hold
-  next_is = ap (sync_on R s) there ∙ ap (kind_next R s e) kind
-
-  own_held : (call : CallId) → e.hold ≡ Some call → same_call call s.call ≡ true → IsAnEvent (sync_next R s)
-  own_held call holds own = subst IsAnEvent (sym (next_is ∙ ap (unless_held s.call local e.active) holds ∙ ap (λ b. cond b (Event (events.Activate local)) (End (Refused TryAgain (causes.Holder call)))) own)) tt
-
-  none_held : (r : ℕ) → e.active ≡ Some r → e.hold ≡ None → IsAnEvent (sync_next R s)
-  none_held r leads free = subst IsAnEvent (sym (next_is ∙ (λ i. unless_held s.call local (leads i) (free i)))) (by_test (r == local)) where
-    by_test : (b : Bool) → IsAnEvent (cond b (Event (events.Activate local)) (Event (events.Hold r)))
-    by_test true = tt
-    by_test false = tt
-
 -- ---- a step that is done
 
 -- what the record has done of its step, once it is as N
 abbrev pub is_done : Reply
 is_done = replies.Done answers.Nothing
+
+-- whichever step is next of the setting of an active
+set_by : (N : RecordState) (u : SyncState) (local r : ℕ) (b : Bool) → let next : Next = cond b (Event (events.Activate local)) (Event (events.Hold r)) in (sync_outcome_by N is_done u next ≡ setting_end N is_done u) × (sync_told_by N is_done u next ≡ u)
+set_by N u local r true = (refl, refl)
+set_by N u local r false = (refl, refl)
 
 record TakesDone (R : RecordState) (x : Driver) (step : RecordStep) (N : RecordState) : Type 0 where
   outcome : driver_outcome N is_done x ≡ event_end step (event_ckpt R x step)
@@ -268,10 +247,10 @@ module _ (R : RecordState) (call : CallId) (rises : IdentitiesRise R.entries) (s
         let f : Entry = record e { hold = Some call } in
         let own : same_call call u.call ≡ true = ap (same_call call) call_is ∙ same_call-refl call in
         let after : entry_of u.ckpt N.entries ≡ Some f = entry_changed R u.ckpt (with_hold call) (with_hold-identity call) (λ x. hold_stays R.moment call x) e there rises stay ∙ ap (λ b. Some (cond b f e)) can in
-        let next : IsAnEvent (sync_next N u) = own_held N u local kind f after call refl own in
+        let next : sync_next N u ≡ Event (events.Activate local) = ap (sync_on N u) after ∙ ap (kind_next N u f) kind ∙ ap (λ b. cond b (Event (events.Activate local)) (End (Refused TryAgain (causes.Holder call)))) own in
         record {
-          outcome = event_outcome N is_done u (sync_next N u) next ∙ ap (λ z. set_unless_held u.call (hold_in z)) after ∙ ap (λ b. cond b None (Some (Done answers.Nothing))) own;
-          told = ap drivers.Sync (event_told N is_done u (sync_next N u) next);
+          outcome = ap (sync_outcome_by N is_done u) next ∙ ap (λ z. set_unless_held u.call (hold_in z)) after ∙ ap (λ b. cond b None (Some (Done answers.Nothing))) own;
+          told = ap (λ n. drivers.Sync (sync_told_by N is_done u n)) next;
         }
 
     activate_done : (r : ℕ) → can_lead r e ≡ true → TakesDone R (drivers.Sync u) (events.Activate r) (event_after call (drivers.Sync u) (events.Activate r) R)
@@ -279,10 +258,10 @@ module _ (R : RecordState) (call : CallId) (rises : IdentitiesRise R.entries) (s
         let N = event_after call (drivers.Sync u) (events.Activate r) R in
         let f : Entry = record e { active = Some r; generation = generation_under r e; hold = None } in
         let after : entry_of u.ckpt N.entries ≡ Some f = entry_changed R u.ckpt (with_active r) (with_active-identity r) (λ x. active_stays R.moment r x) e there rises stay ∙ ap (λ b. Some (cond b f e)) can in
-        let next : IsAnEvent (sync_next N u) = none_held N u local kind f after r refl refl in
+        let next : sync_next N u ≡ cond (r == local) (Event (events.Activate local)) (Event (events.Hold r)) = ap (sync_on N u) after ∙ ap (kind_next N u f) kind in
         record {
-          outcome = event_outcome N is_done u (sync_next N u) next ∙ ap (λ z. set_unless_held u.call (hold_in z)) after;
-          told = ap drivers.Sync (event_told N is_done u (sync_next N u) next);
+          outcome = ap (sync_outcome_by N is_done u) next ∙ (set_by N u local r (r == local)).0 ∙ ap (λ z. set_unless_held u.call (hold_in z)) after;
+          told = ap (λ n. drivers.Sync (sync_told_by N is_done u n)) next ∙ ap drivers.Sync (set_by N u local r (r == local)).1;
         }
 
 module _ (m : Machine) (s : CallState) (rises : IdentitiesRise m.cluster.entries) (stay : AllStay m.cluster.moment m.cluster.entries) (rooms : Rooms) where

@@ -46,6 +46,8 @@ use Rattle.ckpt_machine.specs.Facts.{Facts, HasCopyRoom, IsServable}
 use Rattle.world_core.specs.Shows.{HistoryFits, FitsReplica, FitsSlot, FitsCopy, IsRoomToCopy, History, machine_of, shown_replica, shown_slot, shown_copy, where_complete, complete_replica, tables_of}
 use Rattle.client_calls.specs.HandRooms.{room_for}
 use Rattle.ckpt_machine.proofs.NextOf.{OfAsked, next_of}
+use Rattle.ckpt_machine.proofs.OptionLemmas.{IsSomeAnd-at}
+use Rattle.world_core.proofs.ReplicaSteps.{has_one}
 use Rattle.world_core.proofs.Carrying.{GoesToReplica, IsOfCall, IsSameCopy, payload_with}
 use Rattle.world_core.proofs.CopySteps.{HasCopyRoomFor}
 use Rattle.world_core.proofs.Held.{state_in, in_hand_is, actor_is, iteration_is, due_is, copy_stays}
@@ -189,6 +191,11 @@ module _ (w : World) (h : History) (v : Who) (r : ℕ) (request : Request) (hand
 
 -- ---- what is the call's own
 
+-- nothing is staged that the machine does not have
+pub no_slot : (o : CallId) (slot : Option Slot) → shown_slot o slot ≡ None → slot ≡ None
+no_slot o None none = refl
+no_slot o (Some slot) none = absurd (cc none)
+
 -- what follows from something is there where that is
 from_there : {X Y : Type 0} (f : X → Option Y) (o : Option X) → IsSome (option_and_then f o) → IsSome o
 from_there f None there = absurd (cc there)
@@ -197,14 +204,6 @@ from_there f (Some x) there = refl
 shown_update : (u : Update) (o : CallId) (p : Option Slot) → IsSomeAnd (shown_slot o p) (λ slot. slot.update ≡ u) → IsSomeAnd p (λ slot. slot.update ≡ u)
 shown_update u o None own = absurd own
 shown_update u o (Some slot) own = own
-
-entry_with : (P : Entry → Type 0) (o : Option Entry) → IsSomeAnd o P → (e : Entry) × (o ≡ Some e) × P e
-entry_with P None some = absurd some
-entry_with P (Some e) some = (e, refl, some)
-
-copy_is_there : (P : copies.Snapshot → Type 0) (o : Option copies.Snapshot) → IsSomeAnd o P → IsSome o
-copy_is_there P None some = absurd some
-copy_is_there P (Some s) some = refl
 
 -- the snapshot in a hand is seen as the code has it, once something was pulled
 copy_seen : (pulled : Option (List Effect)) (s : Option copies.Snapshot) (a : CreationAttributes) → IsSome (shown_copy pulled s) → IsSomeAnd s (λ s. s.attributes ≡ a) → FitsCopy pulled s → seen_snapshot (Some a) (shown_copy pulled s) ≡ s
@@ -248,15 +247,15 @@ module _ (w : World) (h : History) (v : Who) (r : ℕ) (hand : InHand) (facts : 
   pub copy_there : (request : Request) → due M s ≡ Serve r request → HasCopyRoomFor request hand.snapshot
   copy_there (requests.Pull call k) is =
       let has = facts.pulls v s r call k (in_hand_is w h v hand held) is in
-      let (e, at, declares) = entry_with (λ e. s.kept.declares ≡ Some e.attributes) (entry_of k w.cluster.entries) has.declares in
-      copy_is_there (λ s. s.attributes ≡ e.attributes) hand.snapshot (copy_room_is k has e at)
+      let (e, at, declares) = IsSomeAnd-at (entry_of k w.cluster.entries) (λ e. s.kept.declares ≡ Some e.attributes) has.declares in
+      has_one hand.snapshot (λ s. s.attributes ≡ e.attributes) (copy_room_is k has e at)
   copy_there request is = tt
 
   -- and one that installs has in hand what the machine's call has
   pub copy_carried : (request : Request) → due M s ≡ Serve r request → IsSameCopy request (payload_with hand kept) (payload_due M s)
   copy_carried (requests.Install call k) is =
       let (has, there) = facts.installs v s r call k (in_hand_is w h v hand held) is in
-      let (e, at, declares) = entry_with (λ e. s.kept.declares ≡ Some e.attributes) (entry_of k w.cluster.entries) has.declares in
+      let (e, at, declares) = IsSomeAnd-at (entry_of k w.cluster.entries) (λ e. s.kept.declares ≡ Some e.attributes) has.declares in
       sym (ap (λ d. seen_snapshot d s.snapshot) declares ∙ copy_seen (h.pulled v) hand.snapshot e.attributes there (copy_room_is k has e at) (copy_stays w h v hand held fits).counts)
   copy_carried request is = tt
 

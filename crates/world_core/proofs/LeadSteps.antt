@@ -40,24 +40,20 @@ use Rattle.client_calls.specs.Taking.{hand_outcome}
 use Rattle.world_core.specs.Shows.{Does, IsShown, History, FitsReplica, complete_replica, machine_of, shown_replica, shown_slot}
 use Rattle.world_core.proofs.CallSteps.{IsKnown, known, known_by, step_before, step_under, IsShownBehind, pulled_by_client}
 use Rattle.world_core.proofs.EventEnds.{done_ends, is_done}
-use Rattle.world_core.proofs.Finding.{copy_room_is, replica_shown}
+use Rattle.world_core.proofs.Finding.{copy_room_is, no_slot, replica_shown}
 use Rattle.world_core.proofs.Freeing.{does_before, machine_of-freed, Fits-freed, replica_in-freed, rooms_left}
 use Rattle.world_core.proofs.Held.{copy_stays, state_in}
 use Rattle.world_core.proofs.HoldSteps.{activates, by_sync}
-use Rattle.world_core.proofs.Leading.{HeldAs, IsShownLed, held_as, held_is_there, led_history, shown_led}
+use Rattle.world_core.proofs.Leading.{HeldAs, held_as, held_is_there, led_history, shown_led}
 use Rattle.world_core.proofs.LiveRooms.{rooms_after, rooms_ended}
 use Rattle.world_core.proofs.Maps.{hand_left}
+use Rattle.world_core.proofs.ReplicaChanged.{IsShownBy}
 use Rattle.world_core.proofs.RecordEvent.{done_beside, event_asks, event_ready, fits_recorded, goes, holds_after, told_so}
 use Rattle.world_core.proofs.Recording.{GoesAt, NodeGoes, with_effects}
 use Rattle.world_core.specs.HandsState.{hand_at, set_at}
 use Rattle.client_calls.specs.Names.{client_by}
 use Rattle.ckpt_types.specs.declared.identities.Who.{Who}
 use Rattle.world_core.proofs.SnapshotRooms.{event_has}
-
--- nothing is staged that the machine does not have
-no_slot : (o : CallId) (slot : Option Slot) → shown_slot o slot ≡ None → slot ≡ None
-no_slot o None none = refl
-no_slot o (Some slot) none = absurd (cc none)
 
 -- the record behind it, and the world, freed of what is gone
 abbrev active_record : World → ℕ → ℕ → RecordState
@@ -163,8 +159,7 @@ module _ (w : World) (v : Who) (r : ℕ) (base : InHand) (u : SyncState) where
         by_copy (Some t) at = by_entry t at (entry_of k R.entries) refl
 
       -- what the world shows where the node leads
-      leads : IsShownLed cleared (with_effects w h) (Fits-freed (record w { cluster = R }) (with_effects w h) (fits_recorded w v step hand held next h is eight refl)) (holds_after w v step hand held next h is eight refl) k r s.snapshot copy has can_lead
-          (nodes_led k r copy (entry_of k R.entries) cleared.nodes) (complete_replica R cleared.nodes k r)
+      leads : IsShownBy (led_from s.snapshot k r (machine_of cleared (with_effects w h))) (led_world w hand k r) (later h)
       leads = shown_led cleared (with_effects w h) (Fits-freed (record w { cluster = R }) (with_effects w h) (fits_recorded w v step hand held next h is eight refl)) (holds_after w v step hand held next h is eight refl) k r s.snapshot copy has can_lead
 
       leads_here : IsShownBehind w v hand held (led_world w hand k r) later verbs.Activate (Some k) (Some r) words.Ok (Some (Done answers.Nothing)) beside.Nothing 0 hand.snapshot (pulled_by_client v) (Event step) h

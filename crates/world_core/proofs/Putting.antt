@@ -29,7 +29,7 @@ use Rattle.world_core.specs.Happenings.{Propagates}
 use Rattle.world_core.specs.Runs.{IsPutOf}
 use Rattle.world_core.specs.Shows.{Does, IsShown, History, FitsReplica, FitsSlot, FitsSnapshot, machine_of, complete_replica, where_complete, shown_replica, shown_slot, shown_snapshot}
 use Rattle.world_core.proofs.CallSteps.{IsKnown, known, known_by}
-use Rattle.world_core.proofs.Finding.{replica_shown}
+use Rattle.world_core.proofs.Finding.{no_slot, replica_shown}
 use Rattle.world_core.proofs.Maps.{set_again}
 use Rattle.world_core.proofs.ReplicaChanged.{IsShownBy, replica_changed, with_effects_of}
 use Rattle.world_core.proofs.Serve.{node_within}
@@ -115,11 +115,7 @@ module _ (w : World) (h : History) (is : IsKnown w h) (k r : ℕ) where
 
     -- nothing is staged on it, and no marks stand
     free : (x.slot ≡ None) × (x.marks ≡ None)
-    free = let facts = is.facts.puts k r X target_is in (no_slot x.slot facts.0, facts.1)
-      where
-        no_slot : (o : Option Slot) → shown_slot (h.origins k r) o ≡ None → o ≡ None
-        no_slot None none = refl
-        no_slot (Some slot) none = absurd (cc none)
+    free = let facts = is.facts.puts k r X target_is in (no_slot (h.origins k r) x.slot facts.0, facts.1)
 
     -- where a snapshot was pulled, it is of what the replica declares
     puttable : IsPuttable snap x

@@ -59,6 +59,7 @@ use Rattle.world_core.proofs.Going.{event_goes, event_adds, event_once, event_ke
 use Rattle.world_core.proofs.Held.{copy_stays, state_in, in_hand_is, driver_is, name_is, actor_is, due_is}
 use Rattle.world_core.specs.LiveRooms.{LiveHaveRoom, room_is_taken}
 use Rattle.world_core.proofs.LiveRooms.{EntersWithRoom, rooms_ended, rooms_settled, rooms_after}
+use Rattle.world_core.proofs.ReplicaSteps.{has_one}
 use Rattle.world_core.proofs.Recording.{GoesAt, none_pulled, with_effects, record_is, record_fits}
 use Rattle.world_core.proofs.SnapshotRooms.{behind-pulled, event_has}
 use Rattle.world_core.specs.HandsState.{HandsState, hand_at, set_at}
@@ -78,10 +79,6 @@ use Rattle.world_core.proofs.Maps.{HasUnder, hand_left, under_other, under_own}
 use Rattle.ckpt_types.specs.declared.identities.Who.TheVariants.{Actor}
 
 -- ---- what is there of what a step is about
-
-some_there : {X : Type 0} (P : X → Type 0) (o : Option X) → IsSomeAnd o P → IsSome o
-some_there P None there = absurd there
-some_there P (Some x) there = refl
 
 identity_there : (P : Entry → Type 0) (e : Option Entry) → IsSomeAnd e P → IsSome (identity_in e)
 identity_there P None there = absurd there
@@ -143,7 +140,7 @@ module _ (m : Machine) (s : CallState) where
   change_done (drivers.Open o) events.Create ready drives = ap (λ ask. record_step (created_for s.call ask) m) drives.asks
   change_done (drivers.Open o) events.Open ready drives = given_at opened o.ask.client (identity_in (named o.ask.name m.cluster.entries)) drives.client (identity_there _ (named o.ask.name m.cluster.entries) ready.0)
   change_done (drivers.Open o) events.Finish ready drives = given_at finished o.ask.client (making_ckpt o.making) drives.client (ckpt_there o.making (finishable_there m o.ask.client o.making ready.0))
-  change_done (drivers.Open o) events.Undo ready drives = step_at undone (making_ckpt o.making) (ckpt_there o.making (some_there _ o.making ready.0))
+  change_done (drivers.Open o) events.Undo ready drives = step_at undone (making_ckpt o.making) (ckpt_there o.making (has_one o.making _ ready.0))
   change_done (drivers.Sync u) (events.Hold r) ready drives = refl
   change_done (drivers.Sync u) (events.Activate r) ready drives = refl
   change_done x step ready drives = absurd ready

@@ -26,8 +26,8 @@ change_alike key k f g (y ∷ xs) x found same = by_test (key y == k) found (cha
 pub unchanged : (nodes : List (List Replica)) (k r : ℕ) (f : Replica → Replica) → replica_in nodes k r ≡ None → with_changed k r f nodes ≡ nodes
 unchanged nodes k r f none = ap (slice_set nodes r) (not_changed replica_key k f (list_or (slice_get nodes r)) none) ∙ list_again nodes r
 
--- what has something of a replica has one
-pub has_one : (o : Option Replica) (P : Replica → Type 0) → IsSomeAnd o P → IsSome o
+-- what has something of it is there
+pub has_one : {X : Type 0} (o : Option X) (P : X → Type 0) → IsSomeAnd o P → IsSome o
 has_one None P there = absurd there
 has_one (Some x) P there = refl
 

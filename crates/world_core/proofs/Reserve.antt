@@ -29,6 +29,7 @@ use Rattle.ckpt_machine.specs.Steps.{changed, ended_details, payload_due, seen_a
 use Rattle.world_core.specs.Happenings.{rooms_at}
 use Rattle.ckpt_machine.specs.Facts.{IsReservable, IsServable}
 use Rattle.world_core.specs.Shows.{Does, HistoryFits, FitsReplica, History, machine_of, shown_replica, where_complete, complete_replica, where_not_complete, shown_reservation, reserved_in}
+use Rattle.ckpt_machine.proofs.OptionLemmas.{IsSomeAnd-at}
 use Rattle.world_core.proofs.Held.{state_in, driver_is, IsCopyBehind, copy_stays}
 use Rattle.world_core.proofs.LiveRooms.{rooms_ended}
 use Rattle.world_core.proofs.HoldingLaws.{opening_there, holds_served}
@@ -128,10 +129,6 @@ none_read : (k : ℕ) (p : Payload) (seen : RecordSeen) (y : Option Replica) →
 none_read k p seen None = refl
 none_read k p seen (Some x) = refl
 
-entry_there : {P : Entry → Type 0} (o : Option Entry) → IsSomeAnd o P → (e : Entry) × (o ≡ Some e) × P e
-entry_there None some = absurd some
-entry_there (Some e) some = (e, refl, some)
-
 -- nothing is pulled
 copy_kept : (k : ℕ) (x : Option Replica) (s : Option copies.Snapshot) → snapshot_behind (Reserve k) x s ≡ s
 copy_kept k None s = refl
@@ -170,7 +167,7 @@ module _ (w : World) (v : Who) (r k : ℕ) (hand : InHand) (p : Payload) (reply 
   reserves : (h : History) → IsKnown w h → Reserves reply new.nodes h
   reserves h known = elim (reserve_answers (is_some (replica_in w.nodes k r)) reply may) [
     | inl done ↦
-        let (e, there, can) = entry_there (entry_of k w.cluster.entries) (finding.ready w h v r (Reserve k) hand known.facts known.fits held next).1 in
+        let (e, there, can) = IsSomeAnd-at (entry_of k w.cluster.entries) _ (finding.ready w h v r (Reserve k) hand known.facts known.fits held next).1 in
         subst (λ (a : Reply). Reserves a (nodes_after w.cluster w.nodes r (Reserve k) p a) h) (sym done)
         (subst (λ (nodes : List (List Replica)). Reserves (Done answers.Nothing) nodes h) (sym (ap (λ (o : Option Entry). slice_set w.nodes r (reserved_for (entry_seen r o) k (list_or (slice_get w.nodes r)))) there)) (taken e there can h known))
     | inr refused ↦
