@@ -28,12 +28,12 @@ use Rattle.ckpt_machine.proofs.AsyncNames.{async_asked}
 use Rattle.ckpt_machine.proofs.BeginRows.{row_of}
 use Rattle.ckpt_machine.proofs.Starting.{live_client, begun_passed, goes_on_driven}
 use Rattle.world_core.specs.declared.world.World.{World}
-use Rattle.world_core.specs.Answering.{IsAnsweredAtOnce}
+use Rattle.world_core.specs.Answering.{IsAnsweredAtOnce, IsNextBegun}
 use Rattle.world_core.specs.LiveRooms.{room_is_taken}
 use Rattle.world_core.specs.Shows.{IsShown, machine_of}
 use Rattle.world_core.specs.TablesState.{standing_in, pending_by}
 use Rattle.client_calls.specs.TableState.{TableState, pending_in, CanBegin}
-use Rattle.world_core.proofs.Begin.{IsNextBegun, is_begun}
+use Rattle.world_core.proofs.Begin.{is_begun}
 use Rattle.world_core.proofs.NewCalls.{new_pending}
 
 -- ---- what goes on is driven

@@ -48,11 +48,7 @@ counts_seen (Some a) (Some s) = refl
 
 none_of_update : (u : Update) → count_told (replies.Done (update_answer u)) ≡ 0
 none_of_update (updates.Create new expiration bytes) = refl
-none_of_update (updates.Delete id) = refl
-none_of_update (updates.SetExpiration id expiration) = refl
-none_of_update (updates.Write elements) = refl
-none_of_update (updates.Overwrite id bytes) = refl
-none_of_update updates.Nothing = refl
+none_of_update u = refl
 
 none_of_commit : (o : Option Slot) → count_told (replies.Done (commit_answer o)) ≡ 0
 none_of_commit None = refl

@@ -68,37 +68,25 @@ step_answers v finish old new label step =
 -- ---- any event
 
 pub does_label : (event : Event) (old new : World) (label : Label) → IsAnswered event old new label → Does old new label
-does_label (happenings.Nodes n) old new label is = is.does
-does_label (happenings.Begin (Client c) op) old new label is = is.does
 does_label (happenings.Begin (Node r) op) old new label is = absurd is
 does_label (happenings.Step who finish) old new label (inl step) = step.does
 does_label (happenings.Step who finish) old new label (inr idle) = idle.does
-does_label (happenings.At t) old new label is = is.does
-does_label (happenings.Show k) old new label is = is.does
-does_label (happenings.Pull k) old new label is = is.does
-does_label (happenings.Put k r) old new label is = is.does
+does_label event old new label is = is.does
 
 answers_label : (event : Event) (old new : World) (label : Label) → IsAnswered event old new label → Answers event old new label
-answers_label (happenings.Nodes n) old new label is = (is.label_is, is.hands)
 answers_label (happenings.Begin (Client c) op) old new label is = begin_does_answer c op old new label is.begins
 answers_label (happenings.Begin (Node r) op) old new label is = absurd is
 answers_label (happenings.Step who finish) old new label (inl step) = step_answers who finish old new label step
 answers_label (happenings.Step who finish) old new label (inr idle) = subst (λ p. AnswersStep who finish p old new label) (sym idle.none) idle.word
-answers_label (happenings.At t) old new label is = (is.label_is, is.hands)
 answers_label (happenings.Show k) old new label is = (is.label_is, ap (λ (w : World). w.hands) is.same)
-answers_label (happenings.Pull k) old new label is = (is.label_is, is.hands)
-answers_label (happenings.Put k r) old new label is = (is.label_is, is.hands)
+answers_label event old new label is = (is.label_is, is.hands)
 
 keeps_others : (event : Event) (old new : World) (label : Label) → IsAnswered event old new label → KeepsOthers event old new
-keeps_others (happenings.Nodes n) old new label is = tt
 keeps_others (happenings.Begin (Client c) op) old new label is = λ d apart. begin_others c op old new label d is.begins apart
 keeps_others (happenings.Begin (Node r) op) old new label is = absurd is
 keeps_others (happenings.Step who finish) old new label (inl step) = step.others
 keeps_others (happenings.Step who finish) old new label (inr idle) = λ d apart. ap (λ hands. hand_at hands (Actor (Client d))) (idle_hands who finish old new label idle.word)
-keeps_others (happenings.At t) old new label is = tt
-keeps_others (happenings.Show k) old new label is = tt
-keeps_others (happenings.Pull k) old new label is = tt
-keeps_others (happenings.Put k r) old new label is = tt
+keeps_others event old new label is = tt
 
 -- ---- by the law of the machine
 
@@ -111,14 +99,9 @@ module _ (runs : EachRunHas) (facts : GivesFacts) (brings : BringsNearer) (few :
       subst (λ p. IfSome p (λ h. left_of new v < left_of old v)) (sym step.held) fewer
 
   pub nearer_with : (event : Event) (log : List Label) (old new : World) (label : Label) → IsRunTo old log → IsAnswered event old new label → ComesNearer event old new
-  nearer_with (happenings.Nodes n) log old new label run is = tt
-  nearer_with (happenings.Begin a op) log old new label run is = tt
   nearer_with (happenings.Step who finish) log old new label run (inl step) = comes_nearer log who old new label run step
   nearer_with (happenings.Step who finish) log old new label run (inr idle) = subst (λ (p : Option InHand). IfSome p (λ h. left_of new who < left_of old who)) (sym idle.none) tt
-  nearer_with (happenings.At t) log old new label run is = tt
-  nearer_with (happenings.Show k) log old new label run is = tt
-  nearer_with (happenings.Pull k) log old new label run is = tt
-  nearer_with (happenings.Put k r) log old new label run is = tt
+  nearer_with event log old new label run is = tt
 
 -- the run goes on by the label that answers the event
 pub run_with : IsLawful → EachRunHas → GivesFacts → (event : Event) (old new : World) (log longer : List Label) (label : Label) → MayHappen old log event → IsAnswered event old new label → longer ≡ log ++ label ∷ [] → IsRunTo new longer

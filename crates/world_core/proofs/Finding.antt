@@ -77,19 +77,14 @@ weak_goes call k (Some marks) = by_left (marks.left == 0)
     by_left false = tt
 
 kind_goes : (call : CallId) (k : ℕ) (kind : ActiveKind) (marks : Option MarksMade) → IsReservationOr (request_by call k kind marks)
-kind_goes call k kinds.Apply marks = tt
 kind_goes call k (kinds.Weak n) marks = weak_goes call k marks
-kind_goes call k kinds.Read marks = tt
-kind_goes call k kinds.Status marks = tt
-kind_goes call k (kinds.Iterate choice) marks = tt
-kind_goes call k kinds.Next marks = tt
+kind_goes call k kind marks = tt
 
 asked_goes : (x : Driver) → OfAsked AsksSo x
 asked_goes (drivers.Update u) = (λ r t. tt, λ r. tt)
 asked_goes (drivers.Active a) = λ r. kind_goes a.call a.ckpt a.kind a.marks
-asked_goes (drivers.Once x) = tt
-asked_goes (drivers.Open o) = tt
 asked_goes (drivers.Sync u) = (λ r. tt, λ r. tt, λ r. tt, λ r. tt)
+asked_goes x = tt
 
 -- ---- the replica that is there
 

@@ -23,14 +23,7 @@ granted_ok R x step r k is granted = subst (IsGrantedAt R x step) is granted
 -- no step by which a client becomes live is on a checkpoint
 pub no_ckpt : (R : RecordState) (x : Driver) → None ≡ event_ckpt R x events.Enter
 no_ckpt R (drivers.Once (once.Enter r)) = refl
-no_ckpt R (drivers.Once once.Leave) = refl
-no_ckpt R (drivers.Once (once.Close k)) = refl
-no_ckpt R (drivers.Once (once.Unlink name)) = refl
-no_ckpt R (drivers.Once (once.Retain k duration)) = refl
-no_ckpt R (drivers.Open o) = refl
-no_ckpt R (drivers.Update u) = refl
-no_ckpt R (drivers.Active a) = refl
-no_ckpt R (drivers.Sync s) = refl
+no_ckpt R x = refl
 
 -- the checkpoint that an open opens is the one that was found
 pub has_found : (call : CallId) (R : RecordState) (x : Driver) (step : RecordStep) (k : Option ℕ) → k ≡ event_ckpt R x step → IdentitiesRise R.entries → IsRecordReady call R x step → HasFound R x step k

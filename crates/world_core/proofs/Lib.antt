@@ -1,7 +1,5 @@
 pub mod Adding
 pub mod AloneSteps
-pub mod AloneLaws
-pub mod AloneLists
 pub mod Begin
 pub mod CallSteps
 pub mod Answered
@@ -12,7 +10,7 @@ pub mod Finding
 pub mod Freeing
 pub mod Going
 pub mod GoingOn
-pub mod HandPlaces
+pub mod HandLaws
 pub mod Held
 pub mod HoldSteps
 pub mod HoldingLaws

@@ -39,8 +39,8 @@ use Rattle.world_core.specs.Settling.{looked, without_making_of}
 use Rattle.world_core.specs.Shows.{IsShown, Does, History, machine_of}
 use Rattle.client_calls.specs.TableState.{TableState}
 use Rattle.world_core.specs.TablesState.{kept_by}
-use Rattle.world_core.specs.Alone.{ended_at, ended_hands, gone_with_look}
-use Rattle.world_core.proofs.AloneSteps.{MayClose, looked_clients, looked_fits, looked_here, looked_record, looked_set, rooms_looked_at}
+use Rattle.world_core.specs.Alone.{ended_at, ended_hands, going_with_look, gone_with}
+use Rattle.world_core.proofs.AloneSteps.{MayGo, gone_clients, gone_fits, gone_here, gone_record, gone_set, rooms_gone}
 use Rattle.world_core.proofs.CallSteps.{pulled_by_client, IsKnown, known, known_by, behind_step, step_before, step_told}
 use Rattle.world_core.proofs.Freeing.{does_before, does_freed, holds_freed}
 use Rattle.world_core.proofs.Going.{unmade_goes}
@@ -55,7 +55,7 @@ use Rattle.client_calls.specs.Names.{client_by}
 use Rattle.ckpt_types.specs.declared.identities.Who.{Who}
 use Rattle.ckpt_types.specs.declared.identities.Who.TheVariants.{Actor}
 use Rattle.world_core.proofs.SnapshotRooms.{unmade_has}
-use Rattle.world_core.proofs.WaitedFor.{may_close}
+use Rattle.world_core.proofs.WaitedFor.{may_look}
 
 -- ---- what a call is making is undone by the look that ends it
 
@@ -95,17 +95,17 @@ module _ (w : World) (v : Who) (o : Outcome) (hand : InHand) (held : hand_at w.h
 
   -- and the synchronisations go with the handle
   abbrev looked_world : Outcome → World
-  looked_world end = gone_with_look end (client_by v) closed (settled end)
+  looked_world end = gone_with (going_with_look end) (client_by v) closed (settled end)
 
   -- a call whose handle is closed is one that its client waits for
-  closes_own : IsShown w → MayClose closed v
-  closes_own shown =
+  closes_own : IsShown w → (end : Outcome) → MayGo (going_with_look end) closed v
+  closes_own shown end =
       let is : IsKnown w shown.shows.history = known w shown in
-      may_close (state_in shown.shows.history v hand) v (kept_by w.tables (client_by v)) (name_is w shown.shows.history v hand held is.facts)
+      may_look (state_in shown.shows.history v hand) v (kept_by w.tables (client_by v)) end (name_is w shown.shows.history v hand held is.facts)
 
   -- so the call is in hand still
   stays_held : IsShown w → (end : Outcome) → hand_at (looked_world end).hands v ≡ Some hand
-  stays_held shown end = looked_here (settled end) (client_by v) end closed v (closes_own shown) ∙ held
+  stays_held shown end = gone_here (settled end) (client_by v) closed (going_with_look end) v (closes_own shown end) ∙ held
 
   -- what the call is making by its own steps is what is in the making by it
   makes : (h : History) → IsKnown w h → making_of hand.call w.cluster ≡ making_in hand.driver
@@ -128,11 +128,11 @@ module _ (w : World) (v : Who) (o : Outcome) (hand : InHand) (held : hand_at w.h
       (λ h is. record {
         done = refl;
         change = look_changes h is none o;
-        fits = let f = is.fits in looked_fits (settled o) (client_by v) o closed h (record { replicas = f.replicas; copies = f.copies; hands = f.hands });
+        fits = let f = is.fits in gone_fits (settled o) (client_by v) closed (going_with_look o) h (record { replicas = f.replicas; copies = f.copies; hands = f.hands });
         count_is = refl;
         copy_is = copy_stays w h v hand held is.fits;
       }))
-      (λ m s f. s.holds) (λ m s f. s.keeps) (λ m s f. rooms_ended (looked_world o) w.cluster v (Some o) (rooms_looked_at (settled o) (client_by v) w.cluster o closed (rooms_looked w w.cluster (client_by v) o hand.op s.rooms)))
+      (λ m s f. s.holds) (λ m s f. s.keeps) (λ m s f. rooms_ended (looked_world o) w.cluster v (Some o) (rooms_gone (settled o) (client_by v) closed w.cluster (going_with_look o) (rooms_looked w w.cluster (client_by v) o hand.op s.rooms)))
 
   -- ---- where it is making a checkpoint
 
@@ -145,7 +145,7 @@ module _ (w : World) (v : Who) (o : Outcome) (hand : InHand) (held : hand_at w.h
     settled_there end = record (settled end) { cluster = R }
 
     abbrev left_world : Outcome → World
-    left_world end = gone_with_look end (client_by v) closed (settled_there end)
+    left_world end = gone_with (going_with_look end) (client_by v) closed (settled_there end)
 
     goes : (h : History) → IsKnown w h → (j q : ℕ) → GoesAt w.cluster.up j (entry_of j w.cluster.entries) (entry_of j R.entries) q (replica_in w.nodes j q)
     goes h is = unmade_goes w h is.facts is.holds k
@@ -164,17 +164,17 @@ module _ (w : World) (v : Who) (o : Outcome) (hand : InHand) (held : hand_at w.h
     late_does : IsShown w → Does w (freed_world late_world) label
     late_does shown =
         does_freed w late_world label
-        (step_before w v hand held (left_world o) (with_effects w) verbs.Look None None (look_word o) (Some o) beside.Nothing 0 hand.snapshot (pulled_by_client v) (End o) next (looked_here (settled_there o) (client_by v) o closed v (closes_own shown) ∙ held) (λ h. refl)
+        (step_before w v hand held (left_world o) (with_effects w) verbs.Look None None (look_word o) (Some o) beside.Nothing 0 hand.snapshot (pulled_by_client v) (End o) next (gone_here (settled_there o) (client_by v) closed (going_with_look o) v (closes_own shown o) ∙ held) (λ h. refl)
         (λ h is. record {
           done = refl;
           change = late_changes h is o (subst IsNoDone next (late_next w.cluster (rooms_at w (client_by v)) hand.driver k making));
-          fits = let f = record_fits w h R (goes h is) refl (none_new h is) is.fits in looked_fits (settled_there o) (client_by v) o closed (with_effects w h) (record { replicas = f.replicas; copies = f.copies; hands = f.hands });
+          fits = let f = record_fits w h R (goes h is) refl (none_new h is) is.fits in gone_fits (settled_there o) (client_by v) closed (going_with_look o) (with_effects w h) (record { replicas = f.replicas; copies = f.copies; hands = f.hands });
           count_is = refl;
           copy_is = let stays = copy_stays w h v hand held is.fits in record { same = refl; room = stays.room; counts = stays.counts };
         }))
         (λ m s f. holds_freed w.cluster R w.nodes refl (goes s.history (known_by w m s f)) s.holds)
         (λ m s f. let is = known_by w m s f in unmade_has w.cluster w.snapshots is.keeps is.facts.rises is.facts.up_to k)
-        (λ m s f. rooms_ended (left_world o) R v (Some o) (rooms_looked_at (settled_there o) (client_by v) R o closed (rooms_looked w R (client_by v) o hand.op (λ d live. s.rooms d live))))
+        (λ m s f. rooms_ended (left_world o) R v (Some o) (rooms_gone (settled_there o) (client_by v) closed R (going_with_look o) (rooms_looked w R (client_by v) o hand.op (λ d live. s.rooms d live))))
 
     -- it is in the making by the call
     own_making : IsShown w → making_undone k w.cluster ≡ undone k w.cluster
@@ -187,16 +187,16 @@ module _ (w : World) (v : Who) (o : Outcome) (hand : InHand) (held : hand_at w.h
 
   -- what the code does before the making is undone
   abbrev ended_world : World
-  ended_world = gone_with_look o (client_by v) closed (record (settled o) { hands = set_at w.hands v None })
+  ended_world = gone_with (going_with_look o) (client_by v) closed (record (settled o) { hands = set_at w.hands v None })
 
   ended_is : IsShown w → ended_world ≡ record (looked_world o) { hands = set_at (looked_world o).hands v None }
-  ended_is shown = looked_set (settled o) (client_by v) o closed v None (closes_own shown)
+  ended_is shown = gone_set (settled o) (client_by v) closed (going_with_look o) v None (closes_own shown o)
 
   look_ends : (making : Option ℕ) → making_in hand.driver ≡ making → IsShown w → Does w (ended_at v (Some o) (without_making_of making ended_world)) label
   look_ends None none shown = subst (λ (x : World). Does w (ended_at v (Some o) x) label) (sym (ended_is shown)) (look_does none shown)
   look_ends (Some k) making shown =
       subst (λ (x : World). Does w (ended_at v (Some o) (freed_world x)) label)
-      (sym ((λ i. record (ended_is shown i) { cluster = swept (own_making k making shown i) }) ∙ ap (λ (x : World). record x { hands = set_at x.hands v None }) (looked_record (settled o) (client_by v) (R k making) o closed))) (late_does k making shown)
+      (sym ((λ i. record (ended_is shown i) { cluster = swept (own_making k making shown i) }) ∙ ap (λ (x : World). record x { hands = set_at x.hands v None }) (gone_record (settled o) (client_by v) closed (R k making) (going_with_look o)))) (late_does k making shown)
 
   -- the calls in hand are as they were where a making is undone
   unmade_hands : (making : Option ℕ) (x : World) → (without_making_of making x).hands ≡ x.hands
@@ -213,10 +213,10 @@ module _ (w : World) (v : Who) (o : Outcome) (hand : InHand) (held : hand_at w.h
       let new = ended_at v (Some o) (without_making_of making ended_world) in
       step_told v w new hand hand (word_of_op hand.op) verbs.Look None None (look_word o) (Some o) beside.Nothing held refl refl
       (under_own (looked_world o).hands new.hands v None (under making shown))
-      (λ d other. under_other (looked_world o).hands new.hands v None (under making shown) (Actor (Client d)) other ∙ looked_clients (settled o) (client_by v) o closed d)
+      (λ d other. under_other (looked_world o).hands new.hands v None (under making shown) (Actor (Client d)) other ∙ gone_clients (settled o) (client_by v) closed (going_with_look o) d)
       (look_ends making making_is shown)
 
   -- the call ends by a look at the record, and what it is making is undone, with the parts as the code names them
   pub look_is : (new : World) (making : Option ℕ) (tables : List TableState) (c : ℕ) (closed_as : Option ℕ) (op : OpWord) (reply : StepReply) → IsShown w → making ≡ making_in hand.driver → c ≡ client_by v → closed_as ≡ handle_closed (asked hand.op) (kept_by w.tables c) → tables ≡ looked o c hand.op w.tables → op ≡ word_of_op hand.op → reply ≡ look_word o →
-      new ≡ ended_at v (Some o) (without_making_of making (gone_with_look o c closed_as (record w { tables = tables; hands = set_at w.hands v None }))) → IsStep v w new (Stepped hand.call op verbs.Look None None reply (Some o) beside.Nothing)
+      new ≡ ended_at v (Some o) (without_making_of making (gone_with (going_with_look o) c closed_as (record w { tables = tables; hands = set_at w.hands v None }))) → IsStep v w new (Stepped hand.call op verbs.Look None None reply (Some o) beside.Nothing)
   look_is new making tables c closed_as op reply shown making_is c_is closed_is tables_are op_is reply_is new_is = rw (new_is, closed_is, tables_are, c_is, op_is, reply_is) (look_told making (sym making_is) shown)

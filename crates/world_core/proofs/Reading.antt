@@ -30,27 +30,21 @@ use Rattle.node_core.specs.Nodes.{replica_key, replica_served}
 use Rattle.node_core.specs.Payloads.{Payload}
 use Rattle.node_core.specs.Seen.{record_seen}
 use Rattle.node_core.specs.Serving.{details_at, done_or_refused, read_details, reply_at}
-use Rattle.ckpt_machine.specs.Driving.{driver_next}
-use Rattle.ckpt_machine.specs.Machine.{CallState}
 use Rattle.ckpt_machine.specs.Steps.{ended_details}
 use Rattle.snap_copy.specs.Snapshots.{Snapshot}
 use Rattle.client_calls.specs.declared.in_hand.InHand.{InHand}
 use Rattle.world_core.specs.declared.world.World.{World}
 use Rattle.world_core.specs.Alone.{ended_at}
 use Rattle.world_core.specs.HandsState.{hand_at, set_at}
-use Rattle.client_calls.specs.Names.{client_by}
 use Rattle.client_calls.specs.HandSteps.{hand_end, hand_taken}
-use Rattle.world_core.specs.Happenings.{IsNext, IsStep, rooms_at}
+use Rattle.world_core.specs.Happenings.{IsNext, IsStep}
 use Rattle.world_core.specs.Nodes.{node_at, nodes_after, replica_in, with_changed}
 use Rattle.client_calls.specs.ReadTold.{read_told}
-use Rattle.world_core.specs.Shows.{IsShown, History}
-use Rattle.world_core.proofs.AloneSteps.{IsWaitedFor}
-use Rattle.world_core.proofs.CallSteps.{IsKnown, known}
-use Rattle.world_core.proofs.Held.{driver_is, in_hand_is, next_for, state_in, with_copy}
+use Rattle.world_core.specs.Shows.{IsShown}
+use Rattle.world_core.proofs.Held.{with_copy}
 use Rattle.world_core.proofs.Serve.{its_copy, its_details, its_end, served_world}
 use Rattle.world_core.proofs.Staging.{copy_kept}
 use Rattle.world_core.proofs.Stepping.{answered_is, its_nodes, its_replica, its_served, its_there}
-use Rattle.world_core.proofs.WaitedFor.{ended_waited, read_waits}
 
 -- ---- nothing changes on the nodes
 
@@ -89,15 +83,6 @@ module _ (w : World) (v : Who) (r k : ℕ) (hand : InHand) (held : hand_at w.han
   pub reads_there : IsSome (replica_in w.nodes k r)
   reads_there = subst (λ (o : Option Replica). IsSome o) (sym (its_there w v r asks hand held next shown tt)) refl
 
-  -- its client waits for the call
-  waits : IsWaitedFor v
-  waits =
-      let h : History = shown.shows.history in
-      let is : IsKnown w h = known w shown in
-      let s : CallState = state_in h v hand in
-      read_waits s v w.cluster (rooms_at w (client_by v)) r k (ap (driver_next w.cluster (rooms_at w (client_by v))) (sym (driver_is w h v hand held is.fits)) ∙ next_for w v (Serve r asks) hand held next)
-      (is.facts.driven v s (in_hand_is w h v hand held)) (is.facts.callers v s (in_hand_is w h v hand held))
-
   -- the replica has answered so
   module _ (elements : List ReadElement) (elements_are : elements ≡ elements_of hand.op) (t : ℤ) (t_is : t ≡ w.cluster.moment) (reply : Reply) (buffer : Buffer) (answer : IfSome (replica_in w.nodes k r) (λ x. reply ≡ done_or_refused (replies.Done answers.Pieces) (read elements t x.sections)))
       (pieces : IfSome (replica_in w.nodes k r) (λ x. IfOk (read elements t x.sections) (λ pieces. buffer.pieces ≡ pieces))) where
@@ -127,15 +112,14 @@ module _ (w : World) (v : Who) (r k : ℕ) (hand : InHand) (held : hand_at w.han
     nodes_are = sym (nodes_stay k r w.nodes) ∙ its_nodes w v r asks hand held next shown tt p reply
 
     pub read_is : (taken : InHand) (place : Option InHand) (end : Option Outcome) (word : OpWord) (details : Details) → taken ≡ hand_taken (served_done w.cluster asks r reply) hand → end ≡ hand_end (served_done w.cluster asks r reply) reply taken → place ≡ left end taken → word ≡ word_of_op hand.op →
-        details ≡ ended_details end (read_told reply buffer) → IsStep v w (record w { hands = set_at w.hands v place }) (Stepped hand.call word (verb_of asks) (Some k) (Some r) (word_of reply) end details)
+        details ≡ ended_details end (read_told reply buffer) → IsStep v w (ended_at v end (record w { hands = set_at w.hands v place })) (Stepped hand.call word (verb_of asks) (Some k) (Some r) (word_of reply) end details)
     read_is taken place end word details taken_is end_is place_is word_is details_are =
         let done : StepDone = served_done w.cluster asks r reply in
         let ends : end ≡ its_end w v r asks hand p reply = end_is ∙ ap (hand_end done reply) taken_is in
         let copy : its_copy w v r asks hand p reply ≡ hand.snapshot = copy_kept asks (λ x s. refl) (replica_served (record_seen w.cluster k r) (node_at w.nodes r) k) hand.snapshot in
         let left_is : place ≡ left (its_end w v r asks hand p reply) (hand_taken done (with_copy hand (its_copy w v r asks hand p reply)))
         = place_is ∙ (λ i. left (ends i) (taken_is i)) ∙ ap (λ (s : Option Snapshot). left (its_end w v r asks hand p reply) (hand_taken done (with_copy hand s))) (sym copy) in
-        let new_is : record w { hands = set_at w.hands v place } ≡ served_world w v r asks hand p reply
-        = sym (ended_waited v end (record w { hands = set_at w.hands v place }) waits) ∙ (λ i. ended_at v (ends i) (record w { nodes = nodes_are i; hands = set_at w.hands v (left_is i) })) in
+        let new_is : ended_at v end (record w { hands = set_at w.hands v place }) ≡ served_world w v r asks hand p reply = λ i. ended_at v (ends i) (record w { nodes = nodes_are i; hands = set_at w.hands v (left_is i) }) in
         let told_is : details ≡ ended_details (its_end w v r asks hand p reply) (its_details w v r asks hand p reply) = details_are ∙ (λ i. ended_details (ends i) (told i)) in
         subst (λ (z : World × OpWord × Option Outcome × Details). IsStep v w z.0 (Stepped hand.call z.1 (verb_of asks) (Some k) (Some r) (word_of reply) z.2 z.3)) (λ i. (sym new_is i, sym word_is i, sym ends i, sym told_is i))
         (answered_is w v r asks hand held next shown tt p reply elements_are answered tt)

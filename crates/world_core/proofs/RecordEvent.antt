@@ -49,8 +49,8 @@ use Rattle.world_core.specs.Settling.{settled, CanSettle, CanGive}
 use Rattle.world_core.specs.Shows.{Does, IsShown, History, HistoryFits, machine_of, tables_of, HasNumbersLeft}
 use Rattle.world_core.specs.TablesState.{kept_by, at_client}
 use Rattle.client_calls.specs.TableState.{TableState, with_client}
-use Rattle.world_core.specs.Alone.{calls_gone, ended_at, gone_with, syncs_gone}
-use Rattle.world_core.proofs.AloneSteps.{MayGoWith, all_gone, gone_fits, gone_here, rooms_gone, syncs_are, gone_clients, gone_set}
+use Rattle.world_core.specs.Alone.{calls_gone, ended_at, going_with, gone_with, syncs_gone}
+use Rattle.world_core.proofs.AloneSteps.{MayGo, all_gone, gone_fits, gone_here, rooms_gone, syncs_are, gone_clients, gone_set}
 use Rattle.world_core.proofs.WaitedFor.{may_go_with}
 use Rattle.world_core.proofs.CallSteps.{pulled_by_client, event_counts, event_pulls, IsKnown, known, known_by, behind_step, IsShownBehind, step_before, step_told, step_under}
 use Rattle.world_core.proofs.Freeing.{does_before, does_freed}
@@ -202,7 +202,7 @@ module _ (w : World) (h : History) (c : ℕ) (s : CallState) (actor : s.call.act
       ∙ all_gone (record w { tables = at_client c (with_client emptied) w.tables }) h c
 
   settles : (step : RecordStep) (k : Option ℕ) → IsPlain step → CanSettle c s.op step w.tables →
-      besides s step k (machine_of w h) ≡ machine_of (gone_with step c handle (record w { tables = settled w.cluster c s.op step k w.tables })) h
+      besides s step k (machine_of w h) ≡ machine_of (gone_with (going_with step) c handle (record w { tables = settled w.cluster c s.op step k w.tables })) h
   settles events.Enter k plain can = table_changes (registering (asked s.op)) (has_table can _)
   settles events.Open (Some k) plain can = table_changes (handle_given (asked s.op) k (creation_flags_of (entry_of k w.cluster.entries))) (has_table can.roomy _)
   settles events.Finish (Some k) plain can = table_changes (handle_given (asked s.op) k (creation_flags_of (entry_of k w.cluster.entries))) (has_table can.roomy _)
@@ -230,7 +230,7 @@ settled_alone w v hand step = let R = record_after w hand step in record w { clu
 
 -- and without the asynchronous calls that go with it
 abbrev pub settled_world : World → Who → InHand → RecordStep → World
-settled_world w v hand step = gone_with step (client_by v) (closed_in w v hand) (settled_alone w v hand step)
+settled_world w v hand step = gone_with (going_with step) (client_by v) (closed_in w v hand) (settled_alone w v hand step)
 
 module _ (w : World) (v : Who) (step : RecordStep) (hand : InHand) (held : hand_at w.hands v ≡ Some hand) (next : driver_next w.cluster (rooms_at w (client_by v)) hand.driver ≡ Event step) where
   abbrev verb : Verb
@@ -334,7 +334,7 @@ module _ (w : World) (v : Who) (step : RecordStep) (hand : InHand) (held : hand_
     shown_done eight granted plain can = record {
       done = told_so words.Ok end (plain_answer words.Ok end plain (subst (λ o. IsRecordAnswer o step (parts words.Ok end)) (sym granted) (inl (refl, refl))));
       change = done_beside eight granted ∙ settles recorded (with_effects w h) (client_by v) s (actor_is w h v hand held is.facts) step k plain can;
-      fits = let f = fits_recorded eight granted in gone_fits (settled_alone w v hand step) (client_by v) (closed_in w v hand) step (with_effects w h) (record { replicas = f.replicas; copies = f.copies; hands = f.hands });
+      fits = let f = fits_recorded eight granted in gone_fits (settled_alone w v hand step) (client_by v) (closed_in w v hand) (going_with step) (with_effects w h) (record { replicas = f.replicas; copies = f.copies; hands = f.hands });
       count_is = event_counts m step k r words.Ok;
       copy_is = let copy = copy_stays w h v hand held is.fits in record { same = event_pulls m s step k r words.Ok plain; room = copy.room; counts = copy.counts };
     }
@@ -368,11 +368,11 @@ module _ (w : World) (v : Who) (step : RecordStep) (hand : InHand) (held : hand_
       (λ m s f. s.holds) (λ m s f. s.keeps) (λ m s f. rooms_ended w w.cluster v (Some end) s.rooms)
 
   -- the call is one that its client waits for, where others go with its step
-  pub goes_own : IsShown w → MayGoWith step v
+  pub goes_own : IsShown w → MayGo (going_with step) (closed_in w v hand) v
   goes_own shown =
       let h : History = shown.shows.history in
       let is : IsKnown w h = known w shown in
-      may_go_with (machine_of w h) (state_in h v hand) hand.driver step v (event_asks h is) (driver h is) (is.facts.driven v (state_in h v hand) (in_hand_is w h v hand held)) (name_is w h v hand held is.facts)
+      may_go_with (machine_of w h) (state_in h v hand) hand.driver step v (kept_by w.tables (client_by v)) (event_asks h is) (driver h is) (is.facts.driven v (state_in h v hand) (in_hand_is w h v hand held)) (name_is w h v hand held is.facts)
 
   -- what a due step asks
   pub event_ready : (shown : IsShown w) → let h = shown.shows.history in IsEventReady (machine_of w h) (state_in h v hand) hand.driver step
@@ -400,8 +400,8 @@ module _ (w : World) (v : Who) (step : RecordStep) (hand : InHand) (held : hand_
   pub event_does : IsShown w → length w.nodes ≡ 8 → event_refusal w.cluster step hand.driver ≡ None → IsPlain step → CanSettle (client_by v) hand.op step w.tables → (step ≡ events.Enter → room_is_taken (slice_get w.tables (client_by v)) ≡ true) → Does w (freed_world done_world) (told words.Ok end)
   event_does shown eight granted plain can roomy =
       let behind = settled_world w v hand step in
-      done_does behind.hands behind.tables hand.snapshot (pulled_by_client v) eight granted (gone_here (settled_alone w v hand step) (client_by v) (closed_in w v hand) step v (goes_own shown) ∙ held) (λ h is. shown_done h is eight granted plain can)
-      (λ rooms. rooms_gone (settled_alone w v hand step) (client_by v) (closed_in w v hand) R step (rooms_settled w R (client_by v) R hand.op step k (rooms_after hand.call hand.driver step w.cluster w.tables (enters shown roomy) rooms)))
+      done_does behind.hands behind.tables hand.snapshot (pulled_by_client v) eight granted (gone_here (settled_alone w v hand step) (client_by v) (closed_in w v hand) (going_with step) v (goes_own shown) ∙ held) (λ h is. shown_done h is eight granted plain can)
+      (λ rooms. rooms_gone (settled_alone w v hand step) (client_by v) (closed_in w v hand) R (going_with step) (rooms_settled w R (client_by v) R hand.op step k (rooms_after hand.call hand.driver step w.cluster w.tables (enters shown roomy) rooms)))
 
   -- it is refused, and the call ends
   pub refused_does : (reply : StepReply) (end : Outcome) → IsPlain step → IsRefusedWith (event_refusal w.cluster step hand.driver) step reply end → Does w (ended_at v (Some end) (record w { hands = set_at w.hands v None })) (told reply (Some end))
@@ -461,12 +461,12 @@ module _ (w : World) (v : Who) (step : RecordStep) (hand : InHand) (held : hand_
     -- ---- what it makes of the world, with the parts as the code names them
 
     -- where asynchronous calls go with the step, the place of its own is set all the same
-    goes_apart : (place : Option InHand) → gone_with step (client_by v) (closed_in w v hand) (record (settled_alone w v hand step) { hands = set_at w.hands v place }) ≡ record (settled_world w v hand step) { hands = set_at (settled_world w v hand step).hands v place }
-    goes_apart place = gone_set (settled_alone w v hand step) (client_by v) (closed_in w v hand) step v place (goes_own shown)
+    goes_apart : (place : Option InHand) → gone_with (going_with step) (client_by v) (closed_in w v hand) (record (settled_alone w v hand step) { hands = set_at w.hands v place }) ≡ record (settled_world w v hand step) { hands = set_at (settled_world w v hand step).hands v place }
+    goes_apart place = gone_set (settled_alone w v hand step) (client_by v) (closed_in w v hand) (going_with step) v place (goes_own shown)
 
     -- the call is in hand till then
     stays_held : hand_at (settled_world w v hand step).hands v ≡ Some hand
-    stays_held = gone_here (settled_alone w v hand step) (client_by v) (closed_in w v hand) step v (goes_own shown) ∙ held
+    stays_held = gone_here (settled_alone w v hand step) (client_by v) (closed_in w v hand) (going_with step) v (goes_own shown) ∙ held
 
     -- ---- the step that is done
 
@@ -490,14 +490,14 @@ module _ (w : World) (v : Who) (step : RecordStep) (hand : InHand) (held : hand_
         let under : HasUnder G v (left its_end its_taken) its_world.hands = hand_left G v hand its_taken its_end stays_held refl in
         step_told v w its_world hand its_taken (word_of_op hand.op) verb k r words.Ok end beside.Nothing held refl refl
         (under_own G its_world.hands v (left its_end its_taken) under)
-        (λ d other. under_other G its_world.hands v (left its_end its_taken) under (Actor (Client d)) other ∙ gone_clients (settled_alone w v hand step) (client_by v) (closed_in w v hand) step d)
+        (λ d other. under_other G its_world.hands v (left its_end its_taken) under (Actor (Client d)) other ∙ gone_clients (settled_alone w v hand step) (client_by v) (closed_in w v hand) (going_with step) d)
         (event_does shown eight granted plain (can_settle granted roomy has_room) has_room)
 
     -- it is done, and the nodes are freed of what is gone
     pub event_step : (new : World) (R : RecordState) (nodes : List (List Replica)) (backgrounds : List Background) (tables : List TableState) (taken : InHand) (place : Option InHand) (c : ℕ) (closed : Option ℕ) (word : OpWord) (verb : Verb) (k r : Option ℕ) (end : Option Outcome) → event_refusal w.cluster step hand.driver ≡ None → IsPlain step → HasNumbersLeft w →
         (step ≡ events.Enter → room_is_taken (slice_get w.tables (client_by v)) ≡ true) → length w.nodes ≡ 8 → R ≡ event_after hand.call hand.driver step w.cluster → k ≡ event_ckpt w.cluster hand.driver step → r ≡ event_node hand.driver step → end ≡ event_end step k → tables ≡ settled R c hand.op step k w.tables →
         taken ≡ hand_taken (done_of R (event_verb step) k r words.Ok) hand → place ≡ left end taken → nodes ≡ nodes_behind hand.driver step w.cluster w.nodes → backgrounds ≡ snapshots_behind hand.driver step w.cluster w.snapshots → c ≡ client_by v → closed ≡ handle_closed (asked hand.op) (kept_by w.tables c) →
-        new ≡ ended_at v end (freed_world (gone_with step c closed (record w { cluster = R; nodes = nodes; snapshots = backgrounds; tables = tables; hands = set_at w.hands v place }))) → word ≡ word_of_op hand.op → verb ≡ event_verb step →
+        new ≡ ended_at v end (freed_world (gone_with (going_with step) c closed (record w { cluster = R; nodes = nodes; snapshots = backgrounds; tables = tables; hands = set_at w.hands v place }))) → word ≡ word_of_op hand.op → verb ≡ event_verb step →
         IsStep v w new (Stepped hand.call word verb k r words.Ok end beside.Nothing)
     event_step new R nodes backgrounds tables taken place c closed word verb k r end granted plain roomy has_room eight R_is k_is r_is end_is tables_are taken_is place_is nodes_are backgrounds_are c_is closed_is new_is word_is verb_is =
         rw (new_is, closed_is, place_is, taken_is, tables_are, nodes_are, backgrounds_are, end_is, R_is, k_is, r_is, c_is, word_is, verb_is)

@@ -57,10 +57,6 @@ use Rattle.world_core.proofs.TableSteps.{kept_is, lending_is, keeping_is}
 -- the iteration and the snapshot that travel beside are told by no label
 pub told_still : (reply : Reply) (lent : Lent) (it : Option KeptIds) (copy : Option Snapshot) → details_told reply (record lent { iteration = it; snap = copy }) ≡ details_told reply lent
 told_still (replies.Done answers.Pieces) lent it copy = refl
-told_still (replies.Done answers.Created) lent it copy = refl
-told_still (replies.Done answers.Status) lent it copy = refl
-told_still (replies.Done answers.Section) lent it copy = refl
-told_still (replies.Done answer) lent it copy = refl
 told_still reply lent it copy = refl
 
 -- a node has served a request in this world, with what was lent and came back

@@ -82,11 +82,7 @@ tells_none : (u : Update) (sections : List Section) (slot : Slot) → slot.updat
 tells_none u sections slot own is = by_update slot.update (ap is_creation own ∙ is) where
   by_update : (v : Update) → is_creation v ≡ false → (commit_answer (Some (record slot { update = v })) ≡ answers.Nothing) × (slot_id sections (Some (record slot { update = v })) ≡ beside.Nothing)
   by_update (updates.Create new expiration bytes) is = absurd (cc is)
-  by_update (updates.Delete id) is = (refl, refl)
-  by_update (updates.SetExpiration id expiration) is = (refl, refl)
-  by_update (updates.Write elements) is = (refl, refl)
-  by_update (updates.Overwrite id bytes) is = (refl, refl)
-  by_update updates.Nothing is = (refl, refl)
+  by_update v is = (refl, refl)
 
 by_slot : (u : Update) (sections : List Section) (o : Option Slot) → IsSomeAnd o (λ slot. slot.update ≡ u) → is_creation u ≡ false → (commit_answer o ≡ answers.Nothing) × (slot_id sections o ≡ beside.Nothing)
 by_slot u sections None own is = absurd own

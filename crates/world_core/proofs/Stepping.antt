@@ -84,10 +84,7 @@ has_own_place request w v r x next = tt
 -- a call to the active ends where its iteration has started
 active_ends : (op : Op) (d : StepDone) (answer : Answer) (x : Driver) → d.verb ≡ verbs.Iter → IsActive x → IsSome (driver_end op d (replies.Done answer) (driver_taken d x))
 active_ends op d answer (drivers.Active a) iterates is = subst (λ verb. IsSome (active_end answer verb)) (sym iterates) refl
-active_ends op d answer (drivers.Once x) iterates is = absurd is
-active_ends op d answer (drivers.Open o) iterates is = absurd is
-active_ends op d answer (drivers.Update u) iterates is = absurd is
-active_ends op d answer (drivers.Sync u) iterates is = absurd is
+active_ends op d answer x iterates is = absurd is
 
 -- so one that starts an iteration has ended
 ends_by : (request : Request) (w : World) (h : History) (v : Who) (r : ℕ) (hand : InHand) (p : Payload) (reply : Reply) (known_is : IsKnown w h) (held : hand_at w.hands v ≡ Some hand) → driver_next w.cluster (rooms_at w (client_by v)) hand.driver ≡ Serve r request → MayReply (record_seen w.cluster (ckpt_of request) r) (node_at w.nodes r) request p reply → EndsIts request (its_end w v r request hand p reply)

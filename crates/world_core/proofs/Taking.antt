@@ -64,13 +64,7 @@ module _ (op : Op) (d : StepDone) where
       by_verb verbs.Commit = by_phase u.phase (last_having 0 d.complete u.owned)
       by_verb verb = refl
   update_told_so (replies.Held by) u = refused_told op d.live by
-  update_told_so (replies.Claimed count) u = refl
-  update_told_so (replies.Free count) u = refl
-  update_told_so (replies.Refused error index) u = refl
-  update_told_so replies.NoReplica u = refl
-  update_told_so (replies.Older generation count) u = refl
-  update_told_so (replies.Stale old present) u = refl
-  update_told_so replies.NoMemory u = refl
+  update_told_so reply u = refl
 
   active_told_so : (reply : Reply) (a : ActiveState) → option_map (index_told op) (active_ended d reply) ≡ driver_end op d reply (drivers.Active a)
   active_told_so (replies.Done answer) a = by_verb d.verb
@@ -80,24 +74,11 @@ module _ (op : Op) (d : StepDone) where
       by_verb verbs.Element = refl
       by_verb verb = refl
   active_told_so (replies.Held by) a = refused_told op d.live by
-  active_told_so (replies.Claimed count) a = refl
-  active_told_so (replies.Free count) a = refl
-  active_told_so (replies.Refused error index) a = refl
-  active_told_so replies.NoReplica a = refl
-  active_told_so (replies.Older generation count) a = refl
-  active_told_so (replies.Stale old present) a = refl
-  active_told_so replies.NoMemory a = refl
+  active_told_so reply a = refl
 
   open_told_so : (reply : Reply) (o : OpenState) → option_map (index_told op) (refused_end d.live reply) ≡ driver_end op d reply (drivers.Open o)
-  open_told_so (replies.Done answer) o = refl
   open_told_so (replies.Held by) o = refused_told op d.live by
-  open_told_so (replies.Claimed count) o = refl
-  open_told_so (replies.Free count) o = refl
-  open_told_so (replies.Refused error index) o = refl
-  open_told_so replies.NoReplica o = refl
-  open_told_so (replies.Older generation count) o = refl
-  open_told_so (replies.Stale old present) o = refl
-  open_told_so replies.NoMemory o = refl
+  open_told_so reply o = refl
 
   sync_ended_so : (s : SyncState) → option_map (index_told op) (sync_ended d.complete s.served s.pulled) ≡ sync_ended d.complete s.served s.pulled
   sync_ended_so s = by_pulled s.pulled
@@ -113,13 +94,8 @@ module _ (op : Op) (d : StepDone) where
   sync_told_so : (reply : Reply) (s : SyncState) → option_map (index_told op) (sync_end d reply s) ≡ driver_end op d reply (drivers.Sync s)
   sync_told_so (replies.Done answer) s = sync_ended_so s
   sync_told_so (replies.Held by) s = refused_told op d.live by
-  sync_told_so (replies.Claimed count) s = refl
-  sync_told_so (replies.Free count) s = refl
-  sync_told_so (replies.Refused error index) s = refl
-  sync_told_so replies.NoReplica s = refl
   sync_told_so (replies.Older generation count) s = sync_ended_so s
-  sync_told_so (replies.Stale old present) s = refl
-  sync_told_so replies.NoMemory s = refl
+  sync_told_so reply s = refl
 
 -- ---- some ask no node
 

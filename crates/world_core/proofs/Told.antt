@@ -4,7 +4,6 @@ use Rattle.std.specs.Prelude.{Option, Some, None}
 use Rattle.ckpt_types.specs.declared.answers.Outcome.{Outcome}
 use Rattle.ckpt_types.specs.declared.identities.ActorName.{ActorName}
 use Rattle.ckpt_types.specs.declared.identities.ActorName.TheVariants.{Client}
-use Rattle.ckpt_types.specs.declared.identities.CallId.{CallId}
 use Rattle.ckpt_types.specs.declared.identities.Who.TheVariants.{Actor, Call}
 use Rattle.ckpt_types.specs.OpWord.{is_async, word_of_op}
 use Rattle.call_dispatch.specs.PendingCalls.{PendingCalls, ended_in}
@@ -14,9 +13,10 @@ use Rattle.world_core.specs.declared.world.World.{World}
 use Rattle.cluster_record.specs.Calls.{client_of, put_actor, left}
 use Rattle.cluster_record.specs.StepDone.{StepDone}
 use Rattle.snap_copy.specs.Snapshots as copies
-use Rattle.ckpt_machine.specs.Machine.{Machine, CallState, Effect, Snapshot}
+use Rattle.ckpt_machine.specs.Machine.{Machine, CallState, Effect, Snapshot, who}
 use Rattle.ckpt_machine.specs.Steps.{ended_calls, handle_opened, left_in_hand, stepped, with_pending}
 use Rattle.ckpt_machine.specs.Whose.{put_who}
+use Rattle.ckpt_machine.proofs.AsyncNames.{async_named}
 use Rattle.ckpt_machine.proofs.ByActor.{put_actor-same}
 use Rattle.world_core.specs.Alone.{ended_at, ended_hands, ended_tables}
 use Rattle.client_calls.specs.TableEnds.{table_ended}
@@ -29,11 +29,11 @@ use Rattle.world_core.proofs.Held.{state_in, with_copy, IsCopyBehind, left_shown
 use Rattle.world_core.specs.HandsState.{HandsState, hand_at, set_at}
 use Rattle.client_calls.specs.Names.{client_by, name_of}
 use Rattle.ckpt_types.specs.declared.identities.Who.{Who}
-use Rattle.world_core.proofs.Maps.{HasUnder, hand_left, with_steps, put_hand, fits_hand}
+use Rattle.world_core.proofs.Maps.{HasUnder, hand_left, told_as, put_hand, fits_hand}
 
 -- the history with one step more of the call of a name, with what its commits have created then, and with the effects that it has pulled
 abbrev pub with_step : History → Who → StepDone → Option (List ℕ) → Option (List Effect) → History
-with_step h v done made pulled = with_steps h v (done ∷ h.steps v) made pulled
+with_step h v done made pulled = told_as h v (h.beginnings v) (done ∷ h.steps v) made pulled
 
 -- the world in which the call of a name is told of a step, which left this copy in its hand; where it has ended an asynchronous call, its client is to be told
 abbrev pub told_world : World → Who → InHand → Option copies.Snapshot → StepDone → Option Outcome → World
@@ -41,19 +41,12 @@ told_world w v hand copy done end = ended_at v end (record w { hands = set_at w.
 
 -- ---- what is told of an end
 
--- a call that is no asynchronous one is in hand under its actor's name
-plain_named : (hand : InHand) (a : ActorName) → name_of hand ≡ Actor a → is_async (word_of_op hand.op) ≡ false
-plain_named hand a name = by_word (is_async (word_of_op hand.op)) name where
-  by_word : (b : Bool) → cond b (Call hand.call) (Actor hand.call.actor) ≡ Actor a → b ≡ false
+-- a call that is in hand under its actor's name is no asynchronous one
+plain_named : (s : CallState) (a : ActorName) → who s ≡ Actor a → is_async (word_of_op s.op) ≡ false
+plain_named s a name = by_word (is_async (word_of_op s.op)) name where
+  by_word : (b : Bool) → cond b (Call s.call) (Actor s.call.actor) ≡ Actor a → b ≡ false
   by_word false name = refl
   by_word true name = absurd (cc name)
-
--- and an asynchronous one under its own
-async_named : (hand : InHand) (call : CallId) → name_of hand ≡ Call call → (is_async (word_of_op hand.op) ≡ true) × (hand.call ≡ call)
-async_named hand call name = by_word (is_async (word_of_op hand.op)) name where
-  by_word : (b : Bool) → cond b (Call hand.call) (Actor hand.call.actor) ≡ Call call → (b ≡ true) × (hand.call ≡ call)
-  by_word true name = (refl, let same : hand.call ≡ call = cc name in same)
-  by_word false name = absurd (cc name)
 
 -- a call that goes on, or is no asynchronous one, leaves those of its client as they are
 plain_calls : (s : CallState) (end : Option Outcome) (t : ClientState) (p : PendingCalls) → is_async (word_of_op s.op) ≡ false → ended_calls s end t p ≡ p
@@ -64,21 +57,20 @@ same_calls : (m : Machine) (a : ActorName) (x : PendingCalls) → x ≡ m.pendin
 same_calls m a x same = λ i. record m { pending = λ b. put_actor-same m.pending a x same b i }
 
 -- what the machine makes of an end is what the world does
-module _ (w : World) (h : History) (hand : InHand) (s : CallState) (call_is : s.call ≡ hand.call) (op_is : s.op ≡ hand.op) where
+module _ (w : World) (h : History) (s : CallState) where
   abbrev its : Machine
   its = machine_of w h
 
-  pub ended_is : (v : Who) (end : Option Outcome) → name_of hand ≡ v → hand.call.actor ≡ Client (client_by v) → with_pending s.call.actor (ended_calls s end (its.tables s.call.actor)) its ≡ machine_of (record w { tables = ended_tables v end w.tables }) h
-  ended_is (Actor a) end name actor = same_calls its s.call.actor (ended_calls s end (its.tables s.call.actor) (its.pending s.call.actor)) (plain_calls s end (its.tables s.call.actor) (its.pending s.call.actor) (ap (λ o. is_async (word_of_op o)) op_is ∙ plain_named hand a name))
+  pub ended_is : (v : Who) (end : Option Outcome) → who s ≡ v → s.call.actor ≡ Client (client_by v) → with_pending s.call.actor (ended_calls s end (its.tables s.call.actor)) its ≡ machine_of (record w { tables = ended_tables v end w.tables }) h
+  ended_is (Actor a) end name actor = same_calls its s.call.actor (ended_calls s end (its.tables s.call.actor) (its.pending s.call.actor)) (plain_calls s end (its.tables s.call.actor) (its.pending s.call.actor) (plain_named s a name))
   ended_is (Call call) None name actor = same_calls its s.call.actor (its.pending s.call.actor) refl
   ended_is (Call call) (Some end) name actor =
-      let (async, same) = async_named hand call name in
+      let (async, same) = async_named s call name in
       let c = client_of call in
-      let is_client : s.call.actor ≡ Client c = ap (λ (z : CallId). z.actor) call_is ∙ actor in
       let gone : ended_calls s (Some end) (its.tables s.call.actor) (its.pending s.call.actor) ≡ ended_in call (handle_opened end (kept_by w.tables c)) end (pending_by w.tables c)
-      = ap (λ b. cond b (ended_in s.call (handle_opened end (its.tables s.call.actor)) end (its.pending s.call.actor)) (its.pending s.call.actor)) (ap (λ o. is_async (word_of_op o)) op_is ∙ async)
-      ∙ (λ i. ended_in ((call_is ∙ same) i) (handle_opened end (its.tables (is_client i))) end (its.pending (is_client i))) in
-      (λ i. record its { pending = put_actor its.pending (is_client i) (gone i) })
+      = ap (λ b. cond b (ended_in s.call (handle_opened end (its.tables s.call.actor)) end (its.pending s.call.actor)) (its.pending s.call.actor)) async
+      ∙ (λ i. ended_in (same i) (handle_opened end (its.tables (actor i))) end (its.pending (actor i))) in
+      (λ i. record its { pending = put_actor its.pending (actor i) (gone i) })
       ∙ calls_are w h c (ended_in call (handle_opened end (kept_by w.tables c)) end (pending_by w.tables c)) (table_ended call end) (λ t. record { next = refl; client = refl })
       (λ table. ap (λ o. ended_in call (handle_opened end (kept_in o)) end (pending_in o)) table) (λ t table. ap (λ o. ended_in call (handle_opened end (kept_in o)) end (pending_in o)) table)
 
@@ -98,16 +90,16 @@ module _ (w : World) (h : History) (v : Who) (hand : InHand) (done : StepDone) (
 
   in_hand_told : left_in_hand m told end ≡ machine_of (record w { hands = hands_told }) (with_step h v done made pulled)
   in_hand_told =
-      let hands = put_hand h w.hands hands_told v (left end (hand_taken done (with_copy hand copy))) under (done ∷ h.steps v) made pulled in
+      let hands = put_hand h w.hands hands_told v (left end (hand_taken done (with_copy hand copy))) under (h.beginnings v) (done ∷ h.steps v) made pulled in
       (λ i. record m { in_hand = put_who m.in_hand (name i) (left_shown h v hand done made shown pulled copy end is.same i) })
       ∙ (λ i. record (machine_of (record w { hands = hands_told }) (with_step h v done made pulled)) { in_hand = λ u. hands u i })
 
   pub told_is : stepped m told end ≡ machine_of (told_world w v hand copy done end) (with_step h v done made pulled)
-  told_is = ap (with_pending hand.call.actor (ended_calls told end (m.tables hand.call.actor))) in_hand_told ∙ ended_is (record w { hands = hands_told }) (with_step h v done made pulled) hand told refl refl v end name actor
+  told_is = ap (with_pending hand.call.actor (ended_calls told end (m.tables hand.call.actor))) in_hand_told ∙ ended_is (record w { hands = hands_told }) (with_step h v done made pulled) told v end name actor
 
   pub told_fits : HistoryFits (told_world w v hand copy done end) (with_step h v done made pulled)
   told_fits = record {
     replicas = fits.replicas;
     copies = fits.copies;
-    hands = fits_hand h w.hands hands_told v (left end (hand_taken done (with_copy hand copy))) under (done ∷ h.steps v) pulled (left_fits h v hand done shown pulled copy end is (hand_fits w h v hand held fits)) fits.hands;
+    hands = fits_hand h w.hands hands_told v (left end (hand_taken done (with_copy hand copy))) under (h.beginnings v) (done ∷ h.steps v) pulled (left_fits h v hand done shown pulled copy end is (hand_fits w h v hand held fits)) fits.hands;
   }

@@ -18,6 +18,7 @@ use Rattle.run_labels.specs.declared.labels.Label.TheVariants.{Began}
 use Rattle.client_handles.specs.declared.handle_view.HandleView.{HandleView}
 use Rattle.cluster_record.specs.Calls.{client_of}
 use Rattle.cluster_record.specs.RecordState.{is_live_client}
+use Rattle.cluster_record.proofs.Places.{there_is}
 use Rattle.snap_copy.specs.Snapshots.{Snapshot}
 use Rattle.ckpt_machine.specs.Beginning.{Standing, begin_end, takes_memory_at_once}
 use Rattle.ckpt_machine.specs.BeginRows.{BeginRow}
@@ -28,7 +29,7 @@ use Rattle.ckpt_machine.proofs.BeginRows.{row_of}
 use Rattle.ckpt_machine.proofs.Whose.{stepped_as-plain, stepped_as-async}
 use Rattle.client_calls.specs.declared.in_hand.InHand.{InHand}
 use Rattle.world_core.specs.declared.world.World.{World}
-use Rattle.world_core.specs.Answering.{IsAnsweredAtOnce}
+use Rattle.world_core.specs.Answering.{IsAnsweredAtOnce, IsNextBegun}
 use Rattle.client_calls.specs.HandBegun.{IsHandBegun}
 use Rattle.client_calls.specs.HandRooms.{room_for, copy_room_for}
 use Rattle.world_core.specs.HandsState.{HandsState, HasAlone, hand_at, set_at, with_alone}
@@ -36,9 +37,10 @@ use Rattle.world_core.specs.Happenings.{Begins}
 use Rattle.world_core.specs.Shows.{IsShown}
 use Rattle.world_core.specs.TablesState.{standing_in, kept_by, pending_by, at_client}
 use Rattle.client_calls.specs.TableState.{TableState, next_in, begun_with}
-use Rattle.world_core.proofs.AloneLaws.{client_set, with_alone-at}
+use Rattle.world_core.proofs.HandLaws.{client_set, with_alone-at}
 use Rattle.world_core.proofs.Answered.{told_alone, was_unrefused}
-use Rattle.world_core.proofs.Begin.{IsBegunAs, IsPutUnder, IsNextBegun, at_once, call_begins, idle}
+use Rattle.world_core.proofs.Begin.{IsBegunAs, call_begins, idle}
+use Rattle.world_core.proofs.Maps.{HasUnder}
 
 -- ---- as the code has it
 
@@ -86,8 +88,9 @@ pub waits : (w : World) (c number : ℕ) (op : Op) (h : Option HandleView) (hand
 waits w c number op h hand tables is begun within tables_are =
     let call : CallId = record { actor = Client c; number = number } in
     let plain = waits_row (standing_in (is_live_client c w.cluster) h c w.tables) op (row_of (standing_in (is_live_client c w.cluster) h c w.tables) (asked op) is.built None is.end_is) in
-    let under : IsPutUnder w.hands (stepped_as call (word_of_op op)) (Some hand) (set_at w.hands (Actor (Client c)) (Some hand))
-    = subst (λ v. IsPutUnder w.hands v (Some hand) (set_at w.hands (Actor (Client c)) (Some hand))) (sym (stepped_as-plain call (word_of_op op) plain)) (client_set w.hands c within (Some hand)) in
+    let under : HasUnder w.hands (stepped_as call (word_of_op op)) (Some hand) (set_at w.hands (Actor (Client c)) (Some hand))
+    = let (x, there) = there_is w.hands.clients c within in
+    subst (λ v. HasUnder w.hands v (Some hand) (set_at w.hands (Actor (Client c)) (Some hand))) (sym (stepped_as-plain call (word_of_op op) plain)) (client_set w.hands c x there (Some hand)) in
     call_begins w c call op h None beside.Nothing (Some hand) tables (set_at w.hands (Actor (Client c)) (Some hand)) is refl begun under tables_are
 
 -- ---- it goes on by itself
@@ -100,10 +103,10 @@ goes_alone w c call op h hand hands new shown is async begun there hands_are new
     let client : client_of call ≡ c = ap client_of is.call_is in
     let own : Call hand.call ≡ stepped_as call (word_of_op op) = ap Call begun.call_is ∙ sym name in
     let none = ap (hand_at w.hands) own ∙ idle w c call (word_of_op op) shown is.call_is is.none in
-    let under : IsPutUnder w.hands (stepped_as call (word_of_op op)) (Some hand) hands
-    = subst (λ (hands : HandsState). IsPutUnder w.hands (stepped_as call (word_of_op op)) (Some hand) hands) (sym hands_are) (subst (λ v. IsPutUnder w.hands v (Some hand) (with_alone hand w.hands)) own (with_alone-at hand w.hands there none)) in
+    let under : HasUnder w.hands (stepped_as call (word_of_op op)) (Some hand) hands
+    = subst (λ (hands : HandsState). HasUnder w.hands (stepped_as call (word_of_op op)) (Some hand) hands) (sym hands_are) (subst (λ v. HasUnder w.hands v (Some hand) (with_alone hand w.hands)) own (with_alone-at hand w.hands there none)) in
     subst (λ x. Begins c op w x (Began call op (Some (Done answers.Nothing)) beside.Nothing)) (sym new_is)
-    (call_begins w c call op h (Some (Done answers.Nothing)) beside.Nothing (Some hand) (at_client c (begun_with (Some (Done answers.Nothing)) call op h) w.tables) hands (at_once w c call op h (Done answers.Nothing) is) (sym (told_alone op async (Some (Done answers.Nothing)) (pending_by w.tables c)))
+    (call_begins w c call op h (Some (Done answers.Nothing)) beside.Nothing (Some hand) (at_client c (begun_with (Some (Done answers.Nothing)) call op h) w.tables) hands is (sym (told_alone op async (Some (Done answers.Nothing)) (pending_by w.tables c)))
     (subst (λ b. IsBegunAs b call op (kept_at_beginning w.cluster c h) (Some hand)) (sym async) (subst (λ c. IsHandBegun call op (kept_at_beginning w.cluster c h) hand) client begun)) under refl)
 
 -- it takes memory for that

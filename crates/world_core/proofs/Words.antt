@@ -16,7 +16,7 @@ use Rattle.world_core.specs.Shows.{Does, History, machine_of, shown_hand, where_
 use Rattle.client_calls.specs.LineWords.{step_word}
 use Rattle.world_core.proofs.HoldingLaws.{held_by_none}
 
--- the call in hand under a name, as the machine has it: none where there is none
+-- the machine has no call in hand under a name where there is none
 pub none_in_hand : (w : World) (h : History) (v : Who) → hand_at w.hands v ≡ None → (machine_of w h).in_hand v ≡ None
 none_in_hand w h v free = ap (shown_hand (h.beginnings v) (h.steps v) (h.created v) (h.pulled v)) free
 

@@ -46,32 +46,35 @@ calls_gone c w = record w {
   tables = at_client c (with_calls (λ p. no_pending)) w.tables;
 }
 
--- what a step of the record that has closed this handle, if any, leaves of the calls in hand
-abbrev pub hands_behind : RecordStep → ℕ → Option ℕ → World → HandsState
-hands_behind events.Close c handle w = (syncs_gone c handle w).hands
-hands_behind events.Leave c handle w = (calls_gone c w).hands
-hands_behind step c handle w = w.hands
+-- what goes with a step of a call: nothing, the synchronisations over the handle that it closes, or all asynchronous calls of its client
+pub data Going : Type 0 where
+  Nothing : Going
+  Syncs : Going
+  All : Going
+
+-- with a step of the record
+abbrev pub going_with : RecordStep → Going
+going_with events.Close = Syncs
+going_with events.Leave = All
+going_with step = Nothing
+
+-- with a look: a handle is closed where its checkpoint is gone too
+abbrev pub going_with_look : Outcome → Going
+going_with_look (Done answer) = Syncs
+going_with_look end = Nothing
+
+-- what is left of the calls in hand
+abbrev pub hands_behind : Going → ℕ → Option ℕ → World → HandsState
+hands_behind Syncs c handle w = (syncs_gone c handle w).hands
+hands_behind All c handle w = (calls_gone c w).hands
+hands_behind Nothing c handle w = w.hands
 
 -- and of what is kept of clients
-abbrev pub tables_behind : RecordStep → ℕ → Option ℕ → World → List TableState
-tables_behind events.Close c handle w = (syncs_gone c handle w).tables
-tables_behind events.Leave c handle w = (calls_gone c w).tables
-tables_behind step c handle w = w.tables
+abbrev pub tables_behind : Going → ℕ → Option ℕ → World → List TableState
+tables_behind Syncs c handle w = (syncs_gone c handle w).tables
+tables_behind All c handle w = (calls_gone c w).tables
+tables_behind Nothing c handle w = w.tables
 
--- so the world is without what goes behind it
-abbrev pub gone_with : RecordStep → ℕ → Option ℕ → World → World
-gone_with step c handle w = record w { hands = hands_behind step c handle w; tables = tables_behind step c handle w }
-
--- what a look leaves of the calls in hand
-abbrev pub hands_looked : Outcome → ℕ → Option ℕ → World → HandsState
-hands_looked (Done answer) c handle w = (syncs_gone c handle w).hands
-hands_looked end c handle w = w.hands
-
--- and of what is kept of clients
-abbrev pub tables_looked : Outcome → ℕ → Option ℕ → World → List TableState
-tables_looked (Done answer) c handle w = (syncs_gone c handle w).tables
-tables_looked end c handle w = w.tables
-
--- so the world is without what goes behind it
-abbrev pub gone_with_look : Outcome → ℕ → Option ℕ → World → World
-gone_with_look end c handle w = record w { hands = hands_looked end c handle w; tables = tables_looked end c handle w }
+-- so the world is without what goes, where this handle was closed, if any
+abbrev pub gone_with : Going → ℕ → Option ℕ → World → World
+gone_with going c handle w = record w { hands = hands_behind going c handle w; tables = tables_behind going c handle w }

@@ -17,8 +17,8 @@ use Rattle.world_core.specs.HandsState.{hand_at}
 use Rattle.world_core.specs.TablesState.{standing_in, kept_by}
 use Rattle.client_calls.specs.TableState.{next_in}
 
--- the next call of a client, which has none in hand, with the handle of its place, may be answered so
-pub record IsAnsweredAtOnce (w : World) (c : ℕ) (call : CallId) (op : Op) (h : Option HandleView) (end : Outcome) : Type 0 where
+-- the next call of a client, which has none in hand, with the handle of its place, may begin with this answer, or with none
+pub record IsNextBegun (w : World) (c : ℕ) (call : CallId) (op : Op) (h : Option HandleView) (end : Option Outcome) : Type 0 where
   pub client : c < client_numbers
   pub table : c < length w.tables
   pub built : IsBuilt op
@@ -26,4 +26,8 @@ pub record IsAnsweredAtOnce (w : World) (c : ℕ) (call : CallId) (op : Op) (h :
   pub may : MayBegin w.cluster c (asked op)
   pub call_is : call ≡ record { actor = Client c; number = next_in (slice_get w.tables c) }
   pub handle : h ≡ handle_asked (asked op) (kept_by w.tables c)
-  pub end_is : IsBeginEnd (asked op) (begin_end (standing_in (is_live_client c w.cluster) h c w.tables) (asked op)) (Some end)
+  pub end_is : IsBeginEnd (asked op) (begin_end (standing_in (is_live_client c w.cluster) h c w.tables) (asked op)) end
+
+-- it may be answered at once
+abbrev pub IsAnsweredAtOnce : World → ℕ → CallId → Op → Option HandleView → Outcome → Type 0
+IsAnsweredAtOnce w c call op h end = IsNextBegun w c call op h (Some end)

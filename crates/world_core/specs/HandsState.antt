@@ -21,10 +21,14 @@ abbrev pub alone_in : List (List (Option InHand)) → ActorName → List (Option
 alone_in lists (Client c) = list_or (slice_get lists c)
 alone_in lists (Node r) = []
 
--- the call in hand under a name; no node has one yet
+-- the call for which an actor waits; no node waits for one yet
+abbrev pub waited_in : List (Option InHand) → ActorName → Option InHand
+waited_in clients (Client c) = or_none (slice_get clients c)
+waited_in clients (Node r) = None
+
+-- the call in hand under a name
 abbrev pub hand_at : HandsState → Who → Option InHand
-hand_at hands (Actor (Client c)) = or_none (slice_get hands.clients c)
-hand_at hands (Actor (Node r)) = None
+hand_at hands (Actor a) = waited_in hands.clients a
 hand_at hands (Call call) = found_alone call (alone_in hands.alone call.actor)
 
 -- ---- what changes
@@ -43,21 +47,19 @@ alone_with (Node r) change lists = lists
 abbrev pub with_alone_in : ActorName → (List (Option InHand) → List (Option InHand)) → HandsState → HandsState
 with_alone_in a change hands = record hands { alone = alone_with a change hands.alone }
 
+-- an actor waits for this
+abbrev pub waited_with : ActorName → Option InHand → List (Option InHand) → List (Option InHand)
+waited_with (Client c) o clients = slice_set clients c o
+waited_with (Node r) o clients = clients
+
 -- the place of a name is set
 abbrev pub set_at : HandsState → Who → Option InHand → HandsState
-set_at hands (Actor (Client c)) o = record hands { clients = slice_set hands.clients c o }
-set_at hands (Actor (Node r)) o = hands
+set_at hands (Actor a) o = record hands { clients = waited_with a o hands.clients }
 set_at hands (Call call) o = with_alone_in call.actor (changed_alone call o) hands
 
 -- without an asynchronous call, and without the place that one has left
 abbrev pub without_call : CallId → HandsState → HandsState
 without_call call hands = with_alone_in call.actor (filter (has_other call)) hands
-
--- what is left of a call stands under its name; an asynchronous one that has ended is gone
-abbrev pub left_at : HandsState → Who → Option InHand → HandsState
-left_at hands (Actor a) o = set_at hands (Actor a) o
-left_at hands (Call call) None = without_call call hands
-left_at hands (Call call) (Some h) = set_at hands (Call call) (Some h)
 
 -- an asynchronous call more
 abbrev pub with_alone : InHand → HandsState → HandsState

@@ -12,7 +12,7 @@ ghost use Rattle.client_calls.specs.Granting.{event_granted};
 ghost use Rattle.world_core.specs.RecordReady.{IsPlain, IsRefusedAs};
 ghost use Rattle.client_calls.specs.declared.in_hand.InHand.{InHand};
 ghost use Rattle.world_core.specs.LiveRooms.{room_is_taken};
-ghost use Rattle.world_core.specs.Alone.{calls_gone, ended_at, gone_with, gone_with_look, syncs_gone};
+ghost use Rattle.world_core.specs.Alone.{calls_gone, ended_at, going_with, going_with_look, gone_with, syncs_gone};
 ghost use Rattle.ckpt_machine.specs.Steps.{goes_with};
 ghost use Rattle.client_calls.specs.Names.{client_by, IsClientName};
 ghost use Rattle.world_core.specs.HandsState.{hand_at, without_those};
@@ -150,6 +150,7 @@ impl World {
             .read(r, ckpt, elements, self.cluster.now(), &mut read);
         let end = hand.take(&self.cluster, &reply);
         let_go(slot, &end);
+        self.end_alone(who, &end);
         let details = told_read(&end, &reply, read);
         log.push(served(call, op, &Request::Read(ckpt), r, &reply, end, details));
         Ok(())
@@ -383,7 +384,7 @@ impl World {
     #[inline(always)]
     fn let_go_with(&mut self, c: u8, step: &RecordStep, closed: Option<u32>)
         requires { c < client_numbers }
-        ensures { self.new ≡ gone_with step.now c closed self.old }
+        ensures { self.new ≡ gone_with (going_with step.now) c closed self.old }
     {
         match step {
             RecordStep::Close => self.syncs_gone(c, closed),
@@ -395,7 +396,7 @@ impl World {
     // What goes with the handle that a look has closed: asynchronous synchronisations.
     fn let_go_with_look(&mut self, c: u8, end: &Outcome, closed: Option<u32>)
         requires { c < client_numbers }
-        ensures { self.new ≡ gone_with_look end.now c closed self.old }
+        ensures { self.new ≡ gone_with (going_with_look end.now) c closed self.old }
     {
         match end {
             Outcome::Done(_) => self.syncs_gone(c, closed),

@@ -1,4 +1,4 @@
-use Rattle.world_core.proofs.AloneLaws.{none_over}
+use Rattle.world_core.proofs.HandLaws.{none_over}
 use Rattle.world_core.proofs.steps.forget_syncs.Goals as goal
 
 pub returns-in_default : goal.returns-in_default

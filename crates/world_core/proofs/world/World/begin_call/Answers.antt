@@ -13,7 +13,7 @@ use Rattle.client_calls.specs.declared.in_hand.InHand.{InHand}
 use Rattle.world_core.specs.Happenings.{Begins}
 use Rattle.world_core.specs.HandsState.{set_at}
 use Rattle.client_calls.specs.TableState.{begun_with}
-use Rattle.world_core.proofs.HandPlaces.{left_alone}
+use Rattle.world_core.proofs.HandLaws.{left_alone}
 use Rattle.world_core.proofs.TableSteps.{changed_is, kept_is, next_is, standing_is, within}
 use Rattle.world_core.proofs.Waits.{none_there, next_begun, hand_begun, waits}
 use Rattle.world_core.proofs.world.World.begin_call.Goals as goal

@@ -11,7 +11,7 @@ use Rattle.world_core.specs.declared.world.World.{World}
 use Rattle.world_core.specs.Happenings.{Adds, IsStep}
 use Rattle.world_core.specs.Shows.{IsShown}
 use Rattle.cluster_record.specs.Ends.{ended_unless}
-use Rattle.world_core.proofs.HandPlaces.{same_world}
+use Rattle.world_core.proofs.HandLaws.{same_world}
 use Rattle.replica.specs.Replicas.{committed}
 use Rattle.stage_slot.specs.Slots.{IsOwnedBy}
 use Rattle.world_core.specs.Nodes.{replica_in, with_changed}

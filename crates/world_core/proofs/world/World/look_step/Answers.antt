@@ -5,7 +5,7 @@ use Rattle.run_labels.specs.declared.labels.Label.{Label}
 use Rattle.ckpt_types.specs.Asks.{asked}
 use Rattle.ckpt_machine.specs.Tables.{handle_closed}
 use Rattle.client_calls.specs.declared.in_hand.InHand.{InHand}
-use Rattle.world_core.specs.Alone.{ended_at, gone_with_look}
+use Rattle.world_core.specs.Alone.{ended_at, going_with_look, gone_with}
 use Rattle.world_core.specs.Happenings.{IsStep}
 use Rattle.world_core.specs.HandsState.{set_at}
 use Rattle.world_core.specs.Settling.{without_making_of}
@@ -31,5 +31,5 @@ returns c =
           c.requires.shown c.making-making.ensures c.client_by-c.ensures (c.handle_closed-closed.ensures ∙ ap (handle_closed (asked hand.op)) (sym (kept_is w.tables n t there)))
           (ap (slice_set w.tables n) c.settle_look.ensures ∙ looked_is w.tables n t there c.args.end hand.op) c.word-op.ensures c.look_word-reply.ensures
           (c.end_alone.ensures ∙ ap (ended_at c.args.who (Some c.args.end)) (c.unmake.ensures ∙ ap (without_making_of c.making-making.result)
-          (c.let_go_with_look.ensures ∙ ap (λ (place : Option InHand). gone_with_look c.args.end n c.handle_closed-closed.result (record w { tables = tables; hands = set_at w.hands c.args.who place })) c.clear.ensures))));
+          (c.let_go_with_look.ensures ∙ ap (λ (place : Option InHand). gone_with (going_with_look c.args.end) n c.handle_closed-closed.result (record w { tables = tables; hands = set_at w.hands c.args.who place })) c.clear.ensures))));
     }

@@ -4,8 +4,9 @@ use Rattle.node_msgs.specs.declared.requests.Request.{Request}
 use Rattle.node_msgs.specs.declared.requests.Request.TheVariants.{Read}
 use Rattle.run_labels.specs.declared.labels.Label.{Label}
 use Rattle.world_core.specs.Happenings.{IsStep}
-use Rattle.world_core.specs.HandsState.{hand_at, set_at}
-use Rattle.world_core.proofs.HandPlaces.{left_alone}
+use Rattle.world_core.specs.declared.world.World.{World}
+use Rattle.world_core.specs.HandsState.{hand_at}
+use Rattle.world_core.proofs.HandLaws.{left_alone}
 use Rattle.world_core.proofs.Reading.{read_is, reads_there}
 use Rattle.world_core.proofs.ServedSteps.{asks_of}
 use Rattle.world_core.proofs.Stepping.{node_there}
@@ -32,7 +33,7 @@ returns-clause-ok c =
     record {
       label = _;
       labels = c.push.ensures.labels;
-      is = subst (λ (label : Label). IsStep c.args.who w (record w { hands = set_at w.hands c.args.who c.let_go.new.slot }) label) (sym c.served.ensures)
+      is = subst (λ (z : World × Label). IsStep c.args.who w z.0 z.1) (λ i. (sym c.end_alone.ensures i, sym c.served.ensures i))
           (read_is w c.args.who c.args.r c.args.ckpt hand held c.requires.next c.requires.shown c.elements_in-elements.result.now c.elements_in-elements.ensures.is _ (moment ∙ c.now.ensures) c.read-reply.result c.read-reply.new.out c.read-reply.ensures.answer c.read-reply.ensures.pieces
           c.take-end.new.self c.let_go.new.slot c.take-end.result c.word-op.result c.told_read-details.result (c.take-end.ensures.new ∙ hand_keeps w.cluster c.read-reply.result c.args.r request hand asks)
           (c.take-end.ensures.outcome ∙ hand_ends w.cluster c.read-reply.result c.args.r request hand c.take-end.new.self asks c.take-end.ensures.new) c.let_go.ensures c.word-op.ensures c.told_read-details.ensures);

@@ -5,7 +5,7 @@ use Rattle.ckpt_machine.specs.Steps.{ended_details}
 use Rattle.run_labels.specs.declared.labels.Label.{Label}
 use Rattle.world_core.specs.Happenings.{IsStep}
 use Rattle.world_core.specs.declared.world.World.{World}
-use Rattle.world_core.proofs.HandPlaces.{left_alone}
+use Rattle.world_core.proofs.HandLaws.{left_alone}
 use Rattle.world_core.proofs.ServedSteps.{asks_lent, fits_at, keeps_at, lends_at, step_is, told_still}
 use Rattle.world_core.proofs.Stepping.{node_there}
 use Rattle.world_core.proofs.Taking.{hand_ends, hand_keeps}

@@ -10,7 +10,7 @@ use Rattle.stage_slot.specs.Slots.{owner_of}
 use Rattle.ckpt_types.specs.OpWord.{word_of_op}
 use Rattle.client_calls.specs.HandSteps.{AsksNode}
 use Rattle.world_core.specs.Nodes.{replica_in, with_changed}
-use Rattle.world_core.proofs.HandPlaces.{left_alone}
+use Rattle.world_core.proofs.HandLaws.{left_alone}
 use Rattle.world_core.proofs.ServedSteps.{asks_of}
 use Rattle.node_core.specs.Fitting.{TakesUpdate}
 use Rattle.world_core.proofs.ReplicaSteps.{has_one, holds_here, holds_there, left_as}
