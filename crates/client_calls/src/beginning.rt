@@ -1,12 +1,11 @@
 //! What a call answers at its beginning.
-ghost use Rattle.std.specs.Prelude.{◌≡◌, ℕ, ◌<◌, Bool, None, false, not, if◌then◌else◌, pos, int_lt};
-ghost use Rattle.ckpt_types.specs.declared.ais_error.AisError.TheVariants as errors;
-ghost use Rattle.ckpt_types.specs.Attributes.{has_bad_open_flags, is_malformed};
-ghost use Rattle.ckpt_types.specs.Asks.{asked, takes_room};
-ghost use Rattle.ckpt_machine.specs.Beginning.{refused, if_live, version_is_bad, name_is_bad, attributes_are_bad, open_begin, vector_is_bad, update_is_bad, on_handle, may_read, may_always, choice_is_bad, end_iteration, update_begin, are_of_all, are_not_collocated, timeout_is_bad, if_registered, goes_on_alone, sync_alone, dispatch_begin, sync_begin, begin_end};
+ghost use Rattle.std.specs.Prelude.{◌≡◌, ℕ, ◌<◌, None, not, if◌then◌else◌};
 ghost use Rattle.std.specs.Option.{option_or};
+ghost use Rattle.ckpt_types.specs.declared.ais_error.AisError.TheVariants as errors;
+ghost use Rattle.ckpt_types.specs.Asks.{asked, takes_room};
+ghost use Rattle.ckpt_machine.specs.Beginning.{refused, if_live, version_is_bad, attributes_are_bad, open_begin, vector_is_bad, update_is_bad, if_registered, goes_on_alone, dispatch_begin, begin_end};
 ghost use Rattle.call_dispatch.specs.PendingCalls.{PendingCalls, given_answer};
-ghost use Rattle.client_calls.specs.Standings.{standing};
+ghost use Rattle.client_calls.specs.Standings.{standing, by_right};
 ghost use Rattle.ckpt_machine.specs.Tables.{ckpt_of_handle, choice_of};
 
 use crate::table::Table;
@@ -18,13 +17,28 @@ use ckpt_types::{
 };
 use client_handles::HandleView;
 
+/// What a call asks of its handle.
+#[derive(Drop)]
+enum Right {
+    /// That its place stands for one.
+    Any,
+    /// That it was opened for reading.
+    Read,
+    /// That it was opened for writing.
+    Write,
+    /// The same, and that updates are not on all replicas.
+    Synchronize,
+    /// The same as to write, and that the checkpoint is collocated.
+    SetActive,
+}
+
 /// What a call of a client answers at once, where this is live or not, and its place stands for this handle; nothing
 /// where the call goes on.
 pub fn begin_end(live: bool, handle: &Option<HandleView>, op: &Op, table: &Table) -> Option<Outcome>
     ensures { result ≡ begin_end (standing live handle.now table.now) (asked op.now) }
 {
     match op {
-        Op::Client(_, version, _) => client_begin(version),
+        Op::Client(_, version, _) => refused_if(version_is_bad(version), AisError::Version),
         Op::Open(_, name, flags, timeout, attributes) => {
             if_live(
                 live,
@@ -42,25 +56,47 @@ pub fn begin_end(live: bool, handle: &Option<HandleView>, op: &Op, table: &Table
         | Op::Delete(_, update)
         | Op::Expire(_, update)
         | Op::Write(_, update)
-        | Op::Over(_, update) => if_live(live, update_begin(handle, update.value())),
+        | Op::Over(_, update) => {
+            let bad = update_is_bad(update.value());
+            if_live(live, on_handle(handle, bad, Right::Write))
+        }
         Op::Read(_, elements) => {
             let bad = vector_is_bad(elements.value().as_slice().len());
-            if_live(live, read_begin(handle, bad))
+            if_live(live, on_handle(handle, bad, Right::Read))
         }
-        Op::Iter(_, _, chosen, _) => if_live(live, read_begin(handle, choice_is_bad(*chosen))),
-        Op::Status(_) | Op::Next(_) | Op::Close(_) => if_live(live, handle_begin(handle)),
-        Op::EndIter(_) => if_live(live, end_iteration(handle)),
-        Op::Retain(_, duration) => if_live(live, retain_begin(handle, *duration)),
+        Op::Iter(_, _, chosen, _) => {
+            let bad = *chosen == 0 || *chosen > u64::from(SECTIONS_ANY);
+            if_live(live, on_handle(handle, bad, Right::Read))
+        }
+        Op::Status(_) | Op::Next(_) | Op::Close(_) => {
+            if_live(live, on_handle(handle, false, Right::Any))
+        }
+        Op::EndIter(_) => if_live(
+            live && handle.is_some(),
+            Some(Outcome::Done(Answer::Nothing)),
+        ),
+        Op::Retain(_, duration) => if_live(live, on_handle(handle, *duration < 0, Right::Any)),
         Op::Unlink(_) | Op::Finalize => if_live(live, None),
-        Op::Sync(_, timeout) => if_live(live, synchronize_begin(handle, *timeout)),
-        Op::SyncAsync(_, _) => if_live(live, sync_alone(handle, table)),
-        Op::Active(_) => if_live(live, set_active_begin(handle)),
+        Op::Sync(_, timeout) => {
+            if_live(live, on_handle(handle, *timeout < 0, Right::Synchronize))
+        }
+        Op::SyncAsync(_, _) => match handle {
+            None => refused(AisError::BadHandle),
+            Some(_) => {
+                let refusal = on_handle(handle, false, Right::Synchronize);
+                if_live(
+                    live,
+                    alone(table.callbacks().syncs, refusal, table.pending_count()),
+                )
+            }
+        },
+        Op::Active(_) => if_live(live, on_handle(handle, false, Right::SetActive)),
         Op::Dispatch(flags) => if_live(live, dispatch_begin(table.given(*flags))),
         Op::Copy => None,
     }
 }
 
-// What a call answers where its client is live; BAD_HANDLE where it is not.
+// What a call answers where its client is live, and stands for a handle if it needs one at once; BAD_HANDLE else.
 fn if_live(live: bool, answer: Option<Outcome>) -> Option<Outcome>
     ensures { result ≡ if_live live answer }
 {
@@ -87,17 +123,6 @@ fn alone(registered: bool, refusal: Option<Outcome>, pending: usize) -> Option<O
         return Some(Outcome::Refused(AisError::NoResources, Cause::Count(count)));
     }
     Some(Outcome::Done(Answer::Nothing))
-}
-
-// A synchronisation that goes on by itself.
-fn sync_alone(handle: &Option<HandleView>, table: &Table) -> Option<Outcome>
-    ensures { (live : Bool) → result ≡ sync_alone (standing live handle.now table.now) handle.now }
-{
-    if handle.is_none() {
-        return refused(AisError::BadHandle);
-    }
-    let refusal = synchronize_begin(handle, 0);
-    alone(table.callbacks().syncs, refusal, table.pending_count())
 }
 
 // A dispatch answers what it gives and leaves.
@@ -148,14 +173,10 @@ fn refused(error: AisError) -> Option<Outcome>
     Some(Outcome::Refused(error, Cause::Plain))
 }
 
-fn client_begin(version: &Version) -> Option<Outcome>
-    ensures { result ≡ (if version_is_bad version.now then refused errors.Version else None) }
+fn refused_if(bad: bool, error: AisError) -> Option<Outcome>
+    ensures { result ≡ (if bad then refused error else None) }
 {
-    if version_is_bad(version) {
-        refused(AisError::Version)
-    } else {
-        None
-    }
+    if bad { refused(error) } else { None }
 }
 
 fn version_is_bad(version: &Version) -> bool
@@ -172,37 +193,15 @@ fn open_begin(
 ) -> Option<Outcome>
     ensures { result ≡ open_begin name.now flags timeout attributes.now }
 {
-    if has_bad_open_flags(flags) {
-        refused(AisError::BadFlags)
-    } else if name_is_bad(name)
-        || timeout_is_bad(timeout)
-        || attributes_are_bad(flags, attributes)
-    {
-        refused(AisError::InvalidParam)
-    } else {
-        None
+    if flags == 0 || flags > OPEN_FLAGS_ALL {
+        return refused(AisError::BadFlags);
     }
-}
-
-fn timeout_is_bad(timeout: Option<Moment>) -> bool
-    ensures { result ≡ timeout_is_bad timeout }
-{
-    match timeout {
+    let early = match timeout {
         None => false,
         Some(timeout) => timeout < 0,
-    }
-}
-
-fn has_bad_open_flags(flags: u32) -> bool
-    ensures { result ≡ has_bad_open_flags flags }
-{
-    flags == 0 || flags > OPEN_FLAGS_ALL
-}
-
-fn name_is_bad(name: &Bytes) -> bool
-    ensures { result ≡ name_is_bad name.now }
-{
-    !name_fits(name)
+    };
+    let bad = !name_fits(name) || early || attributes_are_bad(flags, attributes);
+    refused_if(bad, AisError::InvalidParam)
 }
 
 fn attributes_are_bad(flags: u32, attributes: &Option<CreationAttributes>) -> bool
@@ -211,14 +210,8 @@ fn attributes_are_bad(flags: u32, attributes: &Option<CreationAttributes>) -> bo
     let creates = has_flag(flags, CHECKPOINT_CREATE);
     match attributes {
         None => creates,
-        Some(attributes) => !creates || is_malformed(attributes),
+        Some(attributes) => !creates || attributes.check().is_err(),
     }
-}
-
-fn is_malformed(attributes: &CreationAttributes) -> bool
-    ensures { result ≡ is_malformed attributes.now }
-{
-    attributes.check().is_err()
 }
 
 fn vector_is_bad(len: usize) -> bool
@@ -236,99 +229,39 @@ fn update_is_bad(update: &Update) -> bool
     }
 }
 
-fn update_begin(handle: &Option<HandleView>, update: &Update) -> Option<Outcome>
-    ensures { result ≡ update_begin handle.now update.now }
-{
-    match handle {
-        None => refused(AisError::BadHandle),
-        Some(handle) => may_begin(update_is_bad(update), handle.flags.write),
-    }
-}
-
-fn read_begin(handle: &Option<HandleView>, bad: bool) -> Option<Outcome>
-    ensures { result ≡ on_handle handle.now bad may_read }
-{
-    match handle {
-        None => refused(AisError::BadHandle),
-        Some(handle) => may_begin(bad, handle.flags.read),
-    }
-}
-
-fn choice_is_bad(chosen: u64) -> bool
-    ensures { result ≡ choice_is_bad chosen }
-{
-    chosen == 0 || chosen > u64::from(SECTIONS_ANY)
-}
-
-fn handle_begin(handle: &Option<HandleView>) -> Option<Outcome>
-    ensures { result ≡ on_handle handle.now false may_always }
-{
-    match handle {
-        None => refused(AisError::BadHandle),
-        Some(_) => None,
-    }
-}
-
-fn retain_begin(handle: &Option<HandleView>, duration: i64) -> Option<Outcome>
-    ensures { result ≡ on_handle handle.now (int_lt duration (pos 0)) may_always }
-{
-    match handle {
-        None => refused(AisError::BadHandle),
-        Some(_) => may_begin(duration < 0, true),
-    }
-}
-
-fn synchronize_begin(handle: &Option<HandleView>, timeout: Moment) -> Option<Outcome>
-    ensures { result ≡ sync_begin handle.now (int_lt timeout (pos 0)) are_of_all }
+// What a call over a handle answers, its arguments being bad or not.
+#[inline(always)]
+fn on_handle(handle: &Option<HandleView>, bad: bool, right: Right) -> Option<Outcome>
+    ensures { result ≡ by_right right handle.now bad }
 {
     let Some(handle) = handle else {
         return refused(AisError::BadHandle);
     };
-    if let Some(end) = may_begin(timeout < 0, handle.flags.write) {
-        return Some(end);
-    }
-    unless_forbidden(handle.creation_flags == WR_ALL_REPLICAS)
-}
-
-fn set_active_begin(handle: &Option<HandleView>) -> Option<Outcome>
-    ensures { result ≡ sync_begin handle.now false are_not_collocated }
-{
-    let Some(handle) = handle else {
-        return refused(AisError::BadHandle);
-    };
-    if let Some(end) = may_begin(false, handle.flags.write) {
-        return Some(end);
-    }
-    unless_forbidden(!has_flag(handle.creation_flags, CHECKPOINT_COLLOCATED))
-}
-
-fn unless_forbidden(forbidden: bool) -> Option<Outcome>
-    ensures { result ≡ (if forbidden then refused errors.BadOperation else None) }
-{
-    if forbidden {
-        refused(AisError::BadOperation)
-    } else {
-        None
-    }
-}
-
-fn end_iteration(handle: &Option<HandleView>) -> Option<Outcome>
-    ensures { result ≡ end_iteration handle.now }
-{
-    match handle {
-        None => refused(AisError::BadHandle),
-        Some(_) => Some(Outcome::Done(Answer::Nothing)),
-    }
-}
-
-fn may_begin(bad: bool, may: bool) -> Option<Outcome>
-    ensures { result ≡ (if bad then refused errors.InvalidParam else if not may then refused errors.Access else None) }
-{
     if bad {
-        refused(AisError::InvalidParam)
-    } else if !may {
-        refused(AisError::Access)
+        return refused(AisError::InvalidParam);
+    }
+    match right {
+        Right::Any => None,
+        Right::Read => refused_if(!handle.flags.read, AisError::Access),
+        Right::Write => refused_if(!handle.flags.write, AisError::Access),
+        Right::Synchronize => {
+            let all = handle.creation_flags == WR_ALL_REPLICAS;
+            change_begin(handle.flags.write, all)
+        }
+        Right::SetActive => {
+            let collocated = has_flag(handle.creation_flags, CHECKPOINT_COLLOCATED);
+            change_begin(handle.flags.write, !collocated)
+        }
+    }
+}
+
+// What is answered to a call that writes a checkpoint whose attributes may forbid it.
+fn change_begin(may: bool, forbidden: bool) -> Option<Outcome>
+    ensures { result ≡ (if not may then refused errors.Access else if forbidden then refused errors.BadOperation else None) }
+{
+    if may {
+        refused_if(forbidden, AisError::BadOperation)
     } else {
-        None
+        refused(AisError::Access)
     }
 }

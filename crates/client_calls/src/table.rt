@@ -257,6 +257,7 @@ impl Table {
 
     /// The client begins one call more. Where it is answered OK, it has ended its iteration, is one that is not dispatched,
     /// or has given callbacks. It takes no memory.
+    #[inline(always)]
     pub fn begin(
         &mut self,
         call: CallId,
