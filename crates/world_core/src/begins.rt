@@ -14,6 +14,7 @@ ghost use Rattle.ckpt_types.specs.declared.identities.ActorName.TheVariants.{Cli
 ghost use Rattle.ckpt_types.specs.declared.identities.Who.TheVariants.{Actor};
 ghost use Rattle.ckpt_types.specs.Limits.{client_numbers, nodes_max};
 ghost use Rattle.run_labels.specs.declared.labels.Label.TheVariants as labels;
+ghost use Rattle.run_labels.specs.declared.words.LineWord.TheVariants as linewords;
 ghost use Rattle.cluster_record.specs.RecordState.{empty_record};
 ghost use Rattle.ckpt_types.specs.Asks.{asked, IsBuilt};
 ghost use Rattle.cluster_record.specs.Calls.{client_of, IsClient};
@@ -24,7 +25,7 @@ ghost use Rattle.world_core.specs.Happenings.{Adds, BringsUp, Begins};
 
 use crate::hands::Hands;
 use crate::world::World;
-use ckpt_types::{ActorName, Answer, Apart, CallId, Op, Outcome, Vector, Who};
+use ckpt_types::{ActorName, Answer, Apart, CallId, Op, Outcome, Vector};
 use client_calls::{begin_end, begin_hand, rooms_of, said, take_place, take_room};
 use client_handles::HandleView;
 use cluster_record::Record;
@@ -62,17 +63,17 @@ impl World {
         ensures ok { OnOk result (Adds log.old log.new (Begins c op self.old self.new)) }
         ensures err { OnErr result ((self.new ≡ self.old) × (log.new.labels ≡ log.old.labels)) }
     {
-        if self.in_hand(Who::Actor(ActorName::Client(c))) {
-            log.push(said(c, OpWord::of(&op), Said::Busy));
+        if self.hands.of_client(c).is_some() {
+            say(c, &op, Said::Busy, log);
             return Ok(());
         }
         if let Op::Client(r, _, _) = &op {
             if self.cluster.is_live_client(c) {
-                log.push(said(c, OpWord::of(&op), Said::Live));
+                say(c, &op, Said::Live, log);
                 return Ok(());
             }
             if !self.cluster.is_up(*r) {
-                log.push(said(c, OpWord::of(&op), Said::Down));
+                say(c, &op, Said::Down, log);
                 return Ok(());
             }
         }
@@ -105,8 +106,15 @@ impl World {
         let live = self.cluster.is_live_client(c);
         let due = begin_end(live, &handle, &op, table);
         let (end, rooms) = take_room(alloc, &op, &self.cluster, &handle, due);
-        if let Some(end) = end {
-            return self.begin_answered(alloc, c, call, op, &handle, end, log);
+        if let Some(mut end) = end {
+            let details = self.begin_answered(alloc, c, call, &op, &handle, &mut end)?;
+            log.push(Label::Began {
+                call,
+                op,
+                end: Some(end),
+                details,
+            });
+            return Ok(());
         }
         let slot = self.hands.at_client(c);
         let hand = begin_hand(call, &op, &handle, &self.cluster, rooms)?;
@@ -122,72 +130,60 @@ impl World {
     }
 
     // A call that is answered at its beginning: it is refused or lacks its memory, or it is done: then an iteration ends, a
-    // dispatch gives callbacks, or an asynchronous call goes on by itself.
+    // dispatch gives callbacks, or an asynchronous call goes on by itself. What is told beside its answer.
     #[inline(never)]
     fn begin_answered(
         &mut self,
         alloc: Global,
         c: u8,
         call: CallId,
-        op: Op,
+        op: &Op,
         handle: &Option<HandleView>,
-        end: Outcome,
-        log: &mut RunLog,
-    ) -> Result<(), AllocError>
-        requires begins { IsAnsweredAtOnce self.old c call op handle.now end }
+        end: &mut Outcome,
+    ) -> Result<Details, AllocError>
+        requires begins { IsAnsweredAtOnce self.old c call op.now handle.now end.old }
         requires shown { IsShown self.old }
         requires roomy { HasNumbersLeft self.old }
-        requires spare { 1 ≤ log.old.spare }
-        ensures ok { OnOk result (Adds log.old log.new (Begins c op self.old self.new)) }
-        ensures err { OnErr result ((self.new ≡ self.old) × (log.new.labels ≡ log.old.labels)) }
+        ensures ok { IfOk result (λ details. Begins c op.now self.old self.new (labels.Began call op.now (Some end.new) details)) }
+        ensures err { OnErr result (self.new ≡ self.old) }
     {
-        let Outcome::Done(answer) = end else {
-            self.begin_ended(c, call, op, handle, end, Details::Nothing, log);
-            return Ok(());
+        let Outcome::Done(_) = end else {
+            self.begin_ended(c, call, op, handle, end);
+            return Ok(Details::Nothing);
         };
-        match &op {
+        match op {
             Op::OpenAsync(..) | Op::SyncAsync(..) => {
-                self.begin_alone(alloc, c, call, op, handle, log);
-                Ok(())
+                *end = self.begin_alone(alloc, c, call, op, handle);
+                Ok(Details::Nothing)
             }
             Op::Dispatch(flags) => {
                 let details = self.callbacks_told(alloc, c, *flags)?;
-                self.begin_ended(c, call, op, handle, end, details, log);
-                Ok(())
+                self.begin_ended(c, call, op, handle, end);
+                Ok(details)
             }
             _ => {
-                self.begin_ended(c, call, op, handle, end, Details::Nothing, log);
-                Ok(())
+                self.begin_ended(c, call, op, handle, end);
+                Ok(Details::Nothing)
             }
         }
     }
 
     // A call begins, and is answered by that.
+    #[inline(always)]
     fn begin_ended(
         &mut self,
         c: u8,
         call: CallId,
-        op: Op,
+        op: &Op,
         handle: &Option<HandleView>,
-        end: Outcome,
-        details: Details,
-        log: &mut RunLog,
+        end: &Outcome,
     )
         requires client { c < client_numbers }
         requires number { next_in (slice_get self.old.tables c) < 2 ^ 32 - 1 }
-        requires can { IfSome (slice_get self.old.tables c) (CanBegin (Some end) call op) }
-        requires spare { 1 ≤ log.old.spare }
-        ensures world { self.new ≡ record self.old { tables = at_client c (begun_with (Some end) call op handle.now) self.old.tables } }
-        ensures label { log.new.labels ≡ log.old.labels ++ labels.Began call op (Some end) details ∷ [] }
+        requires can { IfSome (slice_get self.old.tables c) (CanBegin (Some end.now) call op.now) }
+        ensures { self.new ≡ record self.old { tables = at_client c (begun_with (Some end.now) call op.now handle.now) self.old.tables } }
     {
-        let end = Some(end);
-        self.tables.at(c).begin(call, &op, handle, &end);
-        log.push(Label::Began {
-            call,
-            op,
-            end,
-            details,
-        });
+        self.tables.at(c).begin(call, op, handle, &Some(*end));
     }
 
     // An asynchronous call goes on by itself; where the memory for that is refused, it ends.
@@ -196,31 +192,23 @@ impl World {
         alloc: Global,
         c: u8,
         call: CallId,
-        op: Op,
+        op: &Op,
         handle: &Option<HandleView>,
-        log: &mut RunLog,
-    )
-        requires begins { IsAnsweredAtOnce self.old c call op handle.now (outcomes.Done answers.Nothing) }
-        requires alone { is_async (word_of_op op) ≡ true }
+    ) -> Outcome
+        requires begins { IsAnsweredAtOnce self.old c call op.now handle.now (outcomes.Done answers.Nothing) }
+        requires alone { is_async (word_of_op op.now) ≡ true }
         requires shown { IsShown self.old }
         requires roomy { HasNumbersLeft self.old }
-        requires spare { 1 ≤ log.old.spare }
-        ensures { Adds log.old log.new (Begins c op self.old self.new) }
+        ensures { Begins c op.now self.old self.new (labels.Began call op.now (Some result) beside.Nothing) }
     {
-        let Ok(()) = put_alone(alloc, &mut self.hands, call, &op, handle, &self.cluster) else {
-            self.begin_ended(
-                c,
-                call,
-                op,
-                handle,
-                Outcome::NoMemory,
-                Details::Nothing,
-                log,
-            );
-            return;
+        let Ok(()) = put_alone(alloc, &mut self.hands, call, op, handle, &self.cluster) else {
+            let end = Outcome::NoMemory;
+            self.begin_ended(c, call, op, handle, &end);
+            return end;
         };
         let end = Outcome::Done(Answer::Nothing);
-        self.begin_ended(c, call, op, handle, end, Details::Nothing, log);
+        self.begin_ended(c, call, op, handle, &end);
+        end
     }
 
     // The callbacks that a dispatch of a client gives.
@@ -255,4 +243,13 @@ fn put_alone(
     let rooms = rooms_of(alloc, op, cluster, handle)?;
     let hand = begin_hand(call, op, handle, cluster, rooms)?;
     hands.add(hand)
+}
+
+// A word answers the line of a client that asks for this.
+#[inline(never)]
+fn say(c: u8, op: &Op, word: Said, log: &mut RunLog)
+    requires spare { 1 ≤ log.old.spare }
+    ensures { log.new.labels ≡ log.old.labels ++ labels.Word (Actor (Client c)) (linewords.Op (word_of_op op.now)) word ∷ [] }
+{
+    log.push(said(c, OpWord::of(op), word));
 }

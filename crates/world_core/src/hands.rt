@@ -1,5 +1,5 @@
 //! The calls in hand.
-ghost use Rattle.std.specs.Prelude.{◌≡◌, ◌<◌, length, replicate, Some, None, is_some, [], IfOk, OnOk, OnErr, slice_get, IsSome, MatchOption};
+ghost use Rattle.std.specs.Prelude.{◌≡◌, ◌<◌, length, replicate, Some, None, [], IfOk, OnOk, OnErr, slice_get, IsSome, MatchOption};
 ghost use Rattle.std.specs.Borrow.{sem};
 ghost use Rattle.ckpt_types.specs.Limits.{client_numbers};
 ghost use Rattle.cluster_record.specs.Calls.{client_of, IsClient};
@@ -62,11 +62,13 @@ impl Hands {
         }
     }
 
-    /// Whether a call is in hand under a name.
-    pub fn has(&self, who: Who) -> bool
-        ensures { result ≡ is_some (hand_at self.now who) }
+    /// The call in hand of a client.
+    #[inline(always)]
+    pub fn of_client(&self, c: u8) -> Option<&InHand>
+        requires { c < client_numbers }
+        ensures { MatchOption result (hand_at self.now (Actor (Client c)) ≡ None) (λ hand. hand_at self.now (Actor (Client c)) ≡ Some hand.now) }
     {
-        self.find(who).is_some()
+        self.clients[c as usize].as_ref()
     }
 
     /// The place of a client, for its call in hand.

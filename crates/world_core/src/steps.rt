@@ -53,7 +53,7 @@ impl World {
         ensures err { OnErr result ((self.new ≡ self.old) × (log.new.labels ≡ log.old.labels)) }
     {
         let who = Who::Actor(ActorName::Client(c));
-        let Some(hand) = self.hands.find(who) else {
+        let Some(hand) = self.hands.of_client(c) else {
             log.push(idle_label(who, finish));
             return Ok(());
         };
@@ -202,6 +202,7 @@ impl World {
     }
 
     // The call takes a step of the record.
+    #[inline(always)]
     fn take_event(&mut self, alloc: Global, who: Who, step: RecordStep, log: &mut RunLog)
         requires next { IsNext self.old who (nexts.Event step) }
         requires client { IsClientName who }
@@ -214,11 +215,12 @@ impl World {
             RecordStep::Enter => self.enter_step(alloc, who, log),
             RecordStep::Hold(r) => self.hold_step(who, r, log),
             RecordStep::Activate(r) => self.activate_step(who, r, log),
-            _ => self.event_step(alloc, who, step, log),
+            _ => self.record_step(alloc, who, step, log),
         }
     }
 
     // A client becomes live, with room for its handles and iterations; where that is refused, the call ends.
+    #[inline(never)]
     fn enter_step(&mut self, alloc: Global, who: Who, log: &mut RunLog)
         requires next { IsNext self.old who (nexts.Event events.Enter) }
         requires client { IsClientName who }
@@ -228,41 +230,13 @@ impl World {
         ensures { Adds log.old log.new (IsStep who self.old self.new) }
     {
         match self.tables.at(client_by(who)).take_room(alloc) {
-            Ok(()) => self.record_step(alloc, who, RecordStep::Enter, None, log),
+            Ok(()) => self.record_step(alloc, who, RecordStep::Enter, log),
             Err(AllocError) => self.refuse_step(who, RecordStep::Enter, &Reply::NoMemory, log),
         }
     }
 
-    // A step of the record, which it may refuse.
-    fn event_step(&mut self, alloc: Global, who: Who, step: RecordStep, log: &mut RunLog)
-        requires next { IsNext self.old who (nexts.Event step) }
-        requires not_enter { step ≢ events.Enter }
-        requires plain { IsPlain step }
-        requires client { IsClientName who }
-        requires shown { IsShown self.old }
-        requires roomy { HasNumbersLeft self.old }
-        requires spare { 1 ≤ log.old.spare }
-        ensures { Adds log.old log.new (IsStep who self.old self.new) }
-    {
-        match self.granted(who, &step) {
-            Ok(ckpt) => self.record_step(alloc, who, step, ckpt, log),
-            Err(maker) => self.refuse_step(who, step, &Reply::Held(maker), log),
-        }
-    }
-
-    // The checkpoint of the step, where the record does not refuse it; else the call that is making that.
-    fn granted(&self, who: Who, step: &RecordStep) -> Result<Option<CkptId>, CallId>
-        requires next { IsNext self.now who (nexts.Event step.now) }
-        requires roomy { HasNumbersLeft self.now }
-        ensures { (hand : InHand) → hand_at self.now.hands who ≡ Some hand → result ≡ event_granted self.now.cluster hand.driver step.now }
-    {
-        let Some(hand) = self.hands.find(who) else {
-            unreachable!()
-        };
-        event_granted(&self.cluster, &hand.driver, step)
-    }
-
     // A step is refused by the record, or the memory that it takes. The call takes that, and ends.
+    #[inline(never)]
     fn refuse_step(&mut self, who: Who, step: RecordStep, reply: &Reply, log: &mut RunLog)
         requires next { IsNext self.old who (nexts.Event step) }
         requires plain { IsPlain step }
@@ -285,19 +259,11 @@ impl World {
         log.push(stepped(call, op, step.verb(), ckpt, node, refusal_word(reply), end));
     }
 
-    // The call takes a step that the record does not refuse; where its memory is refused, the call ends. A client
+    // The call takes a step of the record, which that may refuse; where its memory is refused, the call ends. A client
     // that becomes live has its room. An open may add a replica.
-    fn record_step(
-        &mut self,
-        alloc: Global,
-        who: Who,
-        step: RecordStep,
-        ckpt: Option<CkptId>,
-        log: &mut RunLog,
-    )
+    #[inline(never)]
+    fn record_step(&mut self, alloc: Global, who: Who, step: RecordStep, log: &mut RunLog)
         requires next { IsNext self.old who (nexts.Event step) }
-        requires ckpt { (hand : InHand) → hand_at self.old.hands who ≡ Some hand → ckpt ≡ event_ckpt self.old.cluster hand.driver step }
-        requires granted { (hand : InHand) → hand_at self.old.hands who ≡ Some hand → event_refusal self.old.cluster step hand.driver ≡ None }
         requires plain { IsPlain step }
         requires has_room { step ≡ events.Enter → room_is_taken (slice_get self.old.tables (client_by who)) ≡ true }
         requires client { IsClientName who }
@@ -308,6 +274,12 @@ impl World {
     {
         let slot = self.hands.at(who);
         let Some(hand) = slot else { unreachable!() };
+        let ckpt = match event_granted(&self.cluster, &hand.driver, &step) {
+            Ok(ckpt) => ckpt,
+            Err(maker) => {
+                return self.refuse_step(who, step, &Reply::Held(maker), log);
+            }
+        };
         let call = hand.call;
         let op = hand.word();
         let node = event_node(&hand.driver, &step);

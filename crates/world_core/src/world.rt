@@ -77,7 +77,7 @@ impl World {
     pub fn in_hand(&self, who: Who) -> bool
         ensures { result ≡ is_some (call_in_hand self.now who) }
     {
-        self.hands.has(who)
+        self.hands.find(who).is_some()
     }
 
     /// One event, and one label more, which answers it. Want of memory leaves the world and the log as

@@ -19,7 +19,7 @@ use Rattle.world_core.proofs.Waits.{none_there, next_begun, hand_begun, waits}
 use Rattle.world_core.proofs.world.World.begin_call.Goals as goal
 
 pub returns-in_err-hand-clause-err : goal.returns-in_err-hand-clause-err
-returns-in_err-hand-clause-err c = left_alone c.from_residual.result c.args.self.now (Actor (Client c.args.c)) c.at_client-slot.result.now c.args.log.now.labels c.at_client-slot.ensures.value
+returns-in_err-hand-clause-err c = left_alone c.from_residual-in_err-hand.result c.args.self.now (Actor (Client c.args.c)) c.at_client-slot.result.now c.args.log.now.labels c.at_client-slot.ensures.value
 
 pub returns-clause-ok : goal.returns-clause-ok
 returns-clause-ok c =
@@ -39,7 +39,7 @@ returns-clause-ok c =
     let tables_are = ap (slice_set w.tables n) c.begin.ensures ∙ changed_is w.tables n c.at.result.now c.at.ensures.value (begun_with None call c.args.op handle) in
     record {
       label = _;
-      labels = c.push.ensures.labels;
+      labels = c.push-2.ensures.labels;
       is = subst (λ (o : Option InHand). Begins n c.args.op w (record w { tables = slice_set w.tables n c.begin.new.self; hands = set_at w.hands (Actor (Client n)) o }) (Began call c.args.op None Nothing)) (sym c.take_place.ensures)
           (waits w n c.number.result c.args.op handle hand (slice_set w.tables n c.begin.new.self) is begun c.at_client-slot.ensures.there tables_are);
     }

@@ -1,7 +1,6 @@
 use Rattle.std.proofs.Common.{sym, refl, subst}
 use Rattle.node_msgs.specs.declared.next.Next.TheVariants.{Event}
 use Rattle.node_msgs.specs.declared.next.RecordStep.TheVariants.{Enter}
-use Rattle.world_core.proofs.Granted.{no_ckpt}
 use Rattle.world_core.specs.declared.world.World.{World}
 use Rattle.world_core.specs.Happenings.{IsStep}
 use Rattle.world_core.specs.Shows.{IsShown, HasNumbersLeft}
@@ -12,9 +11,6 @@ use Rattle.world_core.proofs.world.World.enter_step.Goals as goal
 pub record_step-requires-clause-next : goal.record_step-requires-clause-next
 record_step-requires-clause-next c = (keeps_taken c.args.self.now c.args.who c.client_by.result _ c.take_room.new.self c.client_by.ensures c.at.ensures.value c.in-Ok.ensures.taken).next (Event Enter) c.requires.next
 
-pub record_step-requires-clause-ckpt : goal.record_step-requires-clause-ckpt
-record_step-requires-clause-ckpt c hand held = no_ckpt c.args.self.now.cluster hand.driver
-
 pub record_step-requires-clause-has_room : goal.record_step-requires-clause-has_room
 record_step-requires-clause-has_room c is = (keeps_taken c.args.self.now c.args.who c.client_by.result _ c.take_room.new.self c.client_by.ensures c.at.ensures.value c.in-Ok.ensures.taken).has_room
 
@@ -23,9 +19,6 @@ record_step-requires-clause-shown c = (keeps_taken c.args.self.now c.args.who c.
 
 pub record_step-requires-clause-roomy : goal.record_step-requires-clause-roomy
 record_step-requires-clause-roomy c = (keeps_taken c.args.self.now c.args.who c.client_by.result _ c.take_room.new.self c.client_by.ensures c.at.ensures.value c.in-Ok.ensures.taken).roomy c.requires.roomy
-
-pub record_step-requires-clause-granted : goal.record_step-requires-clause-granted
-record_step-requires-clause-granted c hand held = refl
 
 pub refuse_step-requires-clause-refused : goal.refuse_step-requires-clause-refused
 refuse_step-requires-clause-refused c hand held = refl

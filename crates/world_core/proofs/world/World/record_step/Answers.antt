@@ -3,78 +3,117 @@ use Rattle.std.specs.Prelude.{Option, IsTrue, slice_set}
 use Rattle.ckpt_types.specs.Asks.{asked}
 use Rattle.ckpt_types.specs.declared.answers.Outcome.{Outcome}
 use Rattle.node_msgs.specs.declared.details.Details.TheVariants.{Nothing}
-use Rattle.node_msgs.specs.declared.replies.Reply.TheVariants.{NoMemory}
+use Rattle.node_msgs.specs.declared.replies.Reply.TheVariants.{Held, NoMemory}
 use Rattle.node_msgs.specs.declared.steps.StepReply.TheVariants.{Memory}
 use Rattle.run_labels.specs.declared.labels.Label.{Label}
 use Rattle.run_labels.specs.declared.labels.Label.TheVariants.{Stepped}
 use Rattle.cluster_record.specs.Calls.{left}
 use Rattle.world_core.specs.declared.world.World.{World}
-use Rattle.world_core.specs.Happenings.{IsStep}
+use Rattle.world_core.specs.Happenings.{IsNext, IsStep}
+use Rattle.world_core.specs.Shows.{IsShown, HasNumbersLeft}
 use Rattle.world_core.specs.Settling.{CanSettle}
 use Rattle.world_core.specs.RecordReady.{IsRefusedAs}
+use Rattle.client_calls.specs.declared.in_hand.InHand.{InHand}
+use Rattle.client_calls.specs.Granting.{event_granted}
 use Rattle.client_calls.specs.Taking.{hand_outcome}
 use Rattle.node_msgs.specs.declared.next.Next.TheVariants.{Event}
-use Rattle.ckpt_machine.specs.Driving.{takes_memory}
+use Rattle.ckpt_machine.specs.Driving.{event_refusal, takes_memory}
 use Rattle.ckpt_machine.specs.Tables.{handle_closed}
 use Rattle.world_core.specs.RecordAfter.{event_after, nodes_behind, snapshots_behind}
 use Rattle.world_core.specs.HandsState.{hand_at, set_at}
 use Rattle.world_core.specs.Alone.{ended_at}
 use Rattle.world_core.specs.Freeing.{freed_world}
-use Rattle.world_core.proofs.EventEnds.{done_ends, done_keeps, refused_ends}
+use Rattle.world_core.proofs.EventEnds.{done_ends, done_keeps, granted_at, kept_off_as, refused_ends}
+use Rattle.world_core.proofs.Granted.{granted_ok}
 use Rattle.world_core.proofs.Going.{length-behind}
+use Rattle.world_core.proofs.HandPlaces.{same_world}
 use Rattle.world_core.proofs.Held.{next_for}
 use Rattle.world_core.proofs.NoneGone.{none_freed}
 use Rattle.world_core.proofs.RecordEvent.{can_add, can_settle, is_found, is_ready, when_ok, when_err, event_step, refused_step}
 use Rattle.world_core.proofs.TableSteps.{kept_is, may_settle, settled_is}
 use Rattle.world_core.proofs.world.World.record_step.Goals as goal
 
+-- another call is making the checkpoint that it would open; the place comes back as it was
+pub refuse_step-requires-clause-next : goal.refuse_step-requires-clause-next
+refuse_step-requires-clause-next c = subst (λ (w : World). IsNext w c.args.who (Event c.args.step)) (sym (same_world c.args.self.now c.args.who (Some c.in-Some.hand) (c.at-slot.ensures.value ∙ c.in-Some.is))) c.requires.next
+
+pub refuse_step-requires-clause-refused : goal.refuse_step-requires-clause-refused
+refuse_step-requires-clause-refused c =
+    let w = c.args.self.now in
+    let held : hand_at w.hands c.args.who ≡ Some c.in-Some.hand = c.at-slot.ensures.value ∙ c.in-Some.is in
+    subst (λ (w : World). (hand : InHand) → hand_at w.hands c.args.who ≡ Some hand → IsRefusedAs (event_refusal w.cluster c.args.step hand.driver) c.args.step (Held c.in-Err.maker)) (sym (same_world w c.args.who (Some c.in-Some.hand) held))
+    (λ hand is.
+    let both : Some c.in-Some.hand ≡ Some hand = sym held ∙ is in
+    let one : c.in-Some.hand ≡ hand = cc both in
+    kept_off_as w c.args.who c.args.step hand is (next_for w c.args.who (Event c.args.step) hand is c.requires.next) c.requires.shown c.event_granted.result (c.event_granted.ensures ∙ ap (λ (h : InHand). event_granted w.cluster h.driver c.args.step) one) c.in-Err.maker c.in-Err.is)
+
+pub refuse_step-requires-clause-shown : goal.refuse_step-requires-clause-shown
+refuse_step-requires-clause-shown c = subst IsShown (sym (same_world c.args.self.now c.args.who (Some c.in-Some.hand) (c.at-slot.ensures.value ∙ c.in-Some.is))) c.requires.shown
+
+pub refuse_step-requires-clause-roomy : goal.refuse_step-requires-clause-roomy
+refuse_step-requires-clause-roomy c = subst HasNumbersLeft (sym (same_world c.args.self.now c.args.who (Some c.in-Some.hand) (c.at-slot.ensures.value ∙ c.in-Some.is))) c.requires.roomy
+
+pub returns-in-Err : goal.returns-in-Err
+returns-in-Err c =
+    let refused = c.refuse_step.ensures in
+    record {
+      label = refused.label;
+      labels = refused.labels;
+      is = subst (λ (w : World). IsStep c.args.who w c.refuse_step.new.self refused.label) (same_world c.args.self.now c.args.who (Some c.in-Some.hand) (c.at-slot.ensures.value ∙ c.in-Some.is)) refused.is;
+    }
+
 pub apply-applied-requires-clause-ready : goal.apply-applied-requires-clause-ready
 apply-applied-requires-clause-ready c =
     let w = c.args.self.now in
     let hand = c.in-Some.hand in
     let held : hand_at w.hands c.args.who ≡ Some hand = c.at-slot.ensures.value ∙ c.in-Some.is in
-    is_ready w c.args.who c.args.step hand held (next_for w c.args.who (Event c.args.step) hand held c.requires.next) c.requires.shown (c.requires.granted hand held) c.requires.roomy
+    let granted = granted_ok w.cluster hand.driver c.args.step c.event_granted.result c.in-Ok.ckpt c.in-Ok.is (granted_at w c.args.who c.args.step hand held (next_for w c.args.who (Event c.args.step) hand held c.requires.next) c.requires.shown c.event_granted.result c.event_granted.ensures) in
+    is_ready w c.args.who c.args.step hand held (next_for w c.args.who (Event c.args.step) hand held c.requires.next) c.requires.shown granted.0 c.requires.roomy
 
 pub apply-applied-requires-clause-free : goal.apply-applied-requires-clause-free
 apply-applied-requires-clause-free c =
     let w = c.args.self.now in
     let hand = c.in-Some.hand in
     let held : hand_at w.hands c.args.who ≡ Some hand = c.at-slot.ensures.value ∙ c.in-Some.is in
-    can_add w c.args.who c.args.step hand held (next_for w c.args.who (Event c.args.step) hand held c.requires.next) c.requires.shown (c.requires.granted hand held)
+    let granted = granted_ok w.cluster hand.driver c.args.step c.event_granted.result c.in-Ok.ckpt c.in-Ok.is (granted_at w c.args.who c.args.step hand held (next_for w c.args.who (Event c.args.step) hand held c.requires.next) c.requires.shown c.event_granted.result c.event_granted.ensures) in
+    can_add w c.args.who c.args.step hand held (next_for w c.args.who (Event c.args.step) hand held c.requires.next) c.requires.shown granted.0
 
 pub apply-applied-requires-clause-found : goal.apply-applied-requires-clause-found
 apply-applied-requires-clause-found c =
     let w = c.args.self.now in
     let hand = c.in-Some.hand in
     let held : hand_at w.hands c.args.who ≡ Some hand = c.at-slot.ensures.value ∙ c.in-Some.is in
-    is_found w c.args.who c.args.step hand held (next_for w c.args.who (Event c.args.step) hand held c.requires.next) c.requires.shown c.args.ckpt (c.requires.granted hand held) c.requires.roomy (c.requires.ckpt hand held)
+    let granted = granted_ok w.cluster hand.driver c.args.step c.event_granted.result c.in-Ok.ckpt c.in-Ok.is (granted_at w c.args.who c.args.step hand held (next_for w c.args.who (Event c.args.step) hand held c.requires.next) c.requires.shown c.event_granted.result c.event_granted.ensures) in
+    is_found w c.args.who c.args.step hand held (next_for w c.args.who (Event c.args.step) hand held c.requires.next) c.requires.shown c.in-Ok.ckpt granted.0 c.requires.roomy granted.1
 
 pub settle-requires : goal.settle-requires
 settle-requires c =
     let w = c.args.self.now in
     let hand = c.in-Some.hand in
     let held : hand_at w.hands c.args.who ≡ Some hand = c.at-slot.ensures.value ∙ c.in-Some.is in
+    let granted = granted_ok w.cluster hand.driver c.args.step c.event_granted.result c.in-Ok.ckpt c.in-Ok.is (granted_at w c.args.who c.args.step hand held (next_for w c.args.who (Event c.args.step) hand held c.requires.next) c.requires.shown c.event_granted.result c.event_granted.ensures) in
     may_settle w.tables c.client_by-c.result _ c.at-table.ensures.value hand.op c.args.step
-    (subst (λ n. CanSettle n hand.op c.args.step w.tables) (sym c.client_by-c.ensures) (can_settle w c.args.who c.args.step hand held (next_for w c.args.who (Event c.args.step) hand held c.requires.next) c.requires.shown (c.requires.granted hand held) c.requires.roomy c.requires.has_room))
+    (subst (λ n. CanSettle n hand.op c.args.step w.tables) (sym c.client_by-c.ensures) (can_settle w c.args.who c.args.step hand held (next_for w c.args.who (Event c.args.step) hand held c.requires.next) c.requires.shown granted.0 c.requires.roomy c.requires.has_room))
 
 pub returns-then-is_err : goal.returns-then-is_err
 returns-then-is_err c =
     let w = c.args.self.now in
     let hand = c.in-Some.hand in
     let held : hand_at w.hands c.args.who ≡ Some hand = c.at-slot.ensures.value ∙ c.in-Some.is in
+    let granted = granted_ok w.cluster hand.driver c.args.step c.event_granted.result c.in-Ok.ckpt c.in-Ok.is (granted_at w c.args.who c.args.step hand held (next_for w c.args.who (Event c.args.step) hand held c.requires.next) c.requires.shown c.event_granted.result c.event_granted.ensures) in
     let err = sym c.is_err.ensures.value ∙ c.if-is_err.true in
     let same : (c.apply-applied.new.cluster ≡ w.cluster) × (c.apply-applied.new.nodes ≡ w.nodes) × (c.apply-applied.new.snapshots ≡ w.snapshots) = when_err ((c.apply-applied.new.cluster ≡ w.cluster) × (c.apply-applied.new.nodes ≡ w.nodes) × (c.apply-applied.new.snapshots ≡ w.snapshots)) c.apply-applied.result err c.apply-applied.ensures.err in
     let takes : IsTrue (takes_memory c.args.step) = when_err (IsTrue (takes_memory c.args.step)) c.apply-applied.result err c.apply-applied.ensures.memory in
-    let refused = refused_ends w c.args.who c.args.step hand held (next_for w c.args.who (Event c.args.step) hand held c.requires.next) c.requires.shown NoMemory (subst (λ (o : Option Outcome). IsRefusedAs o c.args.step NoMemory) (sym (c.requires.granted hand held)) takes) in
+    let refused = refused_ends w c.args.who c.args.step hand held (next_for w c.args.who (Event c.args.step) hand held c.requires.next) c.requires.shown NoMemory (subst (λ (o : Option Outcome). IsRefusedAs o c.args.step NoMemory) (sym granted.0) takes) in
     let end_is : c.take_refusal-end.result ≡ Some refused.0 = c.take_refusal-end.ensures.outcome ∙ ap (λ R. hand_outcome R NoMemory hand) same.0 ∙ refused.1 in
     let gone : c.let_go.new.slot ≡ None = c.let_go.ensures ∙ ap (λ end. left end c.take_refusal-end.new.self) end_is in
     record {
       label = _;
       labels = c.push.ensures.labels;
       is = subst (λ (label : Label). IsStep c.args.who w c.end_alone.new.self label)
-          (sym (c.stepped.ensures ∙ ap (λ end. Stepped hand.call c.word-op.result c.verb-verb.result c.args.ckpt c.event_node-node.result Memory end Nothing) end_is))
-          (refused_step w c.args.who c.args.step hand held (next_for w c.args.who (Event c.args.step) hand held c.requires.next) c.requires.shown c.end_alone.new.self c.word-op.result c.verb-verb.result c.args.ckpt c.event_node-node.result Memory refused.0 c.requires.plain refused.2
-          (c.end_alone.ensures ∙ (λ i. ended_at c.args.who (end_is i) (record w { cluster = same.0 i; nodes = same.1 i; snapshots = same.2 i; hands = set_at w.hands c.args.who (gone i) }))) (c.requires.ckpt hand held) c.event_node-node.ensures c.word-op.ensures c.verb-verb.ensures);
+          (sym (c.stepped.ensures ∙ ap (λ end. Stepped hand.call c.word-op.result c.verb-verb.result c.in-Ok.ckpt c.event_node-node.result Memory end Nothing) end_is))
+          (refused_step w c.args.who c.args.step hand held (next_for w c.args.who (Event c.args.step) hand held c.requires.next) c.requires.shown c.end_alone.new.self c.word-op.result c.verb-verb.result c.in-Ok.ckpt c.event_node-node.result Memory refused.0 c.requires.plain refused.2
+          (c.end_alone.ensures ∙ (λ i. ended_at c.args.who (end_is i) (record w { cluster = same.0 i; nodes = same.1 i; snapshots = same.2 i; hands = set_at w.hands c.args.who (gone i) }))) granted.1 c.event_node-node.ensures c.word-op.ensures c.verb-verb.ensures);
     }
 
 -- behind the apply, where it takes place
@@ -98,6 +137,7 @@ returns c =
     let w = c.args.self.now in
     let hand = c.in-Some.hand in
     let held : hand_at w.hands c.args.who ≡ Some hand = c.at-slot.ensures.value ∙ c.in-Some.is in
+    let granted = granted_ok w.cluster hand.driver c.args.step c.event_granted.result c.in-Ok.ckpt c.in-Ok.is (granted_at w c.args.who c.args.step hand held (next_for w c.args.who (Event c.args.step) hand held c.requires.next) c.requires.shown c.event_granted.result c.event_granted.ensures) in
     let next = next_for w c.args.who (Event c.args.step) hand held c.requires.next in
     let ok = sym c.is_err.ensures.value ∙ c.if-is_err.false in
     let record_is : c.apply-applied.new.cluster ≡ event_after hand.call hand.driver c.args.step w.cluster = when_ok (c.apply-applied.new.cluster ≡ event_after hand.call hand.driver c.args.step w.cluster) c.apply-applied.result ok c.apply-applied.ensures.ok in
@@ -105,14 +145,14 @@ returns c =
     let snapshots_are : c.apply-applied.new.snapshots ≡ snapshots_behind hand.driver c.args.step w.cluster w.snapshots = when_ok (c.apply-applied.new.snapshots ≡ snapshots_behind hand.driver c.args.step w.cluster w.snapshots) c.apply-applied.result ok c.apply-applied.ensures.snapshots in
     let eight : length w.nodes ≡ 8 = sym (ap length nodes_are ∙ length-behind hand.driver c.args.step w.cluster w.nodes) ∙ sym (ap (λ (x : World). length x.nodes) c.let_go_with.ensures) ∙ c.free_gone_since.ensures.eight in
     let there = c.at-table.ensures.value in
-    let tables_are = ap (slice_set w.tables c.client_by-c.result) c.settle.ensures ∙ settled_is w.tables c.client_by-c.result _ there c.apply-applied.new.cluster hand.op c.args.step c.args.ckpt in
+    let tables_are = ap (slice_set w.tables c.client_by-c.result) c.settle.ensures ∙ settled_is w.tables c.client_by-c.result _ there c.apply-applied.new.cluster hand.op c.args.step c.in-Ok.ckpt in
     let closed_is = c.handle_closed-closed.ensures ∙ ap (handle_closed (asked hand.op)) (sym (kept_is w.tables c.client_by-c.result _ there)) in
     let new_is = c.end_alone-2.ensures ∙ ap (ended_at c.args.who c.take_done-end.result) (c.free_gone_since.ensures.new ∙ ap freed_world c.let_go_with.ensures) in
     record {
       label = _;
       labels = c.push-2.ensures.labels;
       is = subst (λ (label : Label). IsStep c.args.who w c.end_alone-2.new.self label) (sym c.stepped-2.ensures)
-          (event_step w c.args.who c.args.step hand held next c.requires.shown c.end_alone-2.new.self c.apply-applied.new.cluster c.apply-applied.new.nodes c.apply-applied.new.snapshots (slice_set w.tables c.client_by-c.result c.settle.new.table) c.take_done-end.new.self c.let_go-2.new.slot c.client_by-c.result c.handle_closed-closed.result c.word-op.result c.verb-verb.result c.args.ckpt c.event_node-node.result c.take_done-end.result
-          (c.requires.granted hand held) c.requires.plain c.requires.roomy c.requires.has_room eight record_is (c.requires.ckpt hand held) c.event_node-node.ensures (c.take_done-end.ensures.outcome ∙ done_ends w c.args.who c.args.step hand held next c.requires.shown (c.requires.granted hand held) c.apply-applied.new.cluster c.args.ckpt record_is (c.requires.ckpt hand held)) tables_are
-          (c.take_done-end.ensures.new ∙ done_keeps w c.args.who c.args.step hand held next c.requires.shown (c.requires.granted hand held) c.apply-applied.new.cluster c.args.ckpt c.event_node-node.result record_is (c.requires.ckpt hand held) c.event_node-node.ensures) c.let_go-2.ensures nodes_are snapshots_are c.client_by-c.ensures closed_is new_is c.word-op.ensures c.verb-verb.ensures);
+          (event_step w c.args.who c.args.step hand held next c.requires.shown c.end_alone-2.new.self c.apply-applied.new.cluster c.apply-applied.new.nodes c.apply-applied.new.snapshots (slice_set w.tables c.client_by-c.result c.settle.new.table) c.take_done-end.new.self c.let_go-2.new.slot c.client_by-c.result c.handle_closed-closed.result c.word-op.result c.verb-verb.result c.in-Ok.ckpt c.event_node-node.result c.take_done-end.result
+          granted.0 c.requires.plain c.requires.roomy c.requires.has_room eight record_is granted.1 c.event_node-node.ensures (c.take_done-end.ensures.outcome ∙ done_ends w c.args.who c.args.step hand held next c.requires.shown granted.0 c.apply-applied.new.cluster c.in-Ok.ckpt record_is granted.1) tables_are
+          (c.take_done-end.ensures.new ∙ done_keeps w c.args.who c.args.step hand held next c.requires.shown granted.0 c.apply-applied.new.cluster c.in-Ok.ckpt c.event_node-node.result record_is granted.1 c.event_node-node.ensures) c.let_go-2.ensures nodes_are snapshots_are c.client_by-c.ensures closed_is new_is c.word-op.ensures c.verb-verb.ensures);
     }
