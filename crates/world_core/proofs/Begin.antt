@@ -190,15 +190,9 @@ pub call_begins : (w : World) (c : ℕ) (call : CallId) (op : Op) (h : Option Ha
 call_begins w c call op h end details o tables hands is told begun under tables_are =
     let (t, table) = there_is w.tables c is.table in
     let b : slice_set w.tables c (begun_with end call op h t) ≡ tables = ap (table_changed c (begun_with end call op h) w.tables) (sym table) ∙ sym tables_are in
-    by_parts call h is.call_is is.handle t table is begun under b
-  where
-    by_parts : (call : CallId) (h : Option HandleView) → call ≡ record { actor = Client c; number = next_in (slice_get w.tables c) } → h ≡ handle_asked (asked op) (kept_by w.tables c) → (t : TableState) → slice_get w.tables c ≡ Some t
-        → IsNextBegun w c call op h end → IsBegunAs (goes_on (word_of_op op) end) call op (kept_at_beginning w.cluster c h) o → HasUnder w.hands (stepped_as call (word_of_op op)) o hands → slice_set w.tables c (begun_with end call op h t) ≡ tables
-        → Begins c op w (record w { tables = tables; hands = hands }) (Began call op end details)
-    by_parts call h call_is handle_is t table is begun under b =
-        subst (λ (x : List TableState). Begins c op w (record w { tables = x; hands = hands }) (Began call op end details)) b
-        (subst (λ (z : CallId × Option HandleView). IsNextBegun w c z.0 op z.1 end → IsBegunAs (goes_on (word_of_op op) end) z.0 op (kept_at_beginning w.cluster c z.1) o → HasUnder w.hands (stepped_as z.0 (word_of_op op)) o hands → Begins c op w (record w { tables = slice_set w.tables c (begun_with end z.0 op z.1 t); hands = hands }) (Began z.0 op end details))
-        (λ i. (sym call_is i, sym handle_is i)) (λ is begun under. begins_so w c op end t table o hands details is told begun under) is begun under)
+    subst (λ (x : List TableState). Begins c op w (record w { tables = x; hands = hands }) (Began call op end details)) b
+    (subst (λ (z : CallId × Option HandleView). IsNextBegun w c z.0 op z.1 end → IsBegunAs (goes_on (word_of_op op) end) z.0 op (kept_at_beginning w.cluster c z.1) o → HasUnder w.hands (stepped_as z.0 (word_of_op op)) o hands → Begins c op w (record w { tables = slice_set w.tables c (begun_with end z.0 op z.1 t); hands = hands }) (Began z.0 op end details))
+    (λ i. (sym is.call_is i, sym is.handle i)) (λ is begun under. begins_so w c op end t table o hands details is told begun under) is begun under)
 
 -- ---- one that is answered at once, and does not go on
 

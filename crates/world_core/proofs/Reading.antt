@@ -1,5 +1,5 @@
 -- The step in which the active reads, as the code takes it.
-use Rattle.std.proofs.Common.{◌≡◌, ℕ, zero, suc, ℤ, Bool, true, false, List, [], ◌∷◌, cond, ◌==◌, refl, sym, ap, subst, ◌∙◌}
+use Rattle.std.proofs.Common.{◌≡◌, ℕ, ℤ, Bool, true, false, List, [], ◌∷◌, cond, ◌==◌, refl, sym, ap, subst, ◌∙◌}
 use Rattle.std.specs.Prelude.{Option, Some, None, Result, Ok, Err, IfOk, IfSome, IsSome, slice_get, slice_set}
 use Rattle.ckpt_types.specs.declared.answers.Answer.TheVariants as answers
 use Rattle.ckpt_types.specs.declared.answers.Outcome.{Outcome}
@@ -41,6 +41,7 @@ use Rattle.world_core.specs.Happenings.{IsNext, IsStep}
 use Rattle.world_core.specs.Nodes.{node_at, nodes_after, replica_in, with_changed}
 use Rattle.client_calls.specs.ReadTold.{read_told}
 use Rattle.world_core.specs.Shows.{IsShown}
+use Rattle.world_core.proofs.HandLaws.{list_again}
 use Rattle.world_core.proofs.Held.{with_copy}
 use Rattle.world_core.proofs.Serve.{its_copy, its_details, its_end, served_world}
 use Rattle.world_core.proofs.Staging.{copy_kept}
@@ -56,13 +57,8 @@ change_stays k (x ∷ xs) = by_test (x.ckpt == k) (change_stays k xs)
     by_test true more = refl
     by_test false more = ap (λ (ys : List Replica). x ∷ ys) more
 
-set_stays : (nodes : List (List Replica)) (r : ℕ) (xs : List Replica) → xs ≡ list_or (slice_get nodes r) → slice_set nodes r xs ≡ nodes
-set_stays [] r xs is = refl
-set_stays (ys ∷ nodes) zero xs is = ap (λ (zs : List Replica). zs ∷ nodes) is
-set_stays (ys ∷ nodes) (suc r) xs is = ap (λ (rest : List (List Replica)). ys ∷ rest) (set_stays nodes r xs is)
-
 nodes_stay : (k r : ℕ) (nodes : List (List Replica)) → with_changed k r (λ x. x) nodes ≡ nodes
-nodes_stay k r nodes = set_stays nodes r (change_key replica_key k (λ x. x) (list_or (slice_get nodes r))) (change_stays k (list_or (slice_get nodes r)))
+nodes_stay k r nodes = ap (slice_set nodes r) (change_stays k (list_or (slice_get nodes r))) ∙ list_again nodes r
 
 -- ---- what is told beside it
 
