@@ -3,10 +3,10 @@ use Rattle.std.proofs.Common.{◌≡◌, ◌⊎◌, inl, inr, ℕ, ◌≤◌, �
 use Rattle.std.specs.Prelude.{Option, Some, None, is_some, IsSomeAnd, not, ◌&&◌, nat_lt, slice_get, slice_index}
 use Rattle.std.specs.Option.{option_map}
 use Rattle.std.proofs.lemmas.Bool.{eqb-true}
-use Rattle.std.proofs.lemmas.Option.{slice_get-map}
+use Rattle.std.proofs.lemmas.Option.{same_Some, slice_get-map}
 use Rattle.cluster_record.specs.declared.entries.Entry.{Entry}
 use Rattle.cluster_record.specs.Places.{find_key, list_or}
-use Rattle.cluster_record.specs.RecordState.{RecordState, entry_of, complete_of}
+use Rattle.cluster_record.specs.RecordState.{RecordState, entry_of, complete_of, is_up}
 use Rattle.run_labels.specs.declared.labels.Label.{Label}
 use Rattle.replica.specs.Replicas.{Replica, opened_replica}
 use Rattle.world_core.specs.declared.world.World.{World}
@@ -21,36 +21,28 @@ use Rattle.world_core.specs.Nodes.{replica_in}
 use Rattle.ckpt_machine.specs.Facts.{Facts}
 use Rattle.world_core.specs.Shows.{History, shown_replica, shown_reservation, where_complete, where_not_complete, complete_replica, reserved_in, machine_of, shown_snapshot, snapshot_shown, FitsReplica, FitsSnapshot, HistoryFits, Shows, Does}
 use Rattle.ckpt_machine.specs.Steps.{IsDue, after, snapshot_under}
-use Rattle.world_core.proofs.HoldingLaws.{held_at, holds_by_key}
+use Rattle.world_core.proofs.HoldingLaws.{StandsFor, held_at, holds_by_key, standing}
 use Rattle.ckpt_machine.proofs.OnceByKey.{counted, counted-filter}
-use Rattle.world_core.proofs.Recording.{GoesAt, StandsOn, zero_there}
+use Rattle.world_core.proofs.Recording.{GoesAt, NodeGoes, zero_there}
 
 -- ---- found by a key among those of some keys
 
 module _ {X : Type 0} (key : X → ℕ) (stays : ℕ → Bool) where
-  kept_case : (k : ℕ) (x : X) (rest : Option X) (a b : Bool) → (b ≡ true → a ≡ stays k) → cond a (cond b (Some x) (cond (stays k) rest None)) (cond (stays k) rest None) ≡ cond (stays k) (cond b (Some x) rest) None
-  kept_case k x rest a true same = by_stay (stays k) a (same refl) where
-    by_stay : (s a : Bool) → a ≡ s → cond a (Some x) (cond s rest None) ≡ cond s (Some x) None
-    by_stay true a e = ap (λ b. cond b (Some x) rest) e
-    by_stay false a e = ap (λ b. cond b (Some x) None) e
-  kept_case k x rest true false same = refl
-  kept_case k x rest false false same = refl
+  kept_case : (x : X) (rest : Option X) (a b s : Bool) → (b ≡ true → a ≡ s) → cond a (cond b (Some x) (cond s rest None)) (cond s rest None) ≡ cond s (cond b (Some x) rest) None
+  kept_case x rest true true true same = refl
+  kept_case x rest false true false same = refl
+  kept_case x rest true true false same = absurd (let w : true ≡ false = same refl in cc w)
+  kept_case x rest false true true same = absurd (let w : false ≡ true = same refl in cc w)
+  kept_case x rest true false s same = refl
+  kept_case x rest false false s same = refl
 
-  taken_out : (k : ℕ) (x : X) (left : List X) (a : Bool) → find_key key k (cond a (x ∷ left) left) ≡ cond a (cond (key x == k) (Some x) (find_key key k left)) (find_key key k left)
-  taken_out k x left true = refl
-  taken_out k x left false = refl
-
-  none_kept : (s : Bool) → ◌≡◌ {A = Option X} None (cond s None None)
-  none_kept true = refl
-  none_kept false = refl
-
-  pub find_key-filter : (k : ℕ) (xs : List X) → find_key key k (filter (λ x. stays (key x)) xs) ≡ cond (stays k) (find_key key k xs) None
-  find_key-filter k [] = none_kept (stays k)
+  find_key-filter : (k : ℕ) (xs : List X) → find_key key k (filter (λ x. stays (key x)) xs) ≡ cond (stays k) (find_key key k xs) None
+  find_key-filter k [] = elim (stays k) as (λ s. ◌≡◌ {A = Option X} None (cond s None None)) [ true ↦ refl | false ↦ refl ]
   find_key-filter k (x ∷ xs) =
       let left : List X = filter (λ x. stays (key x)) xs in
-      taken_out k x left (stays (key x))
+      elim (stays (key x)) as (λ a. find_key key k (cond a (x ∷ left) left) ≡ cond a (cond (key x == k) (Some x) (find_key key k left)) (find_key key k left)) [ true ↦ refl | false ↦ refl ]
       ∙ ap (λ o. cond (stays (key x)) (cond (key x == k) (Some x) o) o) (find_key-filter k xs)
-      ∙ kept_case k x (find_key key k xs) (stays (key x)) (key x == k) (λ e. ap stays (eqb-true (key x) k e))
+      ∙ kept_case x (find_key key k xs) (stays (key x)) (key x == k) (stays k) (λ e. ap stays (eqb-true (key x) k e))
 
 -- ---- the replicas
 
@@ -134,31 +126,6 @@ Fits-freed w h fits = record {
 
 -- ---- what they hold
 
-held_case : (R N : RecordState) (r : ℕ) (x : Replica) (e f : Option Entry) → N.up ≡ R.up → GoesAt R.up x.ckpt e f r (Some x) → entry_of x.ckpt R.entries ≡ e → entry_of x.ckpt N.entries ≡ f → is_some f ≡ true → IsHeld R r x → IsHeld N r x
-held_case R N r x e None up goes was is there held = absurd (cc there)
-held_case R N r x None (Some f) up goes was is there held = absurd (cc goes.1)
-held_case R N r x (Some e) (Some f) up goes was is there held = record {
-  up = ap (λ (up : List ℕ). nat_lt r 8 && not (slice_index up r == 0)) up ∙ held.up;
-  stands = subst (λ (o : Option Entry). IsSomeAnd o (λ f. (slice_index f.complete r ≡ slice_index N.up r) ⊎ IsReservation f r x)) (sym is) (by_node goes.3);
-} where
-  stood : (slice_index e.complete r ≡ slice_index R.up r) ⊎ IsReservation e r x
-  stood = subst (λ (o : Option Entry). IsSomeAnd o (λ e. (slice_index e.complete r ≡ slice_index R.up r) ⊎ IsReservation e r x)) was held.stands
-
-  as_up : slice_index f.complete r ≡ slice_index R.up r → slice_index f.complete r ≡ slice_index N.up r
-  as_up same = same ∙ ap (λ (up : List ℕ). slice_index up r) (sym up)
-
-  by_node : StandsOn R.up e f r (Some x) → (slice_index f.complete r ≡ slice_index N.up r) ⊎ IsReservation f r x
-  by_node (inr (inl complete)) = inl (as_up complete)
-  by_node (inr (inr none)) = absurd (cc none)
-  by_node (inl same) = elim stood [
-    | inl complete ↦ inl (as_up (same.1 ∙ complete))
-    | inr reservation ↦ inr (record {
-      making = ap is_some same.0 ∙ reservation.making;
-      not_complete = same.1 ∙ reservation.not_complete;
-      opening = reservation.opening ∙ (λ i. opened_replica x.ckpt (sym goes.0 i) (sym goes.1 i));
-    })
-  ]
-
 filtered_once : (p : Replica → Bool) (nodes : List (List Replica)) → ((r k : ℕ) → counted replica_key k (replicas_on nodes r) ≤ 1) → (r k : ℕ) → counted replica_key k (replicas_on (map (filter p) nodes) r) ≤ 1
 filtered_once p nodes once r k =
     subst (λ (o : Option (List Replica)). counted replica_key k (list_or o) ≤ 1) (sym (slice_get-map (filter p) nodes r)) (by_node (slice_get nodes r) (once r k))
@@ -167,27 +134,46 @@ filtered_once p nodes once r k =
     by_node None few = few
     by_node (Some xs) few = let fewer = counted-filter replica_key p k xs in omega (arith, fewer, few)
 
-module _ (R N : RecordState) (nodes : List (List Replica)) (up : N.up ≡ R.up) (goes : (k r : ℕ) → GoesAt R.up k (entry_of k R.entries) (entry_of k N.entries) r (replica_in nodes k r)) where
+module _ (R N : RecordState) (nodes new : List (List Replica)) (up : N.up ≡ R.up) (goes : (k r : ℕ) → GoesAt R.up k (entry_of k R.entries) (entry_of k N.entries) r (replica_in nodes k r) (replica_in new k r)) (holds : HoldsOnlyWhatStands R nodes) where
+  -- what a node has then of a checkpoint that is there is held: it was, or it becomes complete with it
+  held_then : (k r : ℕ) (x : Replica) (old then : Option Entry) → entry_of k R.entries ≡ old → entry_of k N.entries ≡ then → is_some then ≡ true → GoesAt R.up k old then r (replica_in nodes k r) (Some x) → IsHeld N r x
+  held_then k r x old None was is there goes = absurd (cc there)
+  held_then k r x None (Some f) was is there goes = absurd (cc goes.1)
+  held_then k r x (Some e) (Some f) was is there goes = by_node goes.2 where
+    held_as : x.ckpt ≡ k → is_up r R ≡ true → StandsFor R r x f → IsHeld N r x
+    held_as key is_up_there stands = record {
+      up = ap (λ (up : List ℕ). nat_lt r 8 && not (slice_index up r == 0)) up ∙ is_up_there;
+      stands = subst (λ (o : Option Entry). IsSomeAnd o (StandsFor N r x)) (sym (ap (λ j. entry_of j N.entries) key ∙ is))
+          (subst (λ (us : List ℕ). (slice_index f.complete r ≡ slice_index us r) ⊎ IsReservation f r x) (sym up) stands);
+    }
+
+    by_node : NodeGoes R.up k e f r (replica_in nodes k r) (Some x) → IsHeld N r x
+    by_node (inr new) = held_as (ap (λ (x : Replica). x.ckpt) (same_Some x _ new.3)) new.2 (inl new.1)
+    by_node (inl same) =
+        let (held, key) = held_at R nodes holds k r x (sym same.1) in
+        held_as key held.up (elim same.2 [
+          | inr none ↦ absurd (let w : Some x ≡ None = same.1 ∙ none in cc w)
+          | inl making ↦ elim (standing R nodes holds k r e x was (sym same.1)) [
+            | inl complete ↦ inl (same.0 ∙ complete)
+            | inr reservation ↦ inr (record {
+              making = ap is_some making ∙ reservation.making;
+              not_complete = same.0 ∙ reservation.not_complete;
+              opening = reservation.opening ∙ (λ i. opened_replica x.ckpt (sym goes.0 i) (sym goes.1 i));
+            })
+          ]
+        ])
+
   stays : (b : Bool) (o : Option Replica) (x : Replica) → cond b o None ≡ Some x → (b ≡ true) × (o ≡ Some x)
   stays true o x e = (refl, e)
   stays false o x e = absurd (cc e)
 
-  -- after a step of the record, the nodes hold only what stands once they are freed, where what they have was held, or is then
-  pub holds_behind : ((k r : ℕ) (x : Replica) → is_some (entry_of k N.entries) ≡ true → replica_in nodes k r ≡ Some x → (x.ckpt ≡ k) × (IsHeld R r x ⊎ IsHeld N r x)) → ((r k : ℕ) → counted replica_key k (replicas_on nodes r) ≤ 1) → HoldsOnlyWhatStands N (freed N.entries nodes)
-  holds_behind had_or_new once = holds_by_key N (freed N.entries nodes) each (filtered_once (is_there N.entries) nodes once) where
-    each : (k r : ℕ) (x : Replica) → replica_in (freed N.entries nodes) k r ≡ Some x → IsHeld N r x
+  -- so after a step of the record the nodes hold only what stands, once they are freed
+  pub holds_behind : ((r k : ℕ) → counted replica_key k (replicas_on new r) ≤ 1) → HoldsOnlyWhatStands N (freed N.entries new)
+  holds_behind once = holds_by_key N (freed N.entries new) each (filtered_once (is_there N.entries) new once) where
+    each : (k r : ℕ) (x : Replica) → replica_in (freed N.entries new) k r ≡ Some x → IsHeld N r x
     each k r x is =
-        let (there, had) = stays (is_some (entry_of k N.entries)) (replica_in nodes k r) x (sym (replica_in-freed N.entries nodes k r) ∙ is) in
-        let (key, held) = had_or_new k r x there had in
-        let here : GoesAt R.up x.ckpt (entry_of x.ckpt R.entries) (entry_of x.ckpt N.entries) r (Some x) = subst (λ (j : ℕ). GoesAt R.up j (entry_of j R.entries) (entry_of j N.entries) r (Some x)) (sym key) (subst (GoesAt R.up k (entry_of k R.entries) (entry_of k N.entries) r) had (goes k r)) in
-        elim held [
-          | inl before ↦ held_case R N r x (entry_of x.ckpt R.entries) (entry_of x.ckpt N.entries) up here refl refl (ap (λ j. is_some (entry_of j N.entries)) key ∙ there) before
-          | inr now ↦ now
-        ]
-
-  -- as all was where no replica is added
-  pub holds_freed : HoldsOnlyWhatStands R nodes → HoldsOnlyWhatStands N (freed N.entries nodes)
-  holds_freed holds = holds_behind (λ k r x there is. let (held, key) = held_at R nodes holds k r x is in (key, inl held)) holds.once
+        let (there, has) = stays (is_some (entry_of k N.entries)) (replica_in new k r) x (sym (replica_in-freed N.entries new k r) ∙ is) in
+        held_then k r x (entry_of k R.entries) (entry_of k N.entries) refl refl there (subst (GoesAt R.up k (entry_of k R.entries) (entry_of k N.entries) r (replica_in nodes k r)) has (goes k r))
 
 -- ---- a step behind which the nodes are freed
 

@@ -1,7 +1,7 @@
 -- What follows from it that the nodes hold only what stands, and how it is shown.
-use Rattle.std.proofs.Common.{◌≡◌, ◌≢◌, ◌⊎◌, inl, inr, ℕ, zero, suc, ◌<◌, ◌≤◌, Bool, true, false, cond, List, [], ◌∷◌, ◌++◌, length, refl, sym, ap, subst, ◌∙◌, arith}
+use Rattle.std.proofs.Common.{◌≡◌, ◌≢◌, ◌⊎◌, inl, inr, ℕ, ◌<◌, ◌≤◌, Bool, true, false, cond, List, [], ◌∷◌, ◌++◌, length, refl, sym, ap, subst, ◌∙◌, arith}
 use Rattle.std.specs.Prelude.{Option, Some, None, Result, Ok, Err, IsSomeAnd, not, ◌==◌, nat_lt, replicate, slice_get, slice_set, slice_index}
-use Rattle.std.proofs.lemmas.Bool.{and_parts, eqb-true}
+use Rattle.std.proofs.lemmas.Bool.{and_parts, eqb-true, not-true}
 use Rattle.std.proofs.lemmas.Option.{same_Some}
 use Rattle.ckpt_types.specs.declared.answers.Answer.TheVariants as answers
 use Rattle.node_msgs.specs.declared.replies.Reply.{Reply}
@@ -20,13 +20,18 @@ use Rattle.node_core.specs.Seen.{RecordSeen, record_seen, entry_seen, is_complet
 use Rattle.node_core.specs.Serving.{replica_after, generation_seen, installed_of}
 use Rattle.snap_copy.specs.Snapshots.{Snapshot}
 use Rattle.ckpt_machine.specs.Facts.{IsReservable}
-use Rattle.world_core.specs.Nodes.{node_at, nodes_after, replica_in}
+use Rattle.world_core.specs.Nodes.{nodes_after, replica_in, with_changed}
 use Rattle.stage_slot.specs.Slots.{Slot}
 use Rattle.weak_marks.specs.Marks.{Marked}
 use Rattle.ckpt_types.specs.Sections.{Section}
 use Rattle.ckpt_types.specs.Updates.{Refusal}
 use Rattle.cluster_record.proofs.Places.{find_changed, find_pushed, get_set, not_changed, there_is}
 use Rattle.ckpt_machine.proofs.OnceByKey.{counted, counted-change_key, counted-push, found_in, found_once}
+use Rattle.world_core.proofs.Openings.{slice_get-replicate}
+
+-- under an entry a replica stands: the node is complete in its present incarnation, or has reserved in it
+abbrev pub StandsFor : RecordState → ℕ → Replica → Entry → Type 0
+StandsFor R r x e = (slice_index e.complete r ≡ slice_index R.up r) ⊎ IsReservation e r x
 
 -- ---- what a node finds of a checkpoint
 
@@ -57,13 +62,13 @@ module _ (R : RecordState) (nodes : List (List Replica)) (holds : HoldsOnlyWhatS
     by_found None is = refl
     by_found (Some x) is =
         let (held, key) = held_at R nodes holds k r x is in
-        absurd (subst (λ (o : Option Entry). IsSomeAnd o (λ e. (slice_index e.complete r ≡ slice_index R.up r) ⊎ IsReservation e r x)) (ap (λ j. entry_of j R.entries) key ∙ gone) held.stands)
+        absurd (subst (λ (o : Option Entry). IsSomeAnd o (StandsFor R r x)) (ap (λ j. entry_of j R.entries) key ∙ gone) held.stands)
 
   -- of one that stands it has one under an entry
-  pub standing : (e : Entry) (x : Replica) → entry_of k R.entries ≡ Some e → replica_in nodes k r ≡ Some x → (slice_index e.complete r ≡ slice_index R.up r) ⊎ IsReservation e r x
+  pub standing : (e : Entry) (x : Replica) → entry_of k R.entries ≡ Some e → replica_in nodes k r ≡ Some x → StandsFor R r x e
   standing e x there is =
       let (held, key) = held_at R nodes holds k r x is in
-      subst (λ (o : Option Entry). IsSomeAnd o (λ e. (slice_index e.complete r ≡ slice_index R.up r) ⊎ IsReservation e r x)) (ap (λ j. entry_of j R.entries) key ∙ there) held.stands
+      subst (λ (o : Option Entry). IsSomeAnd o (StandsFor R r x)) (ap (λ j. entry_of j R.entries) key ∙ there) held.stands
 
   -- where it is not complete, it has what a reservation makes, or nothing
   pub opening_there : (e : Entry) (x : Replica) → entry_of k R.entries ≡ Some e → slice_index e.complete r ≡ 0 → replica_in nodes k r ≡ Some x → x ≡ opened_replica k e.attributes e.made
@@ -76,12 +81,15 @@ module _ (R : RecordState) (nodes : List (List Replica)) (holds : HoldsOnlyWhatS
 
 -- ---- nothing twice
 
--- where one node has others
-pub once_set : (nodes : List (List Replica)) (r : ℕ) (xs new : List Replica) → slice_get nodes r ≡ Some xs → ((k : ℕ) → counted replica_key k new ≤ 1) → ((q k : ℕ) → counted replica_key k (replicas_on nodes q) ≤ 1) →
-    (q k : ℕ) → counted replica_key k (replicas_on (slice_set nodes r new) q) ≤ 1
-once_set nodes r xs new is few all q k =
-    subst (λ (o : Option (List Replica)). counted replica_key k (list_or o) ≤ 1) (sym (get_set nodes r new xs q is))
-    (elim (q == r) as (λ b. counted replica_key k (list_or (cond b (Some new) (slice_get nodes q))) ≤ 1) [ true ↦ few k | false ↦ all q k ])
+module _ (nodes : List (List Replica)) (r : ℕ) (within : r < length nodes) (new : List Replica) where
+  -- where one node has others
+  on_set : (q : ℕ) → replicas_on (slice_set nodes r new) q ≡ cond (q == r) new (replicas_on nodes q)
+  on_set q =
+      let (xs, at) = there_is nodes r within in
+      ap list_or (get_set nodes r new xs q at) ∙ elim (q == r) as (λ b. list_or (cond b (Some new) (slice_get nodes q)) ≡ cond b new (replicas_on nodes q)) [ true ↦ refl | false ↦ refl ]
+
+  pub once_set : ((k : ℕ) → counted replica_key k new ≤ 1) → ((q k : ℕ) → counted replica_key k (replicas_on nodes q) ≤ 1) → (q k : ℕ) → counted replica_key k (replicas_on (slice_set nodes r new) q) ≤ 1
+  once_set few all q k = subst (λ (ys : List Replica). counted replica_key k ys ≤ 1) (sym (on_set q)) (elim (q == r) as (λ b. counted replica_key k (cond b new (replicas_on nodes q)) ≤ 1) [ true ↦ few k | false ↦ all q k ])
 
 -- ---- a request that a node has served
 
@@ -120,130 +128,93 @@ replicas_served R n request p reply other = refl
 -- a node that sees itself complete is so in the entry
 pub complete_entry : (R : RecordState) (k r : ℕ) → is_complete (record_seen R k r) ≡ true → (e : Entry) × (entry_of k R.entries ≡ Some e) × ((slice_index e.complete r == 0) ≡ false)
 complete_entry R k r complete = by_entry (entry_of k R.entries) refl complete where
-  by_test : (b : Bool) → not b ≡ true → b ≡ false
-  by_test true e = absurd cc
-  by_test false e = refl
-
   by_entry : (o : Option Entry) → entry_of k R.entries ≡ o → is_complete_in (entry_seen r o) ≡ true → (e : Entry) × (entry_of k R.entries ≡ Some e) × ((slice_index e.complete r == 0) ≡ false)
   by_entry None there complete = absurd cc
-  by_entry (Some e) there complete = (e, there, by_test (slice_index e.complete r == 0) complete)
+  by_entry (Some e) there complete = (e, there, not-true (slice_index e.complete r == 0) complete)
 
-module _ (R : RecordState) (nodes : List (List Replica)) (holds : HoldsOnlyWhatStands R nodes) (r : ℕ) (xs : List Replica) (at : slice_get nodes r ≡ Some xs) where
-  -- what the node finds is held
-  found_held : (j : ℕ) (y : Replica) → find_key replica_key j xs ≡ Some y → IsHeld R r y × (y.ckpt ≡ j)
-  found_held j y found = held_at R nodes holds j r y (ap (λ (o : Option (List Replica)). find_key replica_key j (list_or o)) at ∙ found)
-
-  found_once_there : (j : ℕ) → counted replica_key j xs ≤ 1
-  found_once_there j = subst (λ (o : Option (List Replica)). counted replica_key j (list_or o) ≤ 1) at (holds.once r j)
-
-  -- with other replicas, each of which is held, and none of them twice, the nodes hold only what stands
-  pub holds_set : (new : List Replica) → ((j : ℕ) (y : Replica) → find_key replica_key j new ≡ Some y → IsHeld R r y) → ((j : ℕ) → counted replica_key j new ≤ 1) → HoldsOnlyWhatStands R (slice_set nodes r new)
-  holds_set new each once = holds_by_key R (slice_set nodes r new)
-      (λ j q y found. by_place (q == r) j q y refl (ap (λ (o : Option (List Replica)). find_key replica_key j (list_or o)) (sym (get_set nodes r new xs q at)) ∙ found))
-      (once_set nodes r xs new at once holds.once) where
-        by_place : (b : Bool) (j q : ℕ) (y : Replica) → (q == r) ≡ b → find_key replica_key j (list_or (cond b (Some new) (slice_get nodes q))) ≡ Some y → IsHeld R q y
-        by_place true j q y test found = subst (λ (q : ℕ). IsHeld R q y) (sym (eqb-true q r test)) (each j y found)
-        by_place false j q y test found = (held_at R nodes holds j q y found).0
+module _ (R : RecordState) (nodes : List (List Replica)) (holds : HoldsOnlyWhatStands R nodes) (r : ℕ) (within : r < length nodes) where
+  -- with other replicas on the node, each of which is held, and none of them twice, the nodes hold only what stands
+  holds_set : (new : List Replica) → ((j : ℕ) (y : Replica) → find_key replica_key j new ≡ Some y → IsHeld R r y) → ((j : ℕ) → counted replica_key j new ≤ 1) → HoldsOnlyWhatStands R (slice_set nodes r new)
+  holds_set new each once = holds_by_key R (slice_set nodes r new) (λ j q y found. by_place (q == r) j q y refl (ap (find_key replica_key j) (sym (on_set nodes r within new q)) ∙ found)) (once_set nodes r within new once holds.once) where
+    by_place : (b : Bool) (j q : ℕ) (y : Replica) → (q == r) ≡ b → find_key replica_key j (cond b new (replicas_on nodes q)) ≡ Some y → IsHeld R q y
+    by_place true j q y test found = subst (λ (q : ℕ). IsHeld R q y) (sym (eqb-true q r test)) (each j y found)
+    by_place false j q y test found = (held_at R nodes holds j q y found).0
 
   -- with the same ones
-  holds_as_it_was : HoldsOnlyWhatStands R (slice_set nodes r xs)
-  holds_as_it_was = holds_set xs (λ j y found. (found_held j y found).0) found_once_there
+  holds_as_it_was : HoldsOnlyWhatStands R (slice_set nodes r (replicas_on nodes r))
+  holds_as_it_was = holds_set (replicas_on nodes r) (λ j y found. (held_at R nodes holds j r y found).0) (holds.once r)
 
   -- with one of them changed, of a checkpoint for which the node is complete
-  pub holds_changed : (k : ℕ) (e : Entry) (f : Replica → Replica) → ((x : Replica) → replica_key (f x) ≡ replica_key x) → entry_of k R.entries ≡ Some e → (slice_index e.complete r == 0) ≡ false → HoldsOnlyWhatStands R (slice_set nodes r (change_key replica_key k f xs))
-  holds_changed k e f same there complete = by_found (find_key replica_key k xs) refl where
-    held_after : (x : Replica) → find_key replica_key k xs ≡ Some x → IsHeld R r (f x)
+  pub holds_changed : (k : ℕ) (e : Entry) (f : Replica → Replica) → ((x : Replica) → replica_key (f x) ≡ replica_key x) → entry_of k R.entries ≡ Some e → (slice_index e.complete r == 0) ≡ false → HoldsOnlyWhatStands R (with_changed k r f nodes)
+  holds_changed k e f same there complete = by_found (replica_in nodes k r) refl where
+    held_after : (x : Replica) → replica_in nodes k r ≡ Some x → IsHeld R r (f x)
     held_after x is =
-        let (held, key) = found_held k x is in
+        let (held, key) = held_at R nodes holds k r x is in
         record {
           up = held.up;
-          stands = subst (λ (o : Option Entry). IsSomeAnd o (λ e. (slice_index e.complete r ≡ slice_index R.up r) ⊎ IsReservation e r (f x))) (sym (ap (λ j. entry_of j R.entries) (same x ∙ key) ∙ there))
-              (elim (standing R nodes holds k r e x there (ap (λ (o : Option (List Replica)). find_key replica_key k (list_or o)) at ∙ is)) [
+          stands = subst (λ (o : Option Entry). IsSomeAnd o (StandsFor R r (f x))) (sym (ap (λ j. entry_of j R.entries) (same x ∙ key) ∙ there))
+              (elim (standing R nodes holds k r e x there is) [
                 | inl as_up ↦ inl as_up
                 | inr reservation ↦ absurd (let none : (slice_index e.complete r == 0) ≡ true = ap (λ n. n == 0) reservation.not_complete in cc)
               ]);
         }
 
-    by_test : (b : Bool) (x : Replica) (j : ℕ) (y : Replica) → find_key replica_key k xs ≡ Some x → cond b (Some (f x)) (find_key replica_key j xs) ≡ Some y → IsHeld R r y
+    by_test : (b : Bool) (x : Replica) (j : ℕ) (y : Replica) → replica_in nodes k r ≡ Some x → cond b (Some (f x)) (replica_in nodes j r) ≡ Some y → IsHeld R r y
     by_test true x j y is found = subst (IsHeld R r) (same_Some (f x) y found) (held_after x is)
-    by_test false x j y is found = (found_held j y found).0
+    by_test false x j y is found = (held_at R nodes holds j r y found).0
 
-    by_found : (o : Option Replica) → find_key replica_key k xs ≡ o → HoldsOnlyWhatStands R (slice_set nodes r (change_key replica_key k f xs))
-    by_found None is = subst (λ (ys : List Replica). HoldsOnlyWhatStands R (slice_set nodes r ys)) (sym (not_changed replica_key k f xs is)) holds_as_it_was
-    by_found (Some x) is = holds_set (change_key replica_key k f xs)
-        (λ j y found. by_test (j == k) x j y is (sym (find_changed replica_key k f same xs x j is) ∙ found))
-        (λ j. subst (λ (n : ℕ). n ≤ 1) (sym (counted-change_key replica_key k j f same xs)) (found_once_there j))
+    by_found : (o : Option Replica) → replica_in nodes k r ≡ o → HoldsOnlyWhatStands R (with_changed k r f nodes)
+    by_found None is = subst (λ (ys : List Replica). HoldsOnlyWhatStands R (slice_set nodes r ys)) (sym (not_changed replica_key k f (replicas_on nodes r) is)) holds_as_it_was
+    by_found (Some x) is = holds_set (change_key replica_key k f (replicas_on nodes r))
+        (λ j y found. by_test (j == k) x j y is (sym (find_changed replica_key k f same (replicas_on nodes r) x j is) ∙ found))
+        (λ j. subst (λ (n : ℕ). n ≤ 1) (sym (counted-change_key replica_key k j f same (replicas_on nodes r))) (holds.once r j))
 
   -- with one reserved for a checkpoint in the making, unless there is one
-  holds_reserved : (k : ℕ) (e : Entry) → entry_of k R.entries ≡ Some e → IsReservable R r e → HoldsOnlyWhatStands R (slice_set nodes r (with_reserved (find_key replica_key k xs) (opened_replica k e.attributes e.made) xs))
-  holds_reserved k e there can = by_found (find_key replica_key k xs) refl where
+  holds_reserved : (k : ℕ) (e : Entry) → entry_of k R.entries ≡ Some e → IsReservable R r e → HoldsOnlyWhatStands R (slice_set nodes r (with_reserved (replica_in nodes k r) (opened_replica k e.attributes e.made) (replicas_on nodes r)))
+  holds_reserved k e there can = by_found (replica_in nodes k r) refl where
     new : Replica
     new = opened_replica k e.attributes e.made
 
     held_new : IsHeld R r new
     held_new = record {
       up = can.up;
-      stands = subst (λ (o : Option Entry). IsSomeAnd o (λ e. (slice_index e.complete r ≡ slice_index R.up r) ⊎ IsReservation e r new)) (sym there) (inr (record { making = can.making; not_complete = can.not_complete; opening = refl }));
+      stands = subst (λ (o : Option Entry). IsSomeAnd o (StandsFor R r new)) (sym there) (inr (record { making = can.making; not_complete = can.not_complete; opening = refl }));
     }
 
-    by_test : (b : Bool) (j : ℕ) (y : Replica) → cond b (Some new) (find_key replica_key j xs) ≡ Some y → IsHeld R r y
+    by_test : (b : Bool) (j : ℕ) (y : Replica) → cond b (Some new) (replica_in nodes j r) ≡ Some y → IsHeld R r y
     by_test true j y found = subst (IsHeld R r) (same_Some new y found) held_new
-    by_test false j y found = (found_held j y found).0
+    by_test false j y found = (held_at R nodes holds j r y found).0
 
-    by_found : (o : Option Replica) → find_key replica_key k xs ≡ o → HoldsOnlyWhatStands R (slice_set nodes r (with_reserved o new xs))
-    by_found None is = holds_set (xs ++ new ∷ [])
-        (λ j y found. by_test (j == k) j y (sym (find_pushed replica_key k xs new j refl is) ∙ found))
-        (counted-push replica_key xs new is found_once_there)
+    by_found : (o : Option Replica) → replica_in nodes k r ≡ o → HoldsOnlyWhatStands R (slice_set nodes r (with_reserved o new (replicas_on nodes r)))
+    by_found None is = holds_set (replicas_on nodes r ++ new ∷ [])
+        (λ j y found. by_test (j == k) j y (sym (find_pushed replica_key k (replicas_on nodes r) new j refl is) ∙ found))
+        (counted-push replica_key (replicas_on nodes r) new is (holds.once r))
     by_found (Some x) is = holds_as_it_was
 
   -- what a reservation asks: the checkpoint is in the making, and the node is not complete for it
-  by_entry : (k : ℕ) (o : Option Entry) → entry_of k R.entries ≡ o → IsSomeAnd o (IsReservable R r) → HoldsOnlyWhatStands R (slice_set nodes r (reserved_for (entry_seen r o) k xs))
+  by_entry : (k : ℕ) (o : Option Entry) → entry_of k R.entries ≡ o → IsSomeAnd o (IsReservable R r) → HoldsOnlyWhatStands R (slice_set nodes r (reserved_for (entry_seen r o) k (replicas_on nodes r)))
   by_entry k None there can = holds_as_it_was
   by_entry k (Some e) there can = holds_reserved k e there can
 
-  by_reply : (k : ℕ) (reply : Reply) → IsSomeAnd (entry_of k R.entries) (IsReservable R r) → HoldsOnlyWhatStands R (slice_set nodes r (replicas_reserved (record_seen R k r) k reply xs))
+  by_reply : (k : ℕ) (reply : Reply) → IsSomeAnd (entry_of k R.entries) (IsReservable R r) → HoldsOnlyWhatStands R (slice_set nodes r (replicas_reserved (record_seen R k r) k reply (replicas_on nodes r)))
   by_reply k (replies.Done answers.Nothing) can = by_entry k (entry_of k R.entries) refl can
   by_reply k reply can = holds_as_it_was
 
-  by_complete : (request : Request) (p : Payload) (b : Bool) → is_complete (record_seen R (ckpt_of request) r) ≡ b → HoldsOnlyWhatStands R (slice_set nodes r (cond b (change_key replica_key (ckpt_of request) (replica_after request p (record_seen R (ckpt_of request) r)) xs) xs))
+  by_complete : (request : Request) (p : Payload) (b : Bool) → is_complete (record_seen R (ckpt_of request) r) ≡ b → HoldsOnlyWhatStands R (slice_set nodes r (cond b (change_key replica_key (ckpt_of request) (replica_after request p (record_seen R (ckpt_of request) r)) (replicas_on nodes r)) (replicas_on nodes r)))
   by_complete request p true complete =
       let (e, there, test) = complete_entry R (ckpt_of request) r complete in
       holds_changed (ckpt_of request) e (replica_after request p (record_seen R (ckpt_of request) r)) (after_key request p (record_seen R (ckpt_of request) r)) there test
   by_complete request p false complete = holds_as_it_was
 
-  served_there : (request : Request) (p : Payload) (reply : Reply) → ((k : ℕ) → request ≡ Reserve k → IsSomeAnd (entry_of k R.entries) (IsReservable R r)) → (other : ((k : ℕ) → request ≢ Reserve k) ⊎ ((k : ℕ) × (request ≡ Reserve k))) → HoldsOnlyWhatStands R (nodes_after R nodes r request p reply)
-  served_there request p reply can (inl other) =
-      subst (λ (ys : List Replica). HoldsOnlyWhatStands R (slice_set nodes r ys))
-      (ap (λ (o : Option (List Replica)). cond (is_complete (record_seen R (ckpt_of request) r)) (change_key replica_key (ckpt_of request) (replica_after request p (record_seen R (ckpt_of request) r)) (list_or o)) (list_or o)) (sym at) ∙ sym (replicas_served R (node_at nodes r) request p reply other))
-      (by_complete request p (is_complete (record_seen R (ckpt_of request) r)) refl)
-  served_there request p reply can (inr own) =
-      let (k, is) = own in
-      subst (λ (q : Request). HoldsOnlyWhatStands R (nodes_after R nodes r q p reply)) (sym is)
-      (subst (λ (ys : List Replica). HoldsOnlyWhatStands R (slice_set nodes r ys)) (ap (λ (o : Option (List Replica)). replicas_reserved (record_seen R k r) k reply (list_or o)) (sym at)) (by_reply k reply (can k is)))
-
--- a request is a reservation, or it is none
-reserves_or_not : (request : Request) → ((k : ℕ) → request ≢ Reserve k) ⊎ ((k : ℕ) × (request ≡ Reserve k))
-reserves_or_not (Reserve k) = inr (k, refl)
-reserves_or_not request = inl (λ k e. cc e)
-
 -- whatever a node has answered to whatever request, the nodes hold only what stands, as before; a reservation is of what can be reserved
 pub holds_served : (R : RecordState) (nodes : List (List Replica)) (r : ℕ) (request : Request) (p : Payload) (reply : Reply) → HoldsOnlyWhatStands R nodes → r < length nodes → ((k : ℕ) → request ≡ Reserve k → IsSomeAnd (entry_of k R.entries) (IsReservable R r)) → HoldsOnlyWhatStands R (nodes_after R nodes r request p reply)
-holds_served R nodes r request p reply holds within can =
-    let (xs, at) = there_is nodes r within in
-    served_there R nodes holds r xs at request p reply can (reserves_or_not request)
+holds_served R nodes r (Reserve k) p reply holds within can = by_reply R nodes holds r within k reply (can k refl)
+holds_served R nodes r request p reply holds within can = by_complete R nodes holds r within request p (is_complete (record_seen R (ckpt_of request) r)) refl
 
 -- ---- nodes without replicas
 
 none_on : (r : ℕ) → replicas_on (replicate 8 []) r ≡ []
-none_on zero = refl
-none_on (suc zero) = refl
-none_on (suc (suc zero)) = refl
-none_on (suc (suc (suc zero))) = refl
-none_on (suc (suc (suc (suc zero)))) = refl
-none_on (suc (suc (suc (suc (suc zero))))) = refl
-none_on (suc (suc (suc (suc (suc (suc zero)))))) = refl
-none_on (suc (suc (suc (suc (suc (suc (suc zero))))))) = refl
-none_on (suc (suc (suc (suc (suc (suc (suc (suc r)))))))) = refl
+none_on r = slice_get-replicate (λ (o : Option (List Replica)). list_or o ≡ []) [] refl refl 8 r
 
 -- hold none
 pub nothing_held : (R : RecordState) (nodes : List (List Replica)) → nodes ≡ replicate 8 [] → HoldsOnlyWhatStands R nodes
@@ -257,6 +228,6 @@ nothing_held R nodes are = record {
 -- and so it is whatever the record, where no checkpoint stands
 pub held_by_none : (R N : RecordState) (nodes : List (List Replica)) → R.entries ≡ [] → HoldsOnlyWhatStands R nodes → HoldsOnlyWhatStands N nodes
 held_by_none R N nodes none holds = record {
-  each = λ r x among. absurd (subst (λ es. IsSomeAnd (entry_of x.ckpt es) (λ e. (slice_index e.complete r ≡ slice_index R.up r) ⊎ IsReservation e r x)) none (holds.each r x among).stands);
+  each = λ r x among. absurd (subst (λ es. IsSomeAnd (entry_of x.ckpt es) (StandsFor R r x)) none (holds.each r x among).stands);
   once = holds.once;
 }

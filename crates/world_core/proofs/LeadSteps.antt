@@ -129,17 +129,17 @@ module _ (w : World) (v : Who) (r : ℕ) (base : InHand) (u : SyncState) where
 
       -- it has it where it is complete behind the step, and takes over what is held
       at_rest : (f : Entry) → entry_of k R.entries ≡ Some f → (slice_index f.complete r == 0) ≡ false → IsSome s.snapshot → (x : Replica) × AtRest x
-      at_rest f found complete some = by_goes (subst (λ (z : Option Entry × Option Entry). GoesAt w.cluster.up k z.0 z.1 r (replica_in w.nodes k r)) (λ i. (there.1 i, found i)) (goes w v step hand held next h is eight refl k r)) where
-        by_node : f.attributes ≡ e.attributes → NodeGoes k e f r (replica_in w.nodes k r) → (x : Replica) × AtRest x
+      at_rest f found complete some = by_goes (subst (λ (z : Option Entry × Option Entry). GoesAt w.cluster.up k z.0 z.1 r (replica_in w.nodes k r) (replica_in w.nodes k r)) (λ i. (there.1 i, found i)) (goes w v step hand held next h is eight refl k r)) where
+        by_node : f.attributes ≡ e.attributes → NodeGoes w.cluster.up k e f r (replica_in w.nodes k r) (replica_in w.nodes k r) → (x : Replica) × AtRest x
         by_node same (inl stays) =
-            let complete_then : (slice_index e.complete r == 0) ≡ false = ap (λ n. n == 0) (sym stays) ∙ complete in
+            let complete_then : (slice_index e.complete r == 0) ≡ false = ap (λ n. n == 0) (sym stays.0) ∙ complete in
             let (x, is_there, complete_is) = replica_shown (h.effects k r) (h.origins k r) (slice_index (complete_of (entry_of k w.cluster.entries)) r) (replica_in w.nodes k r) (is.facts.complete k r e there.1 complete_then) in
             let rests : IfSome (shown_replica (h.effects k r) (h.origins k r) (Some x)) IsAtRest = subst (λ y. IfSome (shown_replica (h.effects k r) (h.origins k r) y) IsAtRest) complete_is (there.2.rest some) in
             let its : FitsReplica k (Some e) (h.effects k r) (Some x) = subst (λ (z : Option Entry × Option Replica). FitsReplica k z.0 (h.effects k r) z.1) (λ i. (there.1 i, complete_is i)) (is.fits.replicas k r) in
             (x, record { there = is_there; free = no_slot (h.origins k r) x.slot rests.0; unmarked = rests.1; declared = its.1 })
-        by_node same (inr new) = (record (opened_replica k f.attributes f.made) { generation = f.generation }, record { there = new.1; free = refl; unmarked = refl; declared = same })
+        by_node same (inr new) = (record (opened_replica k f.attributes f.made) { generation = f.generation }, record { there = new.3; free = refl; unmarked = refl; declared = same })
 
-        by_goes : GoesAt w.cluster.up k (Some e) (Some f) r (replica_in w.nodes k r) → (x : Replica) × AtRest x
+        by_goes : GoesAt w.cluster.up k (Some e) (Some f) r (replica_in w.nodes k r) (replica_in w.nodes k r) → (x : Replica) × AtRest x
         by_goes goes = by_node goes.0 goes.2
 
       -- what leading asks

@@ -15,6 +15,7 @@ pub mod Held
 pub mod HoldSteps
 pub mod HoldingLaws
 pub mod IterationSteps
+pub mod KeptEntries
 pub mod Leading
 pub mod LeadSteps
 pub mod Listings

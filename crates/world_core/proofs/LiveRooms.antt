@@ -4,7 +4,6 @@ use Rattle.std.specs.Prelude.{filter, is_some, not, slice_get, slice_set, slice_
 use Rattle.std.proofs.lemmas.Bool.{eqb-true}
 use Rattle.ckpt_types.specs.declared.answers.Outcome.{Outcome}
 use Rattle.ckpt_types.specs.declared.answers.Outcome.TheVariants.{Done}
-use Rattle.ckpt_types.specs.declared.attributes.CreationAttributes.{CreationAttributes}
 use Rattle.ckpt_types.specs.declared.identities.CallId.{CallId}
 use Rattle.ckpt_types.specs.declared.identities.Who.{Who}
 use Rattle.ckpt_types.specs.declared.identities.Who.TheVariants.{Actor, Call}
@@ -16,22 +15,20 @@ use Rattle.node_msgs.specs.declared.next.RecordStep.{RecordStep}
 use Rattle.node_msgs.specs.declared.next.RecordStep.TheVariants as events
 use Rattle.cluster_record.specs.declared.clients.LiveClient.{LiveClient}
 use Rattle.cluster_record.specs.Calls.{client_of}
-use Rattle.cluster_record.specs.DueOpen.{making_ckpt}
-use Rattle.cluster_record.specs.LookUps.{identity_in, at_ckpt}
 use Rattle.cluster_record.specs.Places.{find_key}
-use Rattle.cluster_record.specs.RecordState.{RecordState, client_key, named, is_live_client, created_as, opened, finished, undone, unlinked}
+use Rattle.cluster_record.specs.RecordState.{RecordState, client_key}
 use Rattle.ckpt_machine.specs.Drivers.{Driver}
 use Rattle.ckpt_machine.specs.Drivers as drivers
-use Rattle.cluster_record.specs.DueOnce.{OneStep}
 use Rattle.cluster_record.specs.DueOnce as once
 use Rattle.world_core.specs.declared.world.World.{World}
 use Rattle.client_handles.specs.ClientState.{ClientState}
-use Rattle.world_core.specs.RecordAfter.{once_change, event_change, event_after}
+use Rattle.world_core.specs.RecordAfter.{event_after}
 use Rattle.world_core.specs.LiveRooms.{room_is_taken, LiveHaveRoom}
 use Rattle.world_core.specs.Settling.{settled, looked}
 use Rattle.client_calls.specs.TableSettling.{table_looked, table_settled}
 use Rattle.client_calls.specs.TableState.{TableState, with_calls, with_client}
 use Rattle.world_core.specs.TablesState.{table_changed, at_client}
+use Rattle.world_core.proofs.KeptEntries.{clients_behind, event_declared}
 use Rattle.world_core.proofs.TableFields.{field_same}
 
 -- ---- another table in a client's place
@@ -81,21 +78,6 @@ rooms_ended w R (Call call) (Some end) rooms = rooms_at w R (client_of call) (ta
 
 -- ---- another record
 
--- each that is live was live before
-abbrev LiveBefore : RecordState → RecordState → Type 0
-LiveBefore old new = (d : ℕ) → is_live_client d new ≡ true → is_live_client d old ≡ true
-
-live_same : (R : RecordState) → LiveBefore R R
-live_same R d live = live
-
-created_live : (call : CallId) (name : List ℕ) (a : Option CreationAttributes) (R : RecordState) → LiveBefore R (created_as call name a R)
-created_live call name None R d live = live
-created_live call name (Some a) R d live = live
-
-at_live : (o : Option ℕ) (R : RecordState) (change : ℕ → RecordState) → ((k : ℕ) → LiveBefore R (change k)) → LiveBefore R (at_ckpt o R change)
-at_live None R change before = live_same R
-at_live (Some k) R change before = before k
-
 -- of fewer clients
 fewer_step : (p : LiveClient → Bool) (d : ℕ) (x : LiveClient) (xs : List LiveClient) (stays is : Bool) → (is_some (find_key client_key d (filter p xs)) ≡ true → is_some (find_key client_key d xs) ≡ true) → (client_key x == d) ≡ is
     → is_some (find_key client_key d (cond stays (x ∷ filter p xs) (filter p xs))) ≡ true → is_some (cond is (Some x) (find_key client_key d xs)) ≡ true
@@ -123,24 +105,10 @@ abbrev pub EntersWithRoom : CallId → Driver → List TableState → Type 0
 EntersWithRoom call (drivers.Once (once.Enter r)) tables = room_is_taken (slice_get tables (client_of call)) ≡ true
 EntersWithRoom call driver tables = Unit {0}
 
-rooms_once : (call : CallId) (x : OneStep) (R : RecordState) (tables : List TableState) → EntersWithRoom call (drivers.Once x) tables → LiveHaveRoom R tables → LiveHaveRoom (once_change call x R) tables
-rooms_once call (once.Enter r) R tables enters rooms = λ d live. more (λ d. room_is_taken (slice_get tables d) ≡ true) (record { client = client_of call; node = r; incarnation = slice_index R.up r; initialize = call.number }) d R.clients enters (rooms d) live
-rooms_once call once.Leave R tables enters rooms = λ d live. rooms d (fewer_rooms (λ l. not (client_key l == client_of call)) d R.clients live)
-rooms_once call (once.Close k) R tables enters rooms = λ d live. rooms d live
-rooms_once call (once.Unlink name) R tables enters rooms = λ d live. rooms d (at_live (identity_in (named name R.entries)) R (λ k. unlinked k R) (λ k d live. live) d live)
-rooms_once call (once.Retain k duration) R tables enters rooms = λ d live. rooms d live
-
-rooms_changed : (call : CallId) (x : Driver) (step : RecordStep) (R : RecordState) (tables : List TableState) → EntersWithRoom call x tables → LiveHaveRoom R tables → LiveHaveRoom (event_change call x step R) tables
-rooms_changed call (drivers.Once x) step R tables enters rooms = rooms_once call x R tables enters rooms
-rooms_changed call (drivers.Open o) events.Create R tables enters rooms = λ d live. rooms d (created_live call o.ask.name o.ask.attrs R d live)
-rooms_changed call (drivers.Open o) events.Open R tables enters rooms = λ d live. rooms d (at_live (identity_in (named o.ask.name R.entries)) R (λ k. opened k o.ask.client R) (λ k d live. live) d live)
-rooms_changed call (drivers.Open o) events.Finish R tables enters rooms = λ d live. rooms d (at_live (making_ckpt o.making) R (λ k. finished k o.ask.client R) (λ k d live. live) d live)
-rooms_changed call (drivers.Open o) events.Undo R tables enters rooms = λ d live. rooms d (at_live (making_ckpt o.making) R (λ k. undone k R) (λ k d live. live) d live)
-rooms_changed call (drivers.Open o) step R tables enters rooms = rooms
-rooms_changed call (drivers.Sync u) (events.Hold r) R tables enters rooms = λ d live. rooms d live
-rooms_changed call (drivers.Sync u) (events.Activate r) R tables enters rooms = λ d live. rooms d live
-rooms_changed call x step R tables enters rooms = rooms
-
 -- so it is after a step of the record
 pub rooms_after : (call : CallId) (x : Driver) (step : RecordStep) (R : RecordState) (tables : List TableState) → EntersWithRoom call x tables → LiveHaveRoom R tables → LiveHaveRoom (event_after call x step R) tables
-rooms_after call x step R tables enters rooms = λ d live. rooms_changed call x step R tables enters rooms d live
+rooms_after call x step R tables enters rooms = λ d live. by_driver d x enters (subst (λ (clients : List LiveClient). is_some (find_key client_key d clients) ≡ true) (event_declared R call x step).2 live) where
+  by_driver : (d : ℕ) (x : Driver) → EntersWithRoom call x tables → is_some (find_key client_key d (clients_behind call x R)) ≡ true → room_is_taken (slice_get tables d) ≡ true
+  by_driver d (drivers.Once (once.Enter r)) enters live = more (λ d. room_is_taken (slice_get tables d) ≡ true) (record { client = client_of call; node = r; incarnation = slice_index R.up r; initialize = call.number }) d R.clients enters (rooms d) live
+  by_driver d (drivers.Once once.Leave) enters live = rooms d (fewer_rooms (λ l. not (client_key l == client_of call)) d R.clients live)
+  by_driver d x enters live = rooms d live

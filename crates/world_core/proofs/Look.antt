@@ -32,7 +32,6 @@ use Rattle.ckpt_machine.proofs.Deadlines.{in_time-cases}
 use Rattle.ckpt_machine.proofs.OwnMaking.{making_there}
 use Rattle.client_calls.specs.declared.in_hand.InHand.{InHand}
 use Rattle.world_core.specs.declared.world.World.{World}
-use Rattle.world_core.specs.Backgrounds.{background_in, pulled_in}
 use Rattle.world_core.specs.Freeing.{freed_world}
 use Rattle.world_core.specs.Happenings.{IsStep, rooms_at}
 use Rattle.world_core.specs.Settling.{looked, without_making_of}
@@ -42,14 +41,14 @@ use Rattle.world_core.specs.TablesState.{kept_by}
 use Rattle.world_core.specs.Alone.{ended_at, ended_hands, going_with_look, gone_with}
 use Rattle.world_core.proofs.AloneSteps.{MayGo, gone_clients, gone_fits, gone_here, gone_record, gone_set, rooms_gone}
 use Rattle.world_core.proofs.CallSteps.{pulled_by_client, IsKnown, known, known_by, behind_step, step_before, step_told}
-use Rattle.world_core.proofs.Freeing.{does_before, does_freed, holds_freed}
+use Rattle.world_core.proofs.Freeing.{does_before, does_freed, holds_behind}
 use Rattle.world_core.proofs.Going.{unmade_goes}
 use Rattle.world_core.proofs.Held.{copy_stays, state_in, in_hand_is, driver_is, name_is, actor_is}
 use Rattle.world_core.proofs.LiveRooms.{rooms_ended, rooms_looked}
 use Rattle.world_core.proofs.Maps.{HasUnder, hand_left, under_other, under_own}
 use Rattle.world_core.proofs.RecordEvent.{closing_shown}
 use Rattle.world_core.proofs.TableFields.{client_same}
-use Rattle.world_core.proofs.Recording.{GoesAt, none_pulled, with_effects, record_is, record_fits}
+use Rattle.world_core.proofs.Recording.{GoesAt, with_effects, record_is, record_fits}
 use Rattle.world_core.specs.HandsState.{HandsState, hand_at, set_at}
 use Rattle.client_calls.specs.Names.{client_by}
 use Rattle.ckpt_types.specs.declared.identities.Who.{Who}
@@ -147,15 +146,12 @@ module _ (w : World) (v : Who) (o : Outcome) (hand : InHand) (held : hand_at w.h
     abbrev left_world : Outcome → World
     left_world end = gone_with (going_with_look end) (client_by v) closed (settled_there end)
 
-    goes : (h : History) → IsKnown w h → (j q : ℕ) → GoesAt w.cluster.up j (entry_of j w.cluster.entries) (entry_of j R.entries) q (replica_in w.nodes j q)
+    goes : (h : History) → IsKnown w h → (j q : ℕ) → GoesAt w.cluster.up j (entry_of j w.cluster.entries) (entry_of j R.entries) q (replica_in w.nodes j q) (replica_in w.nodes j q)
     goes h is = unmade_goes w h is.facts is.holds k
-
-    none_new : (h : History) → IsKnown w h → (j : ℕ) → entry_of j w.cluster.entries ≡ None → pulled_in w.snapshots j ≡ None
-    none_new h is j = none_pulled (entry_of j w.cluster.entries) (background_in w.snapshots j) (is.keeps j)
 
     late_changes : (h : History) → IsKnown w h → (end : Outcome) → IsNoDone (End end) → changed (machine_of w h) (state_in h v hand) verbs.Look None None (look_word end) ≡ machine_of (left_world end) (with_effects w h)
     late_changes h is (Done answer) refused = absurd refused
-    late_changes h is end refused = ap (λ (making : Option ℕ). without_making making (machine_of w h)) (makes h is ∙ making) ∙ record_is w h R (goes h is) refl (none_new h is)
+    late_changes h is end refused = ap (λ (making : Option ℕ). without_making making (machine_of w h)) (makes h is ∙ making) ∙ record_is w h R w.nodes w.snapshots (goes h is) refl is.keeps (λ j. refl)
         ∙ ap (λ tables. machine_of (record w { cluster = R; tables = tables }) (with_effects w h)) (sym (client_same w.tables (client_by v) (λ t. t) (λ t. refl)))
 
     abbrev late_world : World
@@ -168,11 +164,11 @@ module _ (w : World) (v : Who) (o : Outcome) (hand : InHand) (held : hand_at w.h
         (λ h is. record {
           done = refl;
           change = late_changes h is o (subst IsNoDone next (late_next w.cluster (rooms_at w (client_by v)) hand.driver k making));
-          fits = let f = record_fits w h R (goes h is) refl (none_new h is) is.fits in gone_fits (settled_there o) (client_by v) closed (going_with_look o) (with_effects w h) (record { replicas = f.replicas; copies = f.copies; hands = f.hands });
+          fits = let f = record_fits w h R w.nodes w.snapshots (goes h is) refl is.keeps (λ j. refl) is.fits in gone_fits (settled_there o) (client_by v) closed (going_with_look o) (with_effects w h) (record { replicas = f.replicas; copies = f.copies; hands = f.hands });
           count_is = refl;
           copy_is = let stays = copy_stays w h v hand held is.fits in record { same = refl; room = stays.room; counts = stays.counts };
         }))
-        (λ m s f. holds_freed w.cluster R w.nodes refl (goes s.history (known_by w m s f)) s.holds)
+        (λ m s f. holds_behind w.cluster R w.nodes w.nodes refl (goes s.history (known_by w m s f)) s.holds s.holds.once)
         (λ m s f. let is = known_by w m s f in unmade_has w.cluster w.snapshots is.keeps is.facts.rises is.facts.up_to k)
         (λ m s f. rooms_ended (left_world o) R v (Some o) (rooms_gone (settled_there o) (client_by v) closed R (going_with_look o) (rooms_looked w R (client_by v) o hand.op (λ d live. s.rooms d live))))
 

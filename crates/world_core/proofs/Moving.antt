@@ -1,8 +1,7 @@
 -- The moment: how the world shows that it is set, and that nothing else changes it.
-use Rattle.std.proofs.Common.{◌≡◌, inl, inr, ℕ, suc, ◌≤◌, Option, Some, None, Bool, true, false, cond, List, [], ◌∷◌, length, ℤ, refl, sym, ap, subst, ◌∙◌, arith}
+use Rattle.std.proofs.Common.{◌≡◌, inl, inr, ℕ, ◌≤◌, Option, Some, None, Bool, true, false, List, length, ℤ, refl, sym, ap, subst, ◌∙◌}
 use Rattle.std.specs.Prelude.{filter, nat_lt}
 use Rattle.std.proofs.lemmas.Bool.{cases_lt, lt-ltb}
-use Rattle.std.proofs.lemmas.List.Sums.{length-filter, count_by-le-length}
 use Rattle.ckpt_types.specs.declared.answers.Outcome.{Outcome}
 use Rattle.ckpt_types.specs.declared.identities.ActorName.{ActorName}
 use Rattle.ckpt_types.specs.declared.identities.CallId.{CallId}
@@ -15,63 +14,54 @@ use Rattle.node_msgs.specs.declared.steps.StepReply.{StepReply}
 use Rattle.node_msgs.specs.declared.steps.StepReply.TheVariants as words
 use Rattle.run_labels.specs.declared.labels.Label.{Label}
 use Rattle.run_labels.specs.declared.labels.Label.TheVariants as labels
-use Rattle.run_labels.specs.declared.labels.PullReply.{PullReply}
-use Rattle.run_labels.specs.declared.labels.PullReply.TheVariants as pulls
-use Rattle.run_labels.specs.declared.labels.PutReply.{PutReply}
-use Rattle.run_labels.specs.declared.labels.PutReply.TheVariants as puts
 use Rattle.cluster_record.specs.Makings.{making_of}
 use Rattle.cluster_record.specs.declared.entries.Entry.{Entry}
 use Rattle.cluster_record.specs.RecordState.{RecordState, entry_of, stays, active_set, IsMomentFrom, moved}
 use Rattle.cluster_record.specs.StepDone.{generation_in}
-use Rattle.cluster_record.proofs.IdentityLaws.{filter_leaves}
 use Rattle.ckpt_types.specs.Asks.{Ask, asked}
 use Rattle.ckpt_types.specs.Asks as asks
 use Rattle.ckpt_machine.specs.Facts.{Facts}
 use Rattle.ckpt_machine.specs.Machine.{Machine, ReplicaState, Snapshot, CallState}
-use Rattle.ckpt_machine.specs.Propagation.{source_at, target_at, with_pulled, with_put}
 use Rattle.world_core.specs.Nodes.{replica_in}
-use Rattle.ckpt_machine.specs.Steps.{on_ok, on_look, without_making, at_some, change_replica, created_for, retained_for, record_step, with_lead, led_from, changed, step_of, after}
+use Rattle.ckpt_machine.specs.Steps.{IsDue, on_ok, on_look, without_making, at_some, change_replica, created_for, retained_for, record_step, with_lead, led_from, changed, step_of, after}
 use Rattle.client_calls.specs.declared.in_hand.InHand.{InHand}
 use Rattle.world_core.specs.declared.world.Event.{Event}
 use Rattle.world_core.specs.declared.world.Event.TheVariants as happenings
 use Rattle.world_core.specs.declared.world.World.{World}
-use Rattle.world_core.specs.Backgrounds.{background_in, pulled_in, HaveRooms}
+use Rattle.world_core.specs.Backgrounds.{HaveRooms}
 use Rattle.world_core.specs.Freeing.{freed_world}
 use Rattle.world_core.specs.Holding.{HoldsOnlyWhatStands}
 use Rattle.world_core.specs.Happenings.{SetsMoment}
 use Rattle.world_core.specs.Runs.{Answers, AnswersBegin, AnswersStep, IsShownOf, IsPulledOf, IsPutOf, moment_of}
 use Rattle.world_core.specs.Shows.{Does, Shows, History, machine_of}
 use Rattle.world_core.specs.HandsState.{hand_at}
-use Rattle.world_core.proofs.Freeing.{DoesBefore, does_before, does_freed, holds_freed}
-use Rattle.world_core.proofs.Going.{goes_same, goes_left}
-use Rattle.world_core.proofs.Recording.{GoesAt, none_pulled, with_effects, record_is, record_fits}
+use Rattle.ckpt_machine.proofs.Copying.{after_pull, after_put}
+use Rattle.world_core.proofs.Freeing.{DoesBefore, does_before, does_freed, holds_behind}
+use Rattle.world_core.proofs.Going.{goes_kept}
+use Rattle.world_core.proofs.KeptEntries.{left_whole, sight, kept_filter}
+use Rattle.world_core.proofs.Recording.{GoesAt, with_effects, record_is, record_fits}
 use Rattle.world_core.proofs.SnapshotRooms.{moved_has}
 
 -- ---- the moment is set
 
 -- each entry is left as it was, or swept away
-moved_goes : (w : World) (h : History) (t : ℤ) → Facts (machine_of w h) → (k r : ℕ) → GoesAt w.cluster.up k (entry_of k w.cluster.entries) (entry_of k (moved t w.cluster).entries) r (replica_in w.nodes k r)
-moved_goes w h t facts k r =
-    let entries = w.cluster.entries in
-    goes_left w.cluster.up k (entry_of k entries) (entry_of k entries) (entry_of k (filter (stays t) entries)) r (replica_in w.nodes k r) (goes_same w.cluster.up k (entry_of k entries) r (replica_in w.nodes k r)) (filter_leaves (stays t) entries facts.rises k)
-
-none_new : (w : World) → HaveRooms w.cluster.entries w.snapshots → (k : ℕ) → entry_of k w.cluster.entries ≡ None → pulled_in w.snapshots k ≡ None
-none_new w keeps k = none_pulled (entry_of k w.cluster.entries) (background_in w.snapshots k) (keeps k)
+moved_goes : (w : World) (h : History) (t : ℤ) → Facts (machine_of w h) → (k r : ℕ) → GoesAt w.cluster.up k (entry_of k w.cluster.entries) (entry_of k (moved t w.cluster).entries) r (replica_in w.nodes k r) (replica_in w.nodes k r)
+moved_goes w h t facts k r = goes_kept w.cluster.up k (entry_of k w.cluster.entries) (entry_of k (filter (stays t) w.cluster.entries)) r (replica_in w.nodes k r) (replica_in w.nodes k r) refl ((kept_filter sight (stays t) w.cluster.entries facts.rises).each k)
 
 -- a world whose record is at another moment, and swept, before the nodes are freed
 moved_before : (w : World) (t : ℤ) → IsMomentFrom w.cluster.moment t → DoesBefore w (record w { cluster = moved t w.cluster }) (labels.Moved t)
 moved_before w t may = record {
   due_is = λ m s f. subst (λ (m : Machine). IsMomentFrom m.cluster.moment t) (sym s.same) may;
   history = λ m s f. with_effects w s.history;
-  same = λ m s f. ap (λ m. after m (labels.Moved t)) s.same ∙ record_is w s.history (moved t w.cluster) (moved_goes w s.history t (subst Facts s.same f)) refl (none_new w s.keeps);
-  fits = λ m s f. record_fits w s.history (moved t w.cluster) (moved_goes w s.history t (subst Facts s.same f)) refl (none_new w s.keeps) s.fits;
+  same = λ m s f. ap (λ m. after m (labels.Moved t)) s.same ∙ record_is w s.history (moved t w.cluster) w.nodes w.snapshots (moved_goes w s.history t (subst Facts s.same f)) refl s.keeps (λ k. refl);
+  fits = λ m s f. record_fits w s.history (moved t w.cluster) w.nodes w.snapshots (moved_goes w s.history t (subst Facts s.same f)) refl s.keeps (λ k. refl) s.fits;
 }
 
 -- and behind that
 moved_done : (w : World) (t : ℤ) (R : RecordState) → IsMomentFrom w.cluster.moment t → R ≡ moved t w.cluster → Does w (freed_world (record w { cluster = R })) (labels.Moved t)
 moved_done w t R may R_is = subst (λ (R : RecordState). Does w (freed_world (record w { cluster = R })) (labels.Moved t)) (sym R_is)
     (does_freed w (record w { cluster = moved t w.cluster }) (labels.Moved t) (moved_before w t may)
-    (λ m s f. holds_freed w.cluster (moved t w.cluster) w.nodes refl (moved_goes w s.history t (subst Facts s.same f)) s.holds)
+    (λ m s f. holds_behind w.cluster (moved t w.cluster) w.nodes w.nodes refl (moved_goes w s.history t (subst Facts s.same f)) s.holds s.holds.once)
     (λ m s f. let facts = subst Facts s.same f in moved_has w.cluster w.snapshots s.keeps facts.rises facts.up_to t)
     (λ m s f. s.rooms))
 
@@ -83,18 +73,6 @@ moved_kept w t R may R_is all = subst (λ (R : RecordState). Does w (record w { 
     (record { each = λ r x at. let held = s.holds.each r x at in record { up = held.up; stands = held.stands }; once = s.holds.once }))
     (λ m s f. subst (λ (entries : List Entry). HaveRooms entries w.snapshots) (sym all) s.keeps)
     (λ m s f. s.rooms))
-
--- where a filter leaves no fewer, it leaves all
-pub left_whole : {X : Type 0} (p : X → Bool) (xs : List X) → length xs ≤ length (filter p xs) → filter p xs ≡ xs
-left_whole p [] no_fewer = refl
-left_whole p (x ∷ xs) no_fewer = by_test (λ fewer. left_whole p xs fewer) (p x) no_fewer
-  where
-    few : length (filter p xs) ≤ length xs
-    few = subst (λ n. n ≤ length xs) (sym (length-filter p xs)) (count_by-le-length p xs)
-
-    by_test : (length xs ≤ length (filter p xs) → filter p xs ≡ xs) → (b : Bool) → suc (length xs) ≤ length (cond b (x ∷ filter p xs) (filter p xs)) → cond b (x ∷ filter p xs) (filter p xs) ≡ x ∷ xs
-    by_test rest true no_fewer = ap (λ ys. x ∷ ys) (rest (omega (arith, no_fewer)))
-    by_test rest false no_fewer = absurd (omega (arith, few, no_fewer))
 
 -- the moment is set, with the label as the code names it, and where a checkpoint is gone by that, the nodes are freed of it
 pub sets_moment : (w : World) (t u : ℤ) (R : RecordState) (freed_of : World) → u ≡ t → IsMomentFrom w.cluster.moment t → R ≡ moved u w.cluster → freed_of ≡ freed_world (record w { cluster = R }) → SetsMoment t w freed_of (labels.Moved u)
@@ -193,25 +171,13 @@ step_of-moment : (m : Machine) (o : Option CallState) (verb : Verb) (k r : Optio
 step_of-moment m None verb k r reply end = refl
 step_of-moment m (Some s) verb k r reply end = changed-moment m s verb k r reply
 
--- a snapshot that is taken or put sets none
-pulled-moment : (m : Machine) (k : ℕ) (reply : PullReply) (x : Option ReplicaState) → (with_pulled m k reply x).cluster.moment ≡ m.cluster.moment
-pulled-moment m k (pulls.Ok count) (Some x) = refl
-pulled-moment m k (pulls.Ok count) None = refl
-pulled-moment m k reply x = refl
-
-put-moment : (m : Machine) (k r : ℕ) (reply : PutReply) (s : Option Snapshot) (x : Option ReplicaState) → (with_put m k r reply s x).cluster.moment ≡ m.cluster.moment
-put-moment m k r (puts.Ok count) (Some s) (Some x) = refl
-put-moment m k r (puts.Ok count) (Some s) None = refl
-put-moment m k r (puts.Ok count) None x = refl
-put-moment m k r reply s x = refl
-
 -- THE LAW: in the state after a label the moment is the one that the label set, or the one before it
-pub after-moment : (m : Machine) (l : Label) → (after m l).cluster.moment ≡ moment_after l m.cluster.moment
-after-moment m (labels.Stepped call op verb k r reply end details) = step_of-moment m (m.in_hand (stepped_as call op)) verb k r reply end
-after-moment m (labels.Moved t) = refl
-after-moment m (labels.Pulled k reply) = pulled-moment m k reply (source_at m k)
-after-moment m (labels.Put k r reply) = put-moment m k r reply (m.snapshots k) (target_at m k r)
-after-moment m l = refl
+pub after-moment : (m : Machine) (l : Label) → IsDue m l → (after m l).cluster.moment ≡ moment_after l m.cluster.moment
+after-moment m (labels.Stepped call op verb k r reply end details) due = step_of-moment m (m.in_hand (stepped_as call op)) verb k r reply end
+after-moment m (labels.Moved t) due = refl
+after-moment m (labels.Pulled k reply) due = after_pull (SameMoment m) m k reply due refl (λ x from none. refl)
+after-moment m (labels.Put k r reply) due = after_put (SameMoment m) m k r reply refl (λ s x copied on. refl)
+after-moment m l due = refl
 
 -- ---- the moment after an event
 
@@ -252,4 +218,4 @@ pub shown-moment : (event : Event) (old new : World) (label : Label) (m : Machin
 shown-moment event old new label m shows facts does answers =
     let now : (after m label).cluster.moment ≡ new.cluster.moment = ap (λ (x : Machine). x.cluster.moment) (does.shows m shows facts).same in
     let before : m.cluster.moment ≡ old.cluster.moment = ap (λ (x : Machine). x.cluster.moment) shows.same in
-    sym now ∙ after-moment m label ∙ ap (moment_after label) before ∙ answers-moment event old new label old.cluster.moment answers
+    sym now ∙ after-moment m label (does.due_is m shows facts) ∙ ap (moment_after label) before ∙ answers-moment event old new label old.cluster.moment answers

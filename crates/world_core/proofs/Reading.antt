@@ -24,14 +24,12 @@ use Rattle.run_labels.specs.declared.labels.Label.TheVariants.{Stepped}
 use Rattle.cluster_record.specs.Calls.{left}
 use Rattle.cluster_record.specs.Ends.{served_done}
 use Rattle.cluster_record.specs.Places.{change_key, list_or}
-use Rattle.cluster_record.specs.StepDone.{StepDone}
 use Rattle.replica.specs.Replicas.{Replica}
 use Rattle.node_core.specs.Nodes.{replica_key, replica_served}
 use Rattle.node_core.specs.Payloads.{Payload}
 use Rattle.node_core.specs.Seen.{record_seen}
 use Rattle.node_core.specs.Serving.{details_at, done_or_refused, read_details, reply_at}
 use Rattle.ckpt_machine.specs.Steps.{ended_details}
-use Rattle.snap_copy.specs.Snapshots.{Snapshot}
 use Rattle.client_calls.specs.declared.in_hand.InHand.{InHand}
 use Rattle.world_core.specs.declared.world.World.{World}
 use Rattle.world_core.specs.Alone.{ended_at}
@@ -42,10 +40,10 @@ use Rattle.world_core.specs.Nodes.{node_at, nodes_after, replica_in, with_change
 use Rattle.client_calls.specs.ReadTold.{read_told}
 use Rattle.world_core.specs.Shows.{IsShown}
 use Rattle.world_core.proofs.HandLaws.{list_again}
-use Rattle.world_core.proofs.Held.{with_copy}
-use Rattle.world_core.proofs.Serve.{its_copy, its_details, its_end, served_world}
-use Rattle.world_core.proofs.Staging.{copy_kept}
-use Rattle.world_core.proofs.Stepping.{answered_is, its_nodes, its_replica, its_served, its_there}
+use Rattle.world_core.proofs.Serve.{its_details, its_end}
+use Rattle.world_core.proofs.Reserve.{copy_kept}
+use Rattle.world_core.proofs.Staging.{named_is}
+use Rattle.world_core.proofs.Stepping.{its_nodes, its_replica, its_served, its_there}
 
 -- ---- nothing changes on the nodes
 
@@ -110,12 +108,6 @@ module _ (w : World) (v : Who) (r k : ℕ) (hand : InHand) (held : hand_at w.han
     pub read_is : (taken : InHand) (place : Option InHand) (end : Option Outcome) (word : OpWord) (details : Details) → taken ≡ hand_taken (served_done w.cluster asks r reply) hand → end ≡ hand_end (served_done w.cluster asks r reply) reply taken → place ≡ left end taken → word ≡ word_of_op hand.op →
         details ≡ ended_details end (read_told reply buffer) → IsStep v w (ended_at v end (record w { hands = set_at w.hands v place })) (Stepped hand.call word (verb_of asks) (Some k) (Some r) (word_of reply) end details)
     read_is taken place end word details taken_is end_is place_is word_is details_are =
-        let done : StepDone = served_done w.cluster asks r reply in
-        let ends : end ≡ its_end w v r asks hand p reply = end_is ∙ ap (hand_end done reply) taken_is in
-        let copy : its_copy w v r asks hand p reply ≡ hand.snapshot = copy_kept asks (λ x s. refl) (replica_served (record_seen w.cluster k r) (node_at w.nodes r) k) hand.snapshot in
-        let left_is : place ≡ left (its_end w v r asks hand p reply) (hand_taken done (with_copy hand (its_copy w v r asks hand p reply)))
-        = place_is ∙ (λ i. left (ends i) (taken_is i)) ∙ ap (λ (s : Option Snapshot). left (its_end w v r asks hand p reply) (hand_taken done (with_copy hand s))) (sym copy) in
-        let new_is : ended_at v end (record w { hands = set_at w.hands v place }) ≡ served_world w v r asks hand p reply = λ i. ended_at v (ends i) (record w { nodes = nodes_are i; hands = set_at w.hands v (left_is i) }) in
-        let told_is : details ≡ ended_details (its_end w v r asks hand p reply) (its_details w v r asks hand p reply) = details_are ∙ (λ i. ended_details (ends i) (told i)) in
-        subst (λ (z : World × OpWord × Option Outcome × Details). IsStep v w z.0 (Stepped hand.call z.1 (verb_of asks) (Some k) (Some r) (word_of reply) z.2 z.3)) (λ i. (sym new_is i, sym word_is i, sym ends i, sym told_is i))
-        (answered_is w v r asks hand held next shown tt p reply elements_are answered tt)
+        let ends : end ≡ its_end w v r asks hand p reply = end_is ∙ ap (hand_end (served_done w.cluster asks r reply) reply) taken_is in
+        named_is w v r asks hand held next shown tt p elements_are tt w.nodes word word_is reply (set_at w.hands v place) end details answered nodes_are refl ends (ap (set_at w.hands v) (place_is ∙ ap (left end) taken_is)) (copy_kept asks (λ x s. refl) (replica_served (record_seen w.cluster k r) (node_at w.nodes r) k) hand.snapshot)
+        (details_are ∙ (λ i. ended_details (ends i) (told i)))

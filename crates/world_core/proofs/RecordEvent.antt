@@ -42,7 +42,7 @@ use Rattle.world_core.specs.Freeing.{freed, freed_world}
 use Rattle.world_core.specs.Happenings.{rooms_at, IsStep}
 use Rattle.world_core.specs.Holding.{HoldsOnlyWhatStands}
 use Rattle.world_core.specs.declared.snapshots.Background.{Background}
-use Rattle.world_core.specs.Backgrounds.{background_in, pulled_in}
+use Rattle.world_core.specs.Backgrounds.{pulled_in}
 use Rattle.world_core.specs.RecordAfter.{event_after, nodes_behind, snapshots_behind}
 use Rattle.world_core.specs.RecordReady.{IsPlain, IsRefusedWith, CanAdd, HasFound, IsRecordReady}
 use Rattle.world_core.specs.Settling.{settled, CanSettle, CanGive}
@@ -53,14 +53,14 @@ use Rattle.world_core.specs.Alone.{calls_gone, ended_at, going_with, gone_with, 
 use Rattle.world_core.proofs.AloneSteps.{MayGo, all_gone, gone_fits, gone_here, rooms_gone, syncs_are, gone_clients, gone_set}
 use Rattle.world_core.proofs.WaitedFor.{may_go_with}
 use Rattle.world_core.proofs.CallSteps.{pulled_by_client, event_counts, event_pulls, IsKnown, known, known_by, behind_step, IsShownBehind, step_before, step_told, step_under}
-use Rattle.world_core.proofs.Freeing.{does_before, does_freed}
-use Rattle.world_core.proofs.Adding.{AddedAt, added_record, added_fits, holds_added}
-use Rattle.world_core.proofs.Going.{event_goes, event_adds, event_once, event_keeps, event_free}
+use Rattle.world_core.proofs.Freeing.{does_before, does_freed, holds_behind}
+use Rattle.world_core.proofs.Going.{event_goes, event_once, event_free}
+use Rattle.world_core.proofs.KeptEntries.{event_up}
 use Rattle.world_core.proofs.Held.{copy_stays, state_in, in_hand_is, driver_is, name_is, actor_is, due_is}
 use Rattle.world_core.specs.LiveRooms.{LiveHaveRoom, room_is_taken}
 use Rattle.world_core.proofs.LiveRooms.{EntersWithRoom, rooms_ended, rooms_settled, rooms_after}
 use Rattle.world_core.proofs.ReplicaSteps.{has_one}
-use Rattle.world_core.proofs.Recording.{GoesAt, none_pulled, with_effects, record_is, record_fits}
+use Rattle.world_core.proofs.Recording.{GoesAt, with_effects, record_is, record_fits}
 use Rattle.world_core.proofs.SnapshotRooms.{behind-pulled, event_has}
 use Rattle.world_core.specs.HandsState.{HandsState, hand_at, set_at}
 use Rattle.client_calls.specs.Names.{client_by}
@@ -280,26 +280,20 @@ module _ (w : World) (v : Who) (step : RecordStep) (hand : InHand) (held : hand_
     event_asks = subst (λ (x : Driver). IsEventReady m s x step) (sym driver) (is.facts.events v s step (in_hand_is w h v hand held) (due_is w h v hand held is.facts is.fits (Event step) next))
 
     up : R.up ≡ w.cluster.up
-    up = (event_keeps hand.call hand.driver step w.cluster).up
+    up = event_up w.cluster hand.call hand.driver step
 
-    -- what was pulled is the same, and nothing was of what is new
+    -- what was pulled is the same
     pulled : (j : ℕ) → pulled_in backgrounds j ≡ pulled_in w.snapshots j
-    pulled = behind-pulled hand.driver step w.cluster w.snapshots
-
-    none_new : (j : ℕ) → entry_of j w.cluster.entries ≡ None → pulled_in backgrounds j ≡ None
-    none_new j gone = pulled j ∙ none_pulled (entry_of j w.cluster.entries) (background_in w.snapshots j) (is.keeps j) gone
+    pulled = behind-pulled hand.call hand.driver step w.cluster w.snapshots
 
     module _ (eight : length w.nodes ≡ 8) (granted : event_refusal w.cluster step hand.driver ≡ None) where
       -- each entry goes on
-      pub goes : (j q : ℕ) → GoesAt w.cluster.up j (entry_of j w.cluster.entries) (entry_of j R.entries) q (replica_in nodes j q)
+      pub goes : (j q : ℕ) → GoesAt w.cluster.up j (entry_of j w.cluster.entries) (entry_of j R.entries) q (replica_in w.nodes j q) (replica_in nodes j q)
       goes = event_goes w h is.facts is.holds hand.call s hand.driver step eight granted event_asks
-
-      adds : (j q : ℕ) → AddedAt (entry_of j w.cluster.entries) (entry_of j R.entries) q (replica_in w.nodes j q) (replica_in nodes j q)
-      adds = event_adds w h is.facts is.holds hand.call s hand.driver step eight granted event_asks
 
       -- and the nodes that are freed of the others hold only what stands
       pub holds_after : HoldsOnlyWhatStands R (freed R.entries nodes)
-      holds_after = holds_added w.cluster R w.nodes nodes is.holds up goes adds (event_once w h is.facts is.holds hand.call s hand.driver step eight granted event_asks)
+      holds_after = holds_behind w.cluster R w.nodes nodes up goes is.holds (event_once w h is.facts is.holds hand.call s hand.driver step eight granted event_asks)
 
     -- no marks keep a plain one off
     plain_kept : (k : Option ℕ) (step : RecordStep) → IsPlain step → kept_off m k step ≡ None
@@ -324,10 +318,10 @@ module _ (w : World) (v : Who) (step : RecordStep) (hand : InHand) (held : hand_
       pub done_beside : changed m s verb k r words.Ok ≡ besides s step k (machine_of recorded (with_effects w h))
       done_beside =
           change_done m s hand.driver step event_asks (subst (DrivesFor s.call (asked s.op)) (sym driver) (state_drives s (is.facts.driven v s (in_hand_is w h v hand held))))
-          ∙ ap (besides s step k) (added_record w h R nodes (adds eight granted) backgrounds pulled ∙ record_is (record w { nodes = nodes; snapshots = backgrounds }) h R (goes eight granted) up none_new)
+          ∙ ap (besides s step k) (record_is w h R nodes backgrounds (goes eight granted) up is.keeps pulled)
 
       pub fits_recorded : HistoryFits recorded (with_effects w h)
-      fits_recorded = record_fits (record w { nodes = nodes; snapshots = backgrounds }) h R (goes eight granted) up none_new (added_fits w h R nodes (adds eight granted) backgrounds pulled is.fits)
+      fits_recorded = record_fits w h R nodes backgrounds (goes eight granted) up is.keeps pulled is.fits
 
     shown_done : length w.nodes ≡ 8 → event_refusal w.cluster step hand.driver ≡ None → IsPlain step → CanSettle (client_by v) hand.op step w.tables →
         IsShownBehind w v hand held (settled_world w v hand step) (with_effects w) verb k r words.Ok end beside.Nothing 0 hand.snapshot (pulled_by_client v) (Event step) h

@@ -48,7 +48,5 @@ module _ (w : World) (h : History) (fits : HistoryFits w h) (holds : HoldsOnlyWh
       copies = fits.copies;
       hands = fits.hands;
     };
-    holds =
-        let (xs, at) = there_is w.nodes r (node_within w.nodes k r x there) in
-        subst (λ o. HoldsOnlyWhatStands w.cluster (slice_set w.nodes r (change_key replica_key k f (list_or o)))) (sym at) (holds_changed w.cluster w.nodes holds r xs at k e f keeps_key found complete);
+    holds = holds_changed w.cluster w.nodes holds r (node_within w.nodes k r x there) k e f keeps_key found complete;
   }

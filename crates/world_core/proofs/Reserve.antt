@@ -4,6 +4,7 @@ use Rattle.std.specs.Prelude.{Option, Some, None, ◌==◌, ◌&&◌, IsSomeAnd,
 use Rattle.std.proofs.lemmas.Bool.{eqb-true}
 use Rattle.ckpt_types.specs.declared.answers.Answer.TheVariants as answers
 use Rattle.ckpt_types.specs.declared.answers.Outcome.{Outcome}
+use Rattle.node_msgs.specs.declared.requests.Request.{Request}
 use Rattle.node_msgs.specs.declared.requests.Request.TheVariants.{Reserve}
 use Rattle.node_msgs.specs.declared.replies.Reply.{Reply}
 use Rattle.node_msgs.specs.declared.replies.Reply.TheVariants.{Done, NoMemory}
@@ -20,7 +21,7 @@ use Rattle.node_core.specs.Payloads.{Payload}
 use Rattle.node_core.specs.Seen.{RecordSeen, entry_seen, record_seen}
 use Rattle.node_core.specs.Nodes.{replica_key, with_reserved, reserved_for, MayReserve}
 use Rattle.world_core.specs.Nodes.{nodes_after, replica_in}
-use Rattle.node_core.specs.Serving.{details_at, snapshot_behind}
+use Rattle.node_core.specs.Serving.{details_at, snapshot_after, snapshot_behind}
 use Rattle.snap_copy.specs.Snapshots as copies
 use Rattle.cluster_record.specs.StepDone.{counting, count_told, done_of}
 use Rattle.node_msgs.specs.Steps.{word_of}
@@ -129,11 +130,11 @@ none_read : (k : ℕ) (p : Payload) (seen : RecordSeen) (y : Option Replica) →
 none_read k p seen None = refl
 none_read k p seen (Some x) = refl
 
--- nothing is pulled
-copy_kept : (k : ℕ) (x : Option Replica) (s : Option copies.Snapshot) → snapshot_behind (Reserve k) x s ≡ s
-copy_kept k None s = refl
-copy_kept k (Some x) None = refl
-copy_kept k (Some x) (Some s) = refl
+-- what pulls nothing leaves the copy in the hand
+pub copy_kept : (request : Request) → ((x : Replica) (s : copies.Snapshot) → snapshot_after request x s ≡ s) → (y : Option Replica) (s : Option copies.Snapshot) → snapshot_behind request y s ≡ s
+copy_kept request same None s = refl
+copy_kept request same (Some x) None = refl
+copy_kept request same (Some x) (Some s) = ap Some (same x s)
 
 module _ (w : World) (v : Who) (r k : ℕ) (hand : InHand) (p : Payload) (reply : Reply) (held : hand_at w.hands v ≡ Some hand) (next : driver_next w.cluster (rooms_at w (client_by v)) hand.driver ≡ Serve r (Reserve k)) (may : MayReserve (is_some (replica_in w.nodes k r)) reply) (within : r < length w.nodes) where
   abbrev new : World
@@ -193,7 +194,7 @@ module _ (w : World) (v : Who) (r k : ℕ) (hand : InHand) (p : Payload) (reply 
         change = (reserves h known).change;
         fits = (reserves h known).fits;
         count_is = no_count;
-        copy_is = let copy = copy_stays w h v hand held known.fits in subst (IsCopyBehind h v hand (state_in h v hand).snapshot (h.pulled v)) (sym (copy_kept k (replica_there w v r (Reserve k) hand p reply) hand.snapshot)) copy;
+        copy_is = let copy = copy_stays w h v hand held known.fits in subst (IsCopyBehind h v hand (state_in h v hand).snapshot (h.pulled v)) (sym (copy_kept (Reserve k) (λ x s. refl) (replica_there w v r (Reserve k) hand p reply) hand.snapshot)) copy;
       }))
       (λ m s f. let is = known_by w m s f in holds_served w.cluster w.nodes r (Reserve k) p reply is.holds within (λ j e. subst (IsServable (machine_of w s.history) r) e (finding.ready w s.history v r (Reserve k) hand is.facts is.fits held next).1))
       (λ m s f. s.keeps)

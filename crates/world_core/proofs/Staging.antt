@@ -39,7 +39,7 @@ use Rattle.node_core.specs.Fitting.{TakesUpdate}
 use Rattle.node_core.specs.Nodes.{MayReply, replica_served}
 use Rattle.node_core.specs.Payloads.{Payload, no_payload, update_alone}
 use Rattle.node_core.specs.Seen.{RecordSeen, record_seen}
-use Rattle.node_core.specs.Serving.{snapshot_after, snapshot_behind, reply_at, details_at, commit_answer, slot_id, stage_reply}
+use Rattle.node_core.specs.Serving.{reply_at, details_at, commit_answer, slot_id, stage_reply}
 use Rattle.node_core.specs.StageReplies.{reply_refused, reply_told}
 use Rattle.client_calls.specs.declared.in_hand.InHand.{InHand}
 use Rattle.world_core.specs.declared.world.World.{World}
@@ -55,17 +55,21 @@ use Rattle.client_calls.specs.UpdateSteps.{IsUpdate, is_creation}
 use Rattle.world_core.proofs.Carrying.{GoesToReplica, Carries, payload_with}
 use Rattle.world_core.proofs.Serve.{its_copy, its_end, its_details, its_iteration, served_world}
 use Rattle.world_core.proofs.Held.{with_copy}
-use Rattle.snap_copy.specs.Snapshots.{Snapshot}
+use Rattle.world_core.proofs.Reserve.{copy_kept}
 use Rattle.world_core.specs.HandsState.{HandsState, hand_at, set_at}
 use Rattle.ckpt_types.specs.declared.identities.ActorName.TheVariants.{Client}
+use Rattle.ckpt_types.specs.declared.identities.Who.{Who}
 use Rattle.ckpt_types.specs.declared.identities.Who.TheVariants.{Actor}
+use Rattle.client_calls.specs.Names.{client_by}
+use Rattle.world_core.specs.Alone.{ended_at}
 use Rattle.world_core.proofs.Stepping.{its_nodes, its_own, its_ready, its_replica, its_room, its_served, its_there, answered_is}
 
 -- ---- what is answered, and told beside it
 
-ended_none : (end : Option Outcome) → beside.Nothing ≡ ended_details end beside.Nothing
-ended_none None = refl
-ended_none (Some end) = refl
+-- where nothing is told, nothing is told beside an end
+ended_none : (end : Option Outcome) (details : Details) → beside.Nothing ≡ details → beside.Nothing ≡ ended_details end details
+ended_none None details none = refl
+ended_none (Some end) details none = none
 
 stage_details : (call : CallId) (k : ℕ) (t : ℤ) (p : Payload) (seen : RecordSeen) (y : Option Replica) → beside.Nothing ≡ details_at (requests.Stage call k t) p seen y
 stage_details call k t p seen None = refl
@@ -93,25 +97,18 @@ stage_goes_on : (R : RecordState) (k r : Option ℕ) (a : Answer) (x : Driver) �
 stage_goes_on R k r a (drivers.Update u) is = refl
 stage_goes_on R k r a x is = absurd is
 
--- what pulls nothing leaves the copy in the hand
-pub copy_kept : (request : Request) → ((x : Replica) (s : Snapshot) → snapshot_after request x s ≡ s) → (y : Option Replica) (s : Option Snapshot) → snapshot_behind request y s ≡ s
-copy_kept request same None s = refl
-copy_kept request same (Some x) None = refl
-copy_kept request same (Some x) (Some s) = ap Some (same x s)
-
 -- ---- the steps
 
--- what is told beside an update on its own is nothing
-module _ (w : World) (c : ℕ) (r : ℕ) (request : Request) (hand : InHand) (held : hand_at w.hands (Actor (Client c)) ≡ Some hand) (next : IsNext w (Actor (Client c)) (Serve r request)) (shown : IsShown w) (goes : GoesToReplica request) (p : Payload) (carries : Carries request p (payload_with hand (kept_by w.tables c))) (valid : IsValidFor request (kept_by w.tables c)) (nodes : List (List Replica)) (word : OpWord) (word_is : word ≡ word_of_op hand.op) where
-  named_is : (reply : Reply) (hands : HandsState) (end : Option Outcome) → MayReply (record_seen w.cluster (ckpt_of request) r) (node_at w.nodes r) request p reply → beside.Nothing ≡ its_details w (Actor (Client c)) r request hand p reply → nodes ≡ nodes_after w.cluster w.nodes r request p reply →
-      tables_keeping request c hand.op reply (its_iteration w (Actor (Client c)) r request hand p reply) (tables_lending request c hand.op w.tables) ≡ w.tables → end ≡ its_end w (Actor (Client c)) r request hand p reply → hands ≡ set_at w.hands (Actor (Client c)) (left end (hand_taken (served_done w.cluster request r reply) hand)) → its_copy w (Actor (Client c)) r request hand p reply ≡ hand.snapshot →
-      IsStep (Actor (Client c)) w (record w { nodes = nodes; hands = hands }) (Stepped hand.call word (verb_of request) (Some (ckpt_of request)) (Some r) (word_of reply) end beside.Nothing)
-  named_is reply hands end may details nodes_are tables end_is hands_are copy =
-      let then_hands = hands_are ∙ (λ i. set_at w.hands (Actor (Client c)) (left (end_is i) (hand_taken (served_done w.cluster request r reply) (with_copy hand (sym copy i))))) in
-      let new_is : record w { nodes = nodes; hands = hands } ≡ served_world w (Actor (Client c)) r request hand p reply = λ i. record w { nodes = nodes_are i; tables = sym tables i; hands = then_hands i } in
-      let told : beside.Nothing ≡ ended_details (its_end w (Actor (Client c)) r request hand p reply) (its_details w (Actor (Client c)) r request hand p reply) = ended_none (its_end w (Actor (Client c)) r request hand p reply) ∙ ap (ended_details (its_end w (Actor (Client c)) r request hand p reply)) details in
-      subst (λ (z : World × OpWord × Option Outcome × Details). IsStep (Actor (Client c)) w z.0 (Stepped hand.call z.1 (verb_of request) (Some (ckpt_of request)) (Some r) (word_of reply) z.2 z.3)) (λ i. (sym new_is i, sym word_is i, sym end_is i, sym told i))
-      (answered_is w (Actor (Client c)) r request hand held next shown goes p reply carries may valid)
+-- a request that lends nothing of a table and pulls nothing is answered, with the parts of the step as the code names them
+module _ (w : World) (v : Who) (r : ℕ) (request : Request) (hand : InHand) (held : hand_at w.hands v ≡ Some hand) (next : IsNext w v (Serve r request)) (shown : IsShown w) (goes : GoesToReplica request) (p : Payload) (carries : Carries request p (payload_with hand (kept_by w.tables (client_by v)))) (valid : IsValidFor request (kept_by w.tables (client_by v))) (nodes : List (List Replica)) (word : OpWord) (word_is : word ≡ word_of_op hand.op) where
+  pub named_is : (reply : Reply) (hands : HandsState) (end : Option Outcome) (details : Details) → MayReply (record_seen w.cluster (ckpt_of request) r) (node_at w.nodes r) request p reply → nodes ≡ nodes_after w.cluster w.nodes r request p reply →
+      tables_keeping request (client_by v) hand.op reply (its_iteration w v r request hand p reply) (tables_lending request (client_by v) hand.op w.tables) ≡ w.tables → end ≡ its_end w v r request hand p reply → hands ≡ set_at w.hands v (left end (hand_taken (served_done w.cluster request r reply) hand)) → its_copy w v r request hand p reply ≡ hand.snapshot →
+      details ≡ ended_details (its_end w v r request hand p reply) (its_details w v r request hand p reply) → IsStep v w (ended_at v end (record w { nodes = nodes; hands = hands })) (Stepped hand.call word (verb_of request) (Some (ckpt_of request)) (Some r) (word_of reply) end details)
+  named_is reply hands end details may nodes_are tables end_is hands_are copy details_are =
+      let then_hands = hands_are ∙ (λ i. set_at w.hands v (left (end_is i) (hand_taken (served_done w.cluster request r reply) (with_copy hand (sym copy i))))) in
+      let new_is : ended_at v end (record w { nodes = nodes; hands = hands }) ≡ served_world w v r request hand p reply = λ i. ended_at v (end_is i) (record w { nodes = nodes_are i; tables = sym tables i; hands = then_hands i }) in
+      subst (λ (z : World × OpWord × Option Outcome × Details). IsStep v w z.0 (Stepped hand.call z.1 (verb_of request) (Some (ckpt_of request)) (Some r) (word_of reply) z.2 z.3)) (λ i. (sym new_is i, sym word_is i, sym end_is i, sym details_are i))
+      (answered_is w v r request hand held next shown goes p reply carries may valid)
 
 -- a stage
 module _ (w : World) (c : ℕ) (r : ℕ) (call : CallId) (k : ℕ) (t : ℤ) (hand : InHand) (held : hand_at w.hands (Actor (Client c)) ≡ Some hand) (next : IsNext w (Actor (Client c)) (Serve r (requests.Stage call k t))) (shown : IsShown w) where
@@ -142,7 +139,8 @@ module _ (w : World) (c : ℕ) (r : ℕ) (call : CallId) (k : ℕ) (t : ℤ) (ha
     told_so : (reply : Reply) (hands : HandsState) (end : Option Outcome) → reply_told answers.Nothing told ≡ reply → end ≡ its_end w (Actor (Client c)) r stage hand lent reply → hands ≡ set_at w.hands (Actor (Client c)) (left end (hand_taken (served_done w.cluster stage r reply) hand)) →
         IsStep (Actor (Client c)) w (record w { nodes = nodes; hands = hands }) (Stepped hand.call word verbs.Stage (Some k) (Some r) (word_of reply) end beside.Nothing)
     told_so reply hands end so end_is hands_are =
-        named_is w c r stage hand held next shown tt lent update_is tt nodes word word_is reply hands end (answered reply so) (nothing reply) (nodes_are ∙ its_nodes w (Actor (Client c)) r stage hand held next shown tt lent reply) refl end_is hands_are (copy_kept stage (λ x s. refl) (replica_served (record_seen w.cluster k r) (node_at w.nodes r) k) hand.snapshot)
+        named_is w (Actor (Client c)) r stage hand held next shown tt lent update_is tt nodes word word_is reply hands end beside.Nothing (answered reply so) (nodes_are ∙ its_nodes w (Actor (Client c)) r stage hand held next shown tt lent reply) refl end_is hands_are (copy_kept stage (λ x s. refl) (replica_served (record_seen w.cluster k r) (node_at w.nodes r) k) hand.snapshot)
+        (ended_none (its_end w (Actor (Client c)) r stage hand lent reply) (its_details w (Actor (Client c)) r stage hand lent reply) (nothing reply))
 
     -- it is staged
     pub stage_is : (taken : InHand) (label : Label) → IsUpdate hand.driver → reply_told answers.Nothing told ≡ replies.Done answers.Nothing →
@@ -190,5 +188,6 @@ module _ (w : World) (c : ℕ) (r : ℕ) (call : CallId) (k : ℕ) (hand : InHan
     commit_is goes_on taken place label (taken_is, end_is) place_is label_is =
         let d = done_of w.cluster verbs.Commit (Some k) (Some r) words.Ok in
         subst (IsStep (Actor (Client c)) w (record w { nodes = nodes; hands = set_at w.hands (Actor (Client c)) place })) (sym label_is)
-        (named_is w c r commit hand held next shown tt no_payload tt tt nodes word word_is done (set_at w.hands (Actor (Client c)) place) (ended_unless goes_on) done_by none_told (nodes_are ∙ its_nodes w (Actor (Client c)) r commit hand held next shown tt no_payload done) refl
-        (end_is ∙ ap (hand_end d (replies.Done answers.Nothing)) taken_is) (ap (set_at w.hands (Actor (Client c))) (place_is ∙ ap (left (ended_unless goes_on)) taken_is)) (copy_kept commit (λ x s. refl) (replica_served (record_seen w.cluster k r) (node_at w.nodes r) k) hand.snapshot))
+        (named_is w (Actor (Client c)) r commit hand held next shown tt no_payload tt tt nodes word word_is done (set_at w.hands (Actor (Client c)) place) (ended_unless goes_on) beside.Nothing done_by (nodes_are ∙ its_nodes w (Actor (Client c)) r commit hand held next shown tt no_payload done) refl
+        (end_is ∙ ap (hand_end d (replies.Done answers.Nothing)) taken_is) (ap (set_at w.hands (Actor (Client c))) (place_is ∙ ap (left (ended_unless goes_on)) taken_is)) (copy_kept commit (λ x s. refl) (replica_served (record_seen w.cluster k r) (node_at w.nodes r) k) hand.snapshot)
+        (ended_none (its_end w (Actor (Client c)) r commit hand no_payload done) (its_details w (Actor (Client c)) r commit hand no_payload done) none_told))

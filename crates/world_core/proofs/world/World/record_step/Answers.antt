@@ -121,13 +121,12 @@ pub free_gone_since-requires : goal.free_gone_since-requires
 free_gone_since-requires c =
     let w = c.args.self.now in
     let hand = c.in-Some.hand in
-    let shows = c.requires.shown.shows in
     let ok = sym c.is_err.ensures.value ∙ c.if-is_err.false in
     let record_is : c.apply-applied.new.cluster ≡ event_after hand.call hand.driver c.args.step w.cluster = when_ok (c.apply-applied.new.cluster ≡ event_after hand.call hand.driver c.args.step w.cluster) c.apply-applied.result ok c.apply-applied.ensures.ok in
     let nodes_are : c.apply-applied.new.nodes ≡ nodes_behind hand.driver c.args.step w.cluster w.nodes = when_ok (c.apply-applied.new.nodes ≡ nodes_behind hand.driver c.args.step w.cluster w.nodes) c.apply-applied.result ok c.apply-applied.ensures.nodes in
     let snapshots_are : c.apply-applied.new.snapshots ≡ snapshots_behind hand.driver c.args.step w.cluster w.snapshots = when_ok (c.apply-applied.new.snapshots ≡ snapshots_behind hand.driver c.args.step w.cluster w.snapshots) c.apply-applied.result ok c.apply-applied.ensures.snapshots in
     record {
-      none = λ same. none_freed w c.let_go_with.new.self hand.call hand.driver c.args.step c.gone_by-before.result shows.holds shows.keeps
+      none = λ same. none_freed w c.let_go_with.new.self hand.call hand.driver c.args.step c.gone_by-before.result c.requires.shown
           (ap (λ (x : World). x.cluster) c.let_go_with.ensures ∙ record_is) (ap (λ (x : World). x.nodes) c.let_go_with.ensures ∙ nodes_are) (ap (λ (x : World). x.snapshots) c.let_go_with.ensures ∙ snapshots_are)
           c.gone_by-before.ensures same;
     }
