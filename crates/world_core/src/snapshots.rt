@@ -1,7 +1,6 @@
 //! The background snapshots: of each checkpoint whose updates go to its active alone, the room for one, and what was
 //! pulled last.
 ghost use Rattle.std.specs.Prelude.{◌≡◌, ◌<◌, [], None, Some, false, length, IfSome, IsSomeAnd, MatchOption, OnErr, OnOk, is_some};
-ghost use Rattle.std.specs.List.{list_all};
 ghost use Rattle.ckpt_types.specs.Attributes.{is_malformed};
 ghost use Rattle.ckpt_types.specs.Sections.{Fits};
 ghost use Rattle.cluster_record.specs.Places.{change_key, place_key};
@@ -101,7 +100,7 @@ impl Snapshots {
     pub fn free_gone(&mut self, seen: &Record)
         ensures { self.new ≡ backgrounds_left seen.now.entries self.old }
     {
-        keep_there(&mut self.list, seen);
+        self.list.retain(|background| has_entry(background, seen));
     }
 }
 
@@ -157,24 +156,6 @@ fn where_pulled(background: &Background) -> Option<&Snap>
     // The clause of `attributes` tells that its sections keep to them.
     let _declared = background.snap.attributes();
     Some(&background.snap)
-}
-
-fn keep_there(snapshots: &mut Vec<Background>, seen: &Record)
-    ensures { snapshots.new.items ≡ backgrounds_left seen.now.entries snapshots.old.items }
-{
-    if all_there(snapshots.as_slice(), seen) {
-        return;
-    }
-    snapshots.retain(|background| has_entry(background, seen));
-}
-
-// Whether each snapshot's checkpoint has an entry in the record.
-fn all_there(snapshots: &[Background], seen: &Record) -> bool
-    ensures { result ≡ list_all (λ b. is_some (entry_of b.ckpt seen.now.entries)) snapshots.now }
-{
-    snapshots
-        .iter()
-        .all(|background| has_entry(background, seen))
 }
 
 fn has_entry(background: &Background, seen: &Record) -> bool
