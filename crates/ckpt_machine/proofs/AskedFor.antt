@@ -115,11 +115,3 @@ steps_drive call ask begun (d ∷ steps) drives = taken_drives call ask d (drive
 -- where its steps have led it
 pub state_drives : (s : CallState) → IsDriven s → DrivesFor s.call (asked s.op) (driver_of s)
 state_drives s driven = steps_drive s.call (asked s.op) s.begun s.steps (subst (λ o. IfSome o (DrivesFor s.call (asked s.op))) driven (start_drives s.call (asked s.op) s.kept))
-
--- an open is of the name and the attributes that its operation asks for
-pub open_for : (s : CallState) (o : OpenState) → IsDriven s → driver_of s ≡ drivers.Open o → IsOpenFor s.call (asked s.op) o
-open_for s o driven is = subst (DrivesFor s.call (asked s.op)) is (state_drives s driven)
-
--- a retention is set to the duration that its operation asks for
-pub retention_for : (s : CallState) (k : ℕ) (duration : ℤ) → IsDriven s → driver_of s ≡ drivers.Once (once.Retain k duration) → IsRetentionFor (asked s.op) duration
-retention_for s k duration driven is = subst (DrivesFor s.call (asked s.op)) is (state_drives s driven)

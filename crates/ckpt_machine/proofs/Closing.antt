@@ -26,7 +26,7 @@ use Rattle.ckpt_machine.specs.Invariant.{IsKeptOf, AreCalls, InvariantIn}
 use Rattle.ckpt_machine.specs.Machine.{Machine, ReplicaState, Snapshot, CallState, who}
 use Rattle.ckpt_machine.specs.Shape.{Shape}
 use Rattle.ckpt_machine.specs.Steps.{kind_of, driver_of, is_over, goes_with, left_over, with_closed}
-use Rattle.ckpt_machine.specs.Tables.{closing, handle_closed}
+use Rattle.ckpt_machine.specs.Tables.{handle_closed}
 use Rattle.ckpt_machine.proofs.Actors.{same_actor-true}
 use Rattle.ckpt_machine.proofs.AsyncCalls.{ended_idle}
 use Rattle.ckpt_machine.proofs.AsyncNames.{own_name, async_named}
@@ -118,16 +118,3 @@ module _ (s : CallState) where
 
       pub closing_ends : InvariantIn shapes (ending s (then_record (without_those (goes m) m))) → InvariantIn shapes (ending s (with_closed s (then_record m)))
       closing_ends ended = closing_keeps _ shapes (pending_keeps (ending s (then_record (without_those (goes m) m))) shapes ended _ calls_then) s.call.actor (ended_idle (without_those (goes m) m) s plain) (asked s.op)
-
--- a call that ends no handle leaves all as it is
-pub with_closed-same : (m : Machine) (s : CallState) → closing (asked s.op) (m.tables s.call.actor) ≡ m.tables s.call.actor → handle_closed (asked s.op) (m.tables s.call.actor) ≡ None → with_closed s m ≡ m
-with_closed-same m s same none =
-    (λ i. record m {
-      tables = put_actor m.tables s.call.actor (closing (asked s.op) (m.tables s.call.actor));
-      pending = put_actor m.pending s.call.actor (left_over (none i) (m.pending s.call.actor));
-      in_hand = λ w. cond (goes_with (none i) s.call.actor (m.pending s.call.actor) w) None (m.in_hand w);
-    })
-    ∙ (λ i. record m {
-      tables = λ b. put_actor-same m.tables s.call.actor (closing (asked s.op) (m.tables s.call.actor)) same b i;
-      pending = λ b. put_actor-same m.pending s.call.actor (m.pending s.call.actor) refl b i;
-    })

@@ -92,7 +92,7 @@ not_active active r other is = let w : false ≡ true = sym (subst (λ o. is_act
 pulled_unmarked : (x : ReplicaState) (count : ℕ) → pulls.Ok count ≡ pull_reply (Some x) → x.marks ≡ None
 pulled_unmarked x count is = by_marks x.marks refl is
   where
-    by_marks : (o : Option Marked) → x.marks ≡ o → pulls.Ok count ≡ pull_unless (call_of o) x → x.marks ≡ None
+    by_marks : (o : Option Marked) → x.marks ≡ o → pulls.Ok count ≡ pull_unless (call_of o) (length x.effects) → x.marks ≡ None
     by_marks None none is = none
     by_marks (Some marks) marked is = absurd (cc is)
 

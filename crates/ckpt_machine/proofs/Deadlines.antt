@@ -1,5 +1,5 @@
 -- What is next for a call that has a deadline.
-use Rattle.std.proofs.Common.{◌≡◌, ap, true, false, cond, Option, Some, None, ℤ, refl}
+use Rattle.std.proofs.Common.{◌≡◌, true, false, cond, Option, Some, None, ℤ, refl}
 use Rattle.moment_rules.specs.Times.{is_reached}
 use Rattle.ckpt_types.specs.declared.ais_error.AisError.TheVariants.{Timeout}
 use Rattle.ckpt_types.specs.declared.answers.Cause.TheVariants.{Deadline}
@@ -17,11 +17,6 @@ in_time-cases P (Some d) moment next late early =
       | true ↦ λ is. late d refl is
       | false ↦ λ is. early is
     ] refl
-
--- before the deadline it is what is next
-pub in_time-now : (deadline : Option ℤ) (moment : ℤ) (next : Next) → IsBefore moment deadline → in_time deadline moment next ≡ next
-in_time-now None moment next before = refl
-in_time-now (Some d) moment next before = ap (λ b. cond b (End (Refused Timeout (Deadline d moment))) next) before
 
 -- so what holds of every end, and of what is next, holds either way
 pub in_time-either : (P : Next → Type 0) (deadline : Option ℤ) (moment : ℤ) (next : Next) → ((o : Outcome) → P (End o)) → P next → P (in_time deadline moment next)

@@ -1,5 +1,5 @@
 -- A step that changes one replica and one call in hand leaves what holds of every other call and of every other checkpoint.
-use Rattle.std.proofs.Common.{◌≡◌, ◌≢◌, ◌⊎◌, ℕ, inl, inr, Option, Some, None, Bool, true, false, cond, ◌&&◌, ◌==◌, refl, sym, ap, subst, ◌∙◌}
+use Rattle.std.proofs.Common.{◌≡◌, ◌≢◌, ℕ, inl, inr, Option, Some, None, Bool, true, false, cond, ◌&&◌, ◌==◌, refl, sym, ap, subst, ◌∙◌}
 use Rattle.std.proofs.lemmas.Bool.{eqb-true, eq-eqb}
 use Rattle.ckpt_types.specs.declared.identities.ActorName.{ActorName}
 use Rattle.ckpt_types.specs.declared.identities.CallId.{CallId}
@@ -21,7 +21,7 @@ use Rattle.ckpt_types.specs.declared.identities.Who.{Who}
 use Rattle.ckpt_machine.proofs.Whose.{put_who-cases, put_who-other, apart_states}
 use Rattle.ckpt_machine.proofs.CallsKept.{IsSameCall, apart_from, calls_left}
 use Rattle.ckpt_machine.proofs.Lives.{LivesOn, lives_on-one}
-use Rattle.ckpt_machine.proofs.OtherCalls.{LooksAlike, LooksLater-refl, making_still, IsInHand-alike, IsOwner-alike, IsMarker-alike, IsGoodIn-alike}
+use Rattle.ckpt_machine.proofs.OtherCalls.{LooksAlike, LooksLater-refl, making_still, IsInHand-alike, IsMarker-alike, IsGoodIn-alike}
 
 -- ---- calls
 
@@ -50,9 +50,6 @@ module _ (m : Machine) (shapes : ℕ → Shape) (inv : InvariantIn shapes m) (s 
       let ckpt : j ≡ u.ckpt = sym own.ckpt ∙ ap (λ (v : UpdateState). v.ckpt) driver in
       let e : true ≡ false = sym (eq-eqb j u.ckpt ckpt) ∙ other in
       cc e)
-
-  pub IsOwner-other : (f : ℕ → ℕ → Option ReplicaState) (o : Option CallState) → LivesOn m (with_step f o) → (j : ℕ) (sh : Shape) (call : CallId) (own : IsOwner m j sh call) → same_who (who own.state) (who s) ≡ false → IsOwner (with_step f o) j sh call
-  IsOwner-other f o lives j sh call own other = IsOwner-alike m (with_step f o) j lives sh call own (put_who-other m.in_hand (who s) o (who own.state) other)
 
   -- a weak write is another call
   marker_other : (j : ℕ) (marks : Marked) (own : IsMarker m j marks) → same_who (who own.state) (who s) ≡ false

@@ -11,12 +11,8 @@ use Rattle.ckpt_types.specs.declared.answers.Cause.TheVariants.{Plain, Generatio
 use Rattle.ckpt_types.specs.declared.answers.Outcome.{Outcome}
 use Rattle.ckpt_types.specs.declared.answers.Outcome.TheVariants.{Done, Refused}
 use Rattle.ckpt_types.specs.declared.identities.CallId.{CallId}
-use Rattle.ckpt_types.specs.declared.operation.Op.{Op}
-use Rattle.ckpt_types.specs.declared.operation.Op.TheVariants as ops
-use Rattle.ckpt_types.specs.declared.words.OpWord.TheVariants as opwords
 use Rattle.ckpt_types.specs.Asks.{Ask, asked}
 use Rattle.ckpt_types.specs.Asks as asks
-use Rattle.ckpt_types.specs.OpWord.{word_of_op}
 use Rattle.node_msgs.specs.declared.next.Next.TheVariants.{End}
 use Rattle.node_msgs.specs.declared.steps.Verb.TheVariants as verbs
 use Rattle.cluster_record.specs.declared.calls.PulledAt.{PulledAt}
@@ -84,16 +80,6 @@ served_each steps n (c ∷ cs) all (suc d) some =
 abbrev pub IsSynchronize : Ask → Type 0
 IsSynchronize (asks.Synchronize place timeout) = Unit {0}
 IsSynchronize ask = ⊥
-
--- a call with the word `sync` asks for a synchronisation
-pub asks_sync : (op : Op) → word_of_op op ≡ opwords.Sync → (place : ℕ) × (timeout : Option ℤ) × (asked op ≡ asks.Synchronize place timeout)
-asks_sync (ops.Sync place timeout) is = (place, Some timeout, refl)
-asks_sync op is = absurd (cc is)
-
--- and so does one with the word `syncasync`
-pub asks_sync_async : (op : Op) → word_of_op op ≡ opwords.SyncAsync → (place : ℕ) × (timeout : Option ℤ) × (asked op ≡ asks.Synchronize place timeout)
-asks_sync_async (ops.SyncAsync place invocation) is = (place, None, refl)
-asks_sync_async op is = absurd (cc is)
 
 -- a synchronisation drives a call in hand that asks for one
 pub drives_sync : (m : Machine) (shapes : ℕ → Shape) (s : CallState) (place : ℕ) (timeout : Option ℤ) → asked s.op ≡ asks.Synchronize place timeout → (d : Driver) → IsInPlace m shapes s d → (u : SyncState) × (d ≡ drivers.Sync u) × IsSynchronizeIn m s u

@@ -31,14 +31,14 @@ abbrev pub source_at : Machine → ℕ → Option ReplicaState
 source_at m k = on_node (m.replicas k) (source_of (entry_of k m.cluster.entries))
 
 -- marks hold a pull off; else it tells the count
-abbrev pub pull_unless : Option CallId → ReplicaState → PullReply
-pull_unless (Some holder) x = pulls.Held holder
-pull_unless None x = pulls.Ok (length x.effects)
+abbrev pub pull_unless : Option CallId → ℕ → PullReply
+pull_unless (Some holder) count = pulls.Held holder
+pull_unless None count = pulls.Ok count
 
 -- what a pull answers of a replica
 abbrev pub pull_reply : Option ReplicaState → PullReply
 pull_reply None = pulls.Nothing
-pull_reply (Some x) = pull_unless (call_of x.marks) x
+pull_reply (Some x) = pull_unless (call_of x.marks) (length x.effects)
 
 -- what a pull of a checkpoint answers
 abbrev pub pull_answer : Machine → ℕ → PullReply

@@ -25,7 +25,6 @@ use Rattle.ckpt_types.specs.Limits.{nodes_max}
 use Rattle.node_msgs.specs.declared.requests.Request.{Request}
 use Rattle.node_msgs.specs.declared.requests.Request.TheVariants as requests
 use Rattle.node_msgs.specs.declared.replies.Reply.{Reply}
-use Rattle.node_msgs.specs.declared.replies.Reply.TheVariants as replies
 use Rattle.node_msgs.specs.declared.next.RecordStep.{RecordStep}
 use Rattle.node_msgs.specs.declared.next.RecordStep.TheVariants as events
 use Rattle.node_msgs.specs.declared.next.Next.{Next}
@@ -53,7 +52,7 @@ use Rattle.replica.specs.Replicas.{Replica}
 use Rattle.stage_slot.specs.Slots.{Slot}
 use Rattle.cluster_record.specs.Calls.{number_of, client_of, IsClient, same_actor, put_actor, left}
 use Rattle.cluster_record.specs.Places.{put2}
-use Rattle.cluster_record.specs.LookUps.{declared_in, creation_flags_of}
+use Rattle.cluster_record.specs.LookUps.{declared_in}
 use Rattle.cluster_record.specs.RecordState.{RecordState, entry_of, complete_of, is_live_client, home_of, is_up, no_nodes, brought_up, IsMomentFrom, moved, swept, entered, created_as, finished, opened, undone, closed, unlinked, retained, departed, hold_set, active_set}
 use Rattle.node_msgs.specs.Requests.{ckpt_of}
 use Rattle.node_core.specs.Serving.{made_id, reply_at, details_at}
@@ -67,7 +66,7 @@ use Rattle.ckpt_machine.specs.Listing.{listing_at}
 use Rattle.ckpt_machine.specs.Options.{is_all, is_weak, if_declared}
 use Rattle.ckpt_machine.specs.Machine.{Machine, Effect, Applied, Staged, ReplicaState, Snapshot, CallState, who}
 use Rattle.ckpt_machine.specs.Propagation.{source_at, target_at, pull_answer, put_answer, with_pulled, with_put, copied, replica_from}
-use Rattle.client_handles.specs.ClientState.{ClientState, emptied}
+use Rattle.client_handles.specs.ClientState.{ClientState}
 use Rattle.call_dispatch.specs.PendingCalls.{PendingCalls, no_pending, with_begun, ended_in, forgotten_over, dispatched, given_number, goes_over, find_async}
 use Rattle.call_dispatch.specs.declared.async_call.AsyncCall.{AsyncCall}
 use Rattle.ckpt_types.specs.declared.calls.AsyncKind.{AsyncKind}
@@ -78,7 +77,7 @@ use Rattle.cluster_record.specs.StepDone.{StepDone, done_of, counting, generatio
 use Rattle.snap_copy.specs.Snapshots as copies
 use Rattle.ckpt_types.specs.Asks.{Ask, asked, update_of, elements_of, invocation_of, IsBuilt}
 use Rattle.ckpt_types.specs.Asks as asks
-use Rattle.ckpt_machine.specs.Tables.{rooms_in, handle_asked, ckpt_of_handle, kept_asked, ids_of, handle_given, handle_closed, registering, started, gone_on, closing, ended_at_once}
+use Rattle.ckpt_machine.specs.Tables.{rooms_in, handle_asked, ckpt_of_handle, kept_asked, ids_of, handle_closed, started, gone_on, ended_at_once, tables_done}
 use Rattle.ckpt_machine.specs.Beginning.{begin_end, callbacks_told, takes_memory_at_once, Standing}
 use Rattle.ckpt_machine.specs.Whose.{is_of, put_who}
 
@@ -481,9 +480,13 @@ chosen_at choice now (Some x) = chosen choice now x.sections
 abbrev pub with_tables : ActorName → (ClientState → ClientState) → Machine → Machine
 with_tables a change m = record m { tables = put_actor m.tables a (change (m.tables a)) }
 
+-- the tables of the client of a call are changed as its step of the record, which is done, makes of them
+abbrev pub with_tables_done : CallState → Verb → Option ℕ → Machine → Machine
+with_tables_done s verb k m = with_tables s.call.actor (tables_done m.cluster (asked s.op) verb k) m
+
 -- the opener's handle of a checkpoint, by what the record has of it now
 abbrev pub with_given : CallState → ℕ → Machine → Machine
-with_given s k m = with_tables s.call.actor (handle_given (asked s.op) k (creation_flags_of (entry_of k m.cluster.entries))) m
+with_given s k m = with_tables_done s verbs.Open (Some k) m
 
 -- the asynchronous calls of an actor that are not dispatched
 abbrev pub with_pending : ActorName → (PendingCalls → PendingCalls) → Machine → Machine
@@ -515,7 +518,7 @@ without_syncs handle a m = with_pending a (left_over handle) (record m { in_hand
 
 -- the handle is ended that the call ends, if it ends one, with the synchronisations over it
 abbrev pub with_closed : CallState → Machine → Machine
-with_closed s m = with_tables s.call.actor (closing (asked s.op)) (without_syncs (handle_closed (asked s.op) (m.tables s.call.actor)) s.call.actor m)
+with_closed s m = with_tables_done s verbs.Close None (without_syncs (handle_closed (asked s.op) (m.tables s.call.actor)) s.call.actor m)
 
 -- the iteration that the call starts keeps what the replica of a node gives to its choice now
 abbrev pub with_started : CallState → ℕ → ℕ → Machine → Machine
@@ -554,8 +557,8 @@ without_making (Some k) m = record_step (undone k) m
 
 -- what a step changes, the call's own steps aside
 abbrev pub changed : Machine → CallState → Verb → Option ℕ → Option ℕ → StepReply → Machine
-changed m s verbs.Enter k r reply = on_ok reply m (at_some r m (λ r. with_tables s.call.actor (registering (asked s.op)) (record_step (entered (client_of s.call) r s.call.number) m)))
-changed m s verbs.Leave k r reply = on_ok reply m (without_calls s.call.actor (with_tables s.call.actor emptied (record_step (departed (client_of s.call)) m)))
+changed m s verbs.Enter k r reply = on_ok reply m (at_some r m (λ r. with_tables_done s verbs.Enter k (record_step (entered (client_of s.call) r s.call.number) m)))
+changed m s verbs.Leave k r reply = on_ok reply m (without_calls s.call.actor (with_tables_done s verbs.Leave k (record_step (departed (client_of s.call)) m)))
 changed m s verbs.Create k r reply = on_ok reply m (record_step (created_for s.call (asked s.op)) m)
 changed m s verbs.Reserve k r reply = on_ok reply m (at_some k m (λ k. at_some r m (λ r. with_reservation k r m)))
 changed m s verbs.Finish k r reply = on_ok reply m (at_some k m (λ k. with_given s k (record_step (finished k (client_of s.call)) m)))

@@ -16,8 +16,12 @@ use Rattle.section_iter.specs.Next.{kept_after}
 use Rattle.section_iter.specs.declared.room.Room.{Room}
 use Rattle.call_dispatch.specs.PendingCalls.{PendingCalls, given_by}
 use Rattle.call_dispatch.specs.declared.async_call.EndedCall.{EndedCall}
-use Rattle.client_handles.specs.ClientState.{ClientState, handle_at, iterated_at, kept_at, taken, bound, opened_at, dropped, added, returned, ended, registered, handle_number, has_iteration_room}
+use Rattle.client_handles.specs.ClientState.{ClientState, emptied, handle_at, iterated_at, kept_at, taken, bound, opened_at, dropped, added, returned, ended, registered, handle_number, has_iteration_room}
 use Rattle.client_handles.specs.declared.handle_view.HandleView.{HandleView}
+use Rattle.cluster_record.specs.LookUps.{creation_flags_of}
+use Rattle.cluster_record.specs.RecordState.{RecordState, entry_of}
+use Rattle.node_msgs.specs.declared.steps.Verb.{Verb}
+use Rattle.node_msgs.specs.declared.steps.Verb.TheVariants as verbs
 use Rattle.ckpt_types.specs.Asks.{Ask}
 use Rattle.ckpt_types.specs.Asks as asks
 use Rattle.ckpt_machine.specs.Drivers.{Rooms}
@@ -122,6 +126,20 @@ handle_closed ask t = None
 abbrev pub registering : Ask → ClientState → ClientState
 registering (asks.Enter r version callbacks) t = registered callbacks t
 registering ask t = t
+
+-- an open has a handle of a checkpoint, where there is one, by what the record has of it
+abbrev pub tables_given : RecordState → Ask → Option ℕ → ClientState → ClientState
+tables_given R ask None t = t
+tables_given R ask (Some k) t = handle_given ask k (creation_flags_of (entry_of k R.entries)) t
+
+-- WHAT A STEP OF THE RECORD MAKES OF THEM, which is done, and behind which the record is R
+abbrev pub tables_done : RecordState → Ask → Verb → Option ℕ → ClientState → ClientState
+tables_done R ask verbs.Enter k t = registering ask t
+tables_done R ask verbs.Open k t = tables_given R ask k t
+tables_done R ask verbs.Finish k t = tables_given R ask k t
+tables_done R ask verbs.Close k t = closing ask t
+tables_done R ask verbs.Leave k t = emptied t
+tables_done R ask verb k t = t
 
 -- the callback of an open sets its place to the handle that it has opened
 abbrev pub place_set : EndedCall → ClientState → ClientState

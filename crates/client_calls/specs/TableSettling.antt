@@ -1,30 +1,24 @@
 -- What a step of the record makes of its client's table.
-use Rattle.std.specs.Prelude.{◌≡◌, ℕ, ◌-◌, ◌^◌, ◌<◌, Option, Some, None, true}
+use Rattle.std.specs.Prelude.{◌≡◌, ℕ, ◌-◌, ◌^◌, ◌<◌, Option, true}
 use Rattle.ckpt_types.specs.declared.answers.Outcome.{Outcome}
 use Rattle.ckpt_types.specs.declared.answers.Outcome.TheVariants.{Done}
 use Rattle.ckpt_types.specs.declared.operation.Op.{Op}
 use Rattle.node_msgs.specs.declared.next.RecordStep.{RecordStep}
 use Rattle.node_msgs.specs.declared.next.RecordStep.TheVariants as events
-use Rattle.client_handles.specs.ClientState.{has_handle_room, emptied}
-use Rattle.cluster_record.specs.LookUps.{creation_flags_of}
-use Rattle.cluster_record.specs.RecordState.{RecordState, entry_of}
+use Rattle.node_msgs.specs.Steps.{event_verb}
+use Rattle.client_handles.specs.ClientState.{has_handle_room}
+use Rattle.cluster_record.specs.RecordState.{RecordState}
 use Rattle.ckpt_types.specs.Asks.{asked, IsBuilt}
-use Rattle.ckpt_machine.specs.Tables.{handle_given, closing, registering}
+use Rattle.ckpt_machine.specs.Tables.{closing, tables_done, tables_given}
 use Rattle.client_calls.specs.TableState.{TableState, with_client}
 
 -- the client of an open gets a handle of a checkpoint, where there is one
 abbrev pub table_given : RecordState → Op → Option ℕ → TableState → TableState
-table_given R op None t = t
-table_given R op (Some k) t = with_client (handle_given (asked op) k (creation_flags_of (entry_of k R.entries))) t
+table_given R op k t = with_client (tables_given R (asked op) k) t
 
--- R is the record after the step; one that becomes live has registered its callbacks
+-- R is the record after the step
 abbrev pub table_settled : RecordState → Op → RecordStep → Option ℕ → TableState → TableState
-table_settled R op events.Enter k t = with_client (registering (asked op)) t
-table_settled R op events.Open k t = table_given R op k t
-table_settled R op events.Finish k t = table_given R op k t
-table_settled R op events.Close k t = with_client (closing (asked op)) t
-table_settled R op events.Leave k t = with_client emptied t
-table_settled R op step k t = t
+table_settled R op step k t = with_client (tables_done R (asked op) (event_verb step) k) t
 
 -- where the record alone says that a call is done, its handle is closed, if it closes one
 abbrev pub table_looked : Outcome → Op → TableState → TableState

@@ -31,7 +31,7 @@ use Rattle.cluster_record.specs.declared.opening.OpenAnswer.TheVariants as openi
 use Rattle.cluster_record.specs.Calls.{same_call}
 use Rattle.cluster_record.specs.DueOnce as once
 use Rattle.cluster_record.specs.DueOpen.{OpenState, accepts, by_making, made_of, on_making, open_next, reserve_or_finish, targets_of}
-use Rattle.cluster_record.specs.DueSync.{SyncState, first_unserved, install_next, kind_next, sync_next, sync_on, synchronize_next, unless_held, unless_stale}
+use Rattle.cluster_record.specs.DueSync.{SyncState, first_unserved, install_next, kind_next, sync_next, sync_on, synchronize_next, unless_stale}
 use Rattle.cluster_record.specs.Ends.{hold_in, is_own, made_in, making_next, making_outcome_by, making_told_by, open_outcome_by, opened_in, refused_end, set_unless_held, setting_end, sync_outcome_by, sync_told_by}
 use Rattle.cluster_record.specs.Identities.{IdentitiesRise}
 use Rattle.cluster_record.specs.LookUps.{at_ckpt, identity_in}

@@ -19,8 +19,8 @@ use Rattle.world_core.specs.LiveRooms.{LiveHaveRoom}
 use Rattle.world_core.specs.Holding.{replicas_on, IsReservation, IsHeld, HoldsOnlyWhatStands}
 use Rattle.world_core.specs.Nodes.{replica_in}
 use Rattle.ckpt_machine.specs.Facts.{Facts}
-use Rattle.world_core.specs.Shows.{History, shown_replica, shown_reservation, where_complete, where_not_complete, complete_replica, reserved_in, machine_of, shown_snapshot, snapshot_shown, FitsReplica, FitsSnapshot, HistoryFits, Shows, Does}
-use Rattle.ckpt_machine.specs.Steps.{IsDue, after, snapshot_under}
+use Rattle.world_core.specs.Shows.{History, shown_replica, shown_reservation, where_complete, complete_replica, reserved_in, machine_of, shown_snapshot, snapshot_shown, FitsReplica, FitsSnapshot, HistoryFits, Shows, Does}
+use Rattle.ckpt_machine.specs.Steps.{IsDue, after, snapshot_under, reservation_under}
 use Rattle.world_core.proofs.HoldingLaws.{StandsFor, held_at, holds_by_key, standing}
 use Rattle.ckpt_machine.proofs.OnceByKey.{counted, counted-filter}
 use Rattle.world_core.proofs.Recording.{GoesAt, NodeGoes, zero_there}
@@ -63,14 +63,14 @@ complete_replica-freed R nodes k r =
     ap (where_complete (slice_index (complete_of (entry_of k R.entries)) r)) (replica_in-freed R.entries nodes k r)
     ∙ freed_complete_case r (entry_of k R.entries) (replica_in nodes k r)
 
-freed_reserved_case : (r up : ℕ) (e : Option Entry) (x : Option Replica) → where_not_complete e r (shown_reservation up (cond (is_some e) x None)) ≡ where_not_complete e r (shown_reservation up x)
+freed_reserved_case : (r up : ℕ) (e : Option Entry) (x : Option Replica) → reservation_under e r (shown_reservation up (cond (is_some e) x None)) ≡ reservation_under e r (shown_reservation up x)
 freed_reserved_case r up None x = refl
 freed_reserved_case r up (Some e) x = refl
 
 -- and the same are reserved
 pub reserved_in-freed : (R : RecordState) (nodes : List (List Replica)) (k r : ℕ) → reserved_in R (freed R.entries nodes) k r ≡ reserved_in R nodes k r
 reserved_in-freed R nodes k r =
-    ap (λ x. where_not_complete (entry_of k R.entries) r (shown_reservation (slice_index R.up r) x)) (replica_in-freed R.entries nodes k r)
+    ap (λ x. reservation_under (entry_of k R.entries) r (shown_reservation (slice_index R.up r) x)) (replica_in-freed R.entries nodes k r)
     ∙ freed_reserved_case r (slice_index R.up r) (entry_of k R.entries) (replica_in nodes k r)
 
 -- ---- the background snapshots

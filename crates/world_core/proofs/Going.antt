@@ -14,6 +14,7 @@ use Rattle.ckpt_machine.specs.Drivers as drivers
 use Rattle.cluster_record.specs.declared.calls.Making.{Making}
 use Rattle.cluster_record.specs.declared.entries.Entry.{Entry}
 use Rattle.replica.specs.Replicas.{Replica, opened_replica}
+use Rattle.ckpt_machine.specs.Steps.{reservation_under}
 use Rattle.world_core.specs.declared.world.World.{World}
 use Rattle.cluster_record.specs.Places.{change_key}
 use Rattle.ckpt_types.specs.declared.calls.OpenAsk.{OpenAsk}
@@ -29,7 +30,7 @@ use Rattle.cluster_record.specs.Identities.{IdentitiesRise}
 use Rattle.world_core.specs.Holding.{replicas_on, HoldsOnlyWhatStands}
 use Rattle.world_core.specs.RecordReady.{CanAdd, HasNoneOf}
 use Rattle.ckpt_machine.specs.Facts.{Facts, FitsOpen, IsEventReady, AllReserved, NoneReservedElse, IsFinishable}
-use Rattle.world_core.specs.Shows.{History, machine_of, where_not_complete, shown_reservation}
+use Rattle.world_core.specs.Shows.{History, machine_of, shown_reservation}
 use Rattle.cluster_record.proofs.IdentityLaws.{IsLeft, KeepsIdentity, entry_of-beyond, IdentitiesRise-change_key, IdentitiesRise-push, filter_leaves}
 use Rattle.cluster_record.proofs.Places.{find_changed}
 use Rattle.ckpt_machine.specs.Driving.{event_refusal, refusal_in}
@@ -48,18 +49,18 @@ use Rattle.world_core.proofs.Recording.{IsUpIn, GoesAt, NodeGoes, zero_there}
 -- ---- a node that has reserved
 
 -- a node that has reserved has the replica that a reservation makes
-reserved_there : (k r u : ℕ) (f : Option Entry) (e : Entry) (y : Option Replica) → f ≡ Some e → slice_index e.complete r ≡ 0 → where_not_complete f r (shown_reservation u y) ≡ Some u → ((x : Replica) → y ≡ Some x → x ≡ opened_replica k e.attributes e.made) → y ≡ Some (opened_replica k e.attributes e.made)
+reserved_there : (k r u : ℕ) (f : Option Entry) (e : Entry) (y : Option Replica) → f ≡ Some e → slice_index e.complete r ≡ 0 → reservation_under f r (shown_reservation u y) ≡ Some u → ((x : Replica) → y ≡ Some x → x ≡ opened_replica k e.attributes e.made) → y ≡ Some (opened_replica k e.attributes e.made)
 reserved_there k r u f e y is free reserved opening = at y has opening where
   has : shown_reservation u y ≡ Some u
-  has = sym (ap (λ f. where_not_complete f r (shown_reservation u y)) is ∙ ap (λ b. cond b (shown_reservation u y) None) (ap (λ n. n == 0) free)) ∙ reserved
+  has = sym (ap (λ f. reservation_under f r (shown_reservation u y)) is ∙ ap (λ b. cond b (shown_reservation u y) None) (ap (λ n. n == 0) free)) ∙ reserved
 
   at : (y : Option Replica) → shown_reservation u y ≡ Some u → ((x : Replica) → y ≡ Some x → x ≡ opened_replica k e.attributes e.made) → y ≡ Some (opened_replica k e.attributes e.made)
   at None has opening = absurd (cc has)
   at (Some x) has opening = ap Some (opening x refl)
 
 -- and one that has not has none
-pub unreserved_there : (r u : ℕ) (f : Option Entry) (e : Entry) (y : Option Replica) → f ≡ Some e → slice_index e.complete r ≡ 0 → where_not_complete f r (shown_reservation u y) ≡ None → y ≡ None
-unreserved_there r u f e y is free none = at y (sym (ap (λ f. where_not_complete f r (shown_reservation u y)) is ∙ ap (λ b. cond b (shown_reservation u y) None) (ap (λ n. n == 0) free)) ∙ none) where
+pub unreserved_there : (r u : ℕ) (f : Option Entry) (e : Entry) (y : Option Replica) → f ≡ Some e → slice_index e.complete r ≡ 0 → reservation_under f r (shown_reservation u y) ≡ None → y ≡ None
+unreserved_there r u f e y is free none = at y (sym (ap (λ f. reservation_under f r (shown_reservation u y)) is ∙ ap (λ b. cond b (shown_reservation u y) None) (ap (λ n. n == 0) free)) ∙ none) where
   at : (y : Option Replica) → shown_reservation u y ≡ None → y ≡ None
   at None none = refl
   at (Some x) none = absurd (cc none)

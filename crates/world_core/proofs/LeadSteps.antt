@@ -4,7 +4,6 @@ use Rattle.std.specs.Prelude.{Option, Some, None, IfSome, IsSome, IsSomeAnd, is_
 use Rattle.ckpt_types.specs.declared.answers.Answer.TheVariants as answers
 use Rattle.ckpt_types.specs.declared.answers.Outcome.{Outcome}
 use Rattle.ckpt_types.specs.declared.answers.Outcome.TheVariants.{Done}
-use Rattle.ckpt_types.specs.declared.identities.CallId.{CallId}
 use Rattle.ckpt_types.specs.declared.words.OpWord.{OpWord}
 use Rattle.ckpt_types.specs.OpWord.{word_of_op}
 use Rattle.node_msgs.specs.declared.details.Details.TheVariants as beside
@@ -20,7 +19,6 @@ use Rattle.cluster_record.specs.declared.entries.Entry.{Entry}
 use Rattle.cluster_record.specs.DueSync.{SyncState}
 use Rattle.cluster_record.specs.RecordState.{RecordState, entry_of, complete_of, active_set, swept}
 use Rattle.replica.specs.Replicas.{Replica, opened_replica}
-use Rattle.stage_slot.specs.Slots.{Slot}
 use Rattle.ckpt_machine.specs.Drivers as drivers
 use Rattle.ckpt_machine.specs.Driving.{driver_next}
 use Rattle.ckpt_machine.specs.Facts.{IsAtRest, IsEventReady, IsLeadable}
@@ -37,7 +35,7 @@ use Rattle.client_calls.specs.CallStates.{synchronized_by}
 use Rattle.world_core.specs.Nodes.{replica_in}
 use Rattle.world_core.specs.Propagating.{IsPuttable}
 use Rattle.client_calls.specs.Taking.{hand_outcome}
-use Rattle.world_core.specs.Shows.{Does, IsShown, History, FitsReplica, complete_replica, machine_of, shown_replica, shown_slot}
+use Rattle.world_core.specs.Shows.{Does, IsShown, History, FitsReplica, complete_replica, machine_of, shown_replica}
 use Rattle.world_core.proofs.CallSteps.{IsKnown, known, known_by, step_before, step_under, IsShownBehind, pulled_by_client}
 use Rattle.world_core.proofs.EventEnds.{done_ends, is_done}
 use Rattle.world_core.proofs.Finding.{copy_room_is, no_slot, replica_shown}

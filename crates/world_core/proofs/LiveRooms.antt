@@ -25,7 +25,10 @@ use Rattle.client_handles.specs.ClientState.{ClientState}
 use Rattle.world_core.specs.RecordAfter.{event_after}
 use Rattle.world_core.specs.LiveRooms.{room_is_taken, LiveHaveRoom}
 use Rattle.world_core.specs.Settling.{settled, looked}
-use Rattle.client_calls.specs.TableSettling.{table_looked, table_settled}
+use Rattle.ckpt_types.specs.Asks.{asked}
+use Rattle.ckpt_machine.specs.Tables.{tables_done}
+use Rattle.node_msgs.specs.Steps.{event_verb}
+use Rattle.client_calls.specs.TableSettling.{table_looked}
 use Rattle.client_calls.specs.TableState.{TableState, with_calls, with_client}
 use Rattle.world_core.specs.TablesState.{table_changed, at_client}
 use Rattle.world_core.proofs.KeptEntries.{clients_behind, event_declared}
@@ -54,13 +57,8 @@ module _ (w : World) (R : RecordState) (c : ℕ) where
   rooms_calls change rooms = rooms_at (with_calls change) (λ t. refl) rooms
 
   -- by what a step of the record makes of it
-  settled_roomy : (N : RecordState) (op : Op) (step : RecordStep) (k : Option ℕ) (t : TableState) → t.roomy ≡ (table_settled N op step k t).roomy
-  settled_roomy N op events.Open (Some k) t = refl
-  settled_roomy N op events.Finish (Some k) t = refl
-  settled_roomy N op step k t = refl
-
   pub rooms_settled : (N : RecordState) (op : Op) (step : RecordStep) (k : Option ℕ) → LiveHaveRoom R w.tables → LiveHaveRoom R (settled N c op step k w.tables)
-  rooms_settled N op step k rooms = rooms_at (table_settled N op step k) (settled_roomy N op step k) rooms
+  rooms_settled N op step k rooms = rooms_client (tables_done N (asked op) (event_verb step) k) rooms
 
   -- and a look at it
   looked_roomy : (end : Outcome) (op : Op) (t : TableState) → t.roomy ≡ (table_looked end op t).roomy

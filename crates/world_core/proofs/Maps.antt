@@ -12,10 +12,11 @@ use Rattle.cluster_record.specs.Calls.{left}
 use Rattle.cluster_record.specs.Places.{find_key, change_key, list_or, or_none, put2}
 use Rattle.cluster_record.specs.RecordState.{RecordState, entry_of, complete_of}
 use Rattle.node_core.specs.Nodes.{replica_key}
+use Rattle.ckpt_machine.specs.Steps.{reservation_under}
 use Rattle.world_core.specs.Nodes.{replica_in, with_changed}
 use Rattle.cluster_record.specs.StepDone.{StepDone}
 use Rattle.ckpt_machine.specs.Machine.{Effect}
-use Rattle.world_core.specs.Shows.{Beginning, History, shown_replica, shown_reservation, shown_hand, where_complete, where_not_complete, complete_replica, reserved_in, hand_of, FitsReplica, FitsHand}
+use Rattle.world_core.specs.Shows.{Beginning, History, shown_replica, shown_reservation, shown_hand, where_complete, complete_replica, reserved_in, hand_of, FitsReplica, FitsHand}
 use Rattle.world_core.specs.HandsState.{HandsState, hand_at, set_at}
 use Rattle.world_core.proofs.HandLaws.{client_set, ended-at, next_set}
 use Rattle.world_core.specs.Alone.{ended_at, ended_hands}
@@ -126,7 +127,7 @@ pub reserved_same : (R : RecordState) (nodes new : List (List Replica)) (k r : �
     (j q : ℕ) → reserved_in R nodes j q ≡ reserved_in R new j q
 reserved_same R nodes new k r y x is at j q =
     let there = λ (e : ((j == k) && (q == r)) ≡ true). let s = both_true j k q r e in ap (λ (z : ℕ × ℕ). replica_in nodes z.0 z.1) (λ i. (s.0 i, s.1 i)) ∙ is in
-    ap (where_not_complete (entry_of j R.entries) q) (sym (reservation_case (slice_index R.up q) ((j == k) && (q == r)) y x (replica_in nodes j q) there) ∙ ap (shown_reservation (slice_index R.up q)) (sym (at j q)))
+    ap (reservation_under (entry_of j R.entries) q) (sym (reservation_case (slice_index R.up q) ((j == k) && (q == r)) y x (replica_in nodes j q) there) ∙ ap (shown_reservation (slice_index R.up q)) (sym (at j q)))
 
 -- ---- the calls in hand
 

@@ -1,5 +1,5 @@
 -- A pull: what it tells is due, and what the world shows behind it.
-use Rattle.std.proofs.Common.{◌≡◌, ℕ, Bool, true, false, List, [], ◌∷◌, refl, sym, ap, subst, ◌∙◌, cond}
+use Rattle.std.proofs.Common.{◌≡◌, ℕ, Bool, true, false, List, length, [], ◌∷◌, refl, sym, ap, subst, ◌∙◌, cond}
 use Rattle.std.specs.Prelude.{Option, Some, None, IsSomeAnd, is_some, ◌==◌, ◌||◌}
 use Rattle.std.proofs.lemmas.Bool.{eqb-true}
 use Rattle.ckpt_types.specs.declared.identities.CallId.{CallId}
@@ -21,7 +21,7 @@ use Rattle.ckpt_machine.proofs.OptionLemmas.{IsSomeAnd-at}
 use Rattle.world_core.specs.declared.snapshots.Background.{Background}
 use Rattle.world_core.specs.declared.world.World.{World}
 use Rattle.world_core.specs.Backgrounds.{background_key, background_in, where_pulled, pulled_in, filled_unless, HasRoom, HaveRooms}
-use Rattle.world_core.specs.Propagating.{source_in, pull_held, pull_told, snapshots_pulled, CanPull}
+use Rattle.world_core.specs.Propagating.{source_in, pull_told, snapshots_pulled, CanPull}
 use Rattle.world_core.specs.Happenings.{Propagates}
 use Rattle.world_core.specs.Runs.{IsPulledOf}
 use Rattle.world_core.specs.Shows.{Does, IsShown, History, HistoryFits, FitsReplica, FitsSnapshot, machine_of, complete_replica, shown_replica, shown_slot, shown_snapshot, snapshot_shown}
@@ -124,7 +124,7 @@ module _ (w : World) (h : History) (is : IsKnown w h) (k : ℕ) where
     fits_case false F s fits = fits
 
     -- marks hold it off
-    by_call : (c : Option CallId) → ShownPull (Some X) (pull_unless c X) (pull_held c x.count) (change_key background_key k (filled_unless c x) w.snapshots)
+    by_call : (c : Option CallId) → ShownPull (Some X) (pull_unless c (length E)) (pull_unless c x.count) (change_key background_key k (filled_unless c x) w.snapshots)
     by_call (Some holder) = subst (ShownPull (Some X) (pulls.Held holder) (pulls.Held holder)) (sym (change_nothing background_key k w.snapshots)) (record { due = refl; history = h; same = refl; fits = is.fits })
     by_call None = record {
       due = ap pulls.Ok (sym its.2);

@@ -11,7 +11,6 @@ use Rattle.cluster_record.specs.RecordState.{entry_of, complete_of}
 use Rattle.cluster_record.specs.StepDone.{generation_in}
 use Rattle.cluster_record.proofs.Places.{there_is}
 use Rattle.snap_copy.specs.Snapshots.{Snapshot}
-use Rattle.stage_slot.specs.Slots.{Slot}
 use Rattle.replica.specs.Replicas.{Replica, is_older, installed, taken_from}
 use Rattle.node_core.specs.Nodes.{replica_key}
 use Rattle.ckpt_machine.specs.Listing.{is_active}

@@ -14,7 +14,7 @@ use Rattle.ckpt_machine.proofs.NodeLists.{slice_index-replicate}
 use Rattle.snap_copy.specs.Snapshots.{Snapshot}
 use Rattle.world_core.specs.declared.snapshots.Background.{Background}
 use Rattle.world_core.specs.Backgrounds.{background_in, where_pulled, pulled_in, HasRoom, HaveRooms}
-use Rattle.world_core.specs.Shows.{History, HistoryFits, FitsReplica, FitsSnapshot, machine_of, shown_replica, shown_reservation, shown_snapshot, where_complete, where_not_complete}
+use Rattle.world_core.specs.Shows.{History, HistoryFits, FitsReplica, FitsSnapshot, machine_of, shown_replica, shown_reservation, shown_snapshot, where_complete}
 
 -- the node is up with one of these incarnations
 abbrev pub IsUpIn : List ℕ → ℕ → Type 0
@@ -80,7 +80,7 @@ record_fits_case up k (Some e) (Some f) r E y z goes fits =
 
 -- ---- the reservations
 
-reserved_case : (up : List ℕ) (k : ℕ) (old new : Option Entry) (r u : ℕ) (y z : Option Replica) → GoesAt up k old new r y z → reservation_under new r (where_not_complete old r (shown_reservation u y)) ≡ where_not_complete new r (shown_reservation u z)
+reserved_case : (up : List ℕ) (k : ℕ) (old new : Option Entry) (r u : ℕ) (y z : Option Replica) → GoesAt up k old new r y z → reservation_under new r (reservation_under old r (shown_reservation u y)) ≡ reservation_under new r (shown_reservation u z)
 reserved_case up k old None r u y z goes = refl
 reserved_case up k None (Some f) r u y z goes = ap (λ o. cond (slice_index f.complete r == 0) (shown_reservation u o) None) (sym goes.1)
 reserved_case up k (Some e) (Some f) r u y z goes = node_cases up k e f r y z goes.2 (λ b a y z. cond b (cond a (shown_reservation u y) None) None ≡ cond b (shown_reservation u z) None) same refl where
@@ -112,7 +112,7 @@ module _ (w : World) (h : History) (R : RecordState) (nodes : List (List Replica
   record_is =
       let replicas = λ (k r : ℕ). record_shown_case w.cluster.up k (entry_of k w.cluster.entries) (entry_of k R.entries) r (h.effects k r) (h.origins k r) (replica_in w.nodes k r) (replica_in nodes k r) (goes k r) in
       let reserved = λ (k r : ℕ). reserved_case w.cluster.up k (entry_of k w.cluster.entries) (entry_of k R.entries) r (slice_index w.cluster.up r) (replica_in w.nodes k r) (replica_in nodes k r) (goes k r)
-      ∙ ap (λ (us : List ℕ). where_not_complete (entry_of k R.entries) r (shown_reservation (slice_index us r) (replica_in nodes k r))) (sym up) in
+      ∙ ap (λ (us : List ℕ). reservation_under (entry_of k R.entries) r (shown_reservation (slice_index us r) (replica_in nodes k r))) (sym up) in
       let snapshots = λ (k : ℕ). copied_case (entry_of k w.cluster.entries) (entry_of k R.entries) (h.copied k) (pulled_in w.snapshots k) (none_pulled (entry_of k w.cluster.entries) (background_in w.snapshots k) (keeps k))
       ∙ ap (λ s. snapshot_under (entry_of k R.entries) (shown_snapshot (h.copied k) s)) (sym (pulled k)) in
       λ i. record (machine_of (record w { cluster = R; nodes = nodes; snapshots = backgrounds }) (with_effects w h)) { replicas = λ k r. replicas k r i; reserved = λ k r. reserved k r i; snapshots = λ k. snapshots k i }

@@ -26,10 +26,10 @@ use Rattle.snap_copy.specs.Snapshots as copies
 use Rattle.cluster_record.specs.StepDone.{counting, count_told, done_of}
 use Rattle.node_msgs.specs.Steps.{word_of}
 use Rattle.ckpt_machine.specs.Driving.{driver_next, driver_taken, driver_end}
-use Rattle.ckpt_machine.specs.Steps.{changed, ended_details, payload_due, seen_at}
+use Rattle.ckpt_machine.specs.Steps.{changed, ended_details, payload_due, seen_at, reservation_under}
 use Rattle.world_core.specs.Happenings.{rooms_at}
 use Rattle.ckpt_machine.specs.Facts.{IsReservable, IsServable}
-use Rattle.world_core.specs.Shows.{Does, HistoryFits, FitsReplica, History, machine_of, shown_replica, where_complete, complete_replica, where_not_complete, shown_reservation, reserved_in}
+use Rattle.world_core.specs.Shows.{Does, HistoryFits, FitsReplica, History, machine_of, shown_replica, where_complete, complete_replica, shown_reservation, reserved_in}
 use Rattle.ckpt_machine.proofs.OptionLemmas.{IsSomeAnd-at}
 use Rattle.world_core.proofs.Held.{state_in, driver_is, IsCopyBehind, copy_stays}
 use Rattle.world_core.proofs.LiveRooms.{rooms_ended}
@@ -88,19 +88,19 @@ module _ (R : RecordState) (nodes new : List (List Replica)) (k r : ℕ) (x : Re
   complete_same j q = ap (where_complete (slice_index (complete_of (entry_of j R.entries)) q)) (at j q) ∙ hidden_case ((j == k) && (q == r)) (slice_index (complete_of (entry_of j R.entries)) q) x (replica_in nodes j q) (not_complete j q)
 
   reserved_case : (b : Bool) (f : Option Entry) (q u : ℕ) (o : Option Replica) → (b ≡ true → (f ≡ Some e) × (q ≡ r) × (u ≡ slice_index R.up r)) →
-      cond b (Some (slice_index R.up r)) (where_not_complete f q (shown_reservation u o)) ≡ where_not_complete f q (shown_reservation u (cond b (Some x) o))
+      cond b (Some (slice_index R.up r)) (reservation_under f q (shown_reservation u o)) ≡ reservation_under f q (shown_reservation u (cond b (Some x) o))
   reserved_case false f q u o s = refl
   reserved_case true f q u o s =
       let t = s refl in
       let z : (slice_index e.complete r == 0) ≡ true = ap (λ n. n == 0) free in
-      sym ((λ i. where_not_complete (t.0 i) (t.1 i) (Some (t.2 i))) ∙ ap (λ b. cond b (Some (slice_index R.up r)) None) z)
+      sym ((λ i. reservation_under (t.0 i) (t.1 i) (Some (t.2 i))) ∙ ap (λ b. cond b (Some (slice_index R.up r)) None) z)
 
   -- the machine's reservations, with one more
   reserved_more : (j q : ℕ) → put2 (reserved_in R nodes) k r (Some (slice_index R.up r)) j q ≡ reserved_in R new j q
   reserved_more j q =
       reserved_case ((j == k) && (q == r)) (entry_of j R.entries) q (slice_index R.up q) (replica_in nodes j q)
       (λ t. let s = both_true j k q r t in (ap (λ j. entry_of j R.entries) s.0 ∙ there, s.1, ap (slice_index R.up) s.1))
-      ∙ ap (λ o. where_not_complete (entry_of j R.entries) q (shown_reservation (slice_index R.up q) o)) (sym (at j q))
+      ∙ ap (λ o. reservation_under (entry_of j R.entries) q (shown_reservation (slice_index R.up q) o)) (sym (at j q))
 
 -- a reserved replica is the one that a reservation makes
 only_this : (new : Replica) (o : Option Replica) → ((x : Replica) → o ≡ Some x → x ≡ new) → NoneButThis new o
@@ -115,7 +115,7 @@ reserve_answers true reply done = inl done
 reserve_answers false reply may = may
 
 -- what can be reserved stands on the node where it stands in the machine
-stands_alike : (o : Option Entry) (x : Option Replica) (R : RecordState) (r : ℕ) → IsSomeAnd o (IsReservable R r) → is_some x ≡ is_some (where_not_complete o r (shown_reservation (slice_index R.up r) x))
+stands_alike : (o : Option Entry) (x : Option Replica) (R : RecordState) (r : ℕ) → IsSomeAnd o (IsReservable R r) → is_some x ≡ is_some (reservation_under o r (shown_reservation (slice_index R.up r) x))
 stands_alike None x R r can = absurd can
 stands_alike (Some e) x R r can = by_replica x ∙ ap (λ b. is_some (cond b (shown_reservation (slice_index R.up r) x) None)) (sym free) where
   free : (slice_index e.complete r == 0) ≡ true

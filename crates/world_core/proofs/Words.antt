@@ -10,9 +10,9 @@ use Rattle.cluster_record.specs.declared.entries.Entry.{Entry}
 use Rattle.world_core.specs.declared.world.World.{World}
 use Rattle.cluster_record.specs.RecordState.{RecordState, entry_of, brought_up, empty_record}
 use Rattle.ckpt_machine.specs.Machine.{Machine}
-use Rattle.ckpt_machine.specs.Steps.{IsWord, after}
+use Rattle.ckpt_machine.specs.Steps.{IsWord, after, reservation_under}
 use Rattle.world_core.specs.HandsState.{hand_at}
-use Rattle.world_core.specs.Shows.{Does, History, machine_of, shown_hand, where_not_complete, reserved_in}
+use Rattle.world_core.specs.Shows.{Does, History, machine_of, shown_hand, reserved_in}
 use Rattle.client_calls.specs.LineWords.{step_word}
 use Rattle.world_core.proofs.HoldingLaws.{held_by_none}
 
@@ -34,7 +34,7 @@ idle_said w v finish none = record {
 
 -- ---- the first nodes come up
 
-none_under : (e : Option Entry) (r : ℕ) (x y : Option ℕ) → e ≡ None → where_not_complete e r x ≡ where_not_complete e r y
+none_under : (e : Option Entry) (r : ℕ) (x y : Option ℕ) → e ≡ None → reservation_under e r x ≡ reservation_under e r y
 none_under None r x y is = refl
 none_under (Some e) r x y is = absurd (cc is)
 

@@ -1,6 +1,5 @@
 -- What a pull and a put make of the nodes and the background snapshots, and what they tell.
 use Rattle.std.specs.Prelude.{◌≡◌, ℕ, List, Option, Some, None, Result, Ok, Err, IfSome, IsSomeAnd, Bool, true, not, ◌||◌, ◌==◌, if◌then◌else◌, slice_index}
-use Rattle.ckpt_types.specs.declared.identities.CallId.{CallId}
 use Rattle.run_labels.specs.declared.labels.PullReply.{PullReply}
 use Rattle.run_labels.specs.declared.labels.PullReply.TheVariants as pulls
 use Rattle.run_labels.specs.declared.labels.PutReply.{PutReply}
@@ -14,7 +13,7 @@ use Rattle.replica.specs.declared.replica.Older.{Older}
 use Rattle.replica.specs.Replicas.{Replica, install_answer, installed}
 use Rattle.ckpt_machine.specs.Listing.{is_active}
 use Rattle.ckpt_machine.specs.Options.{is_all}
-use Rattle.ckpt_machine.specs.Propagation.{on_node, source_of}
+use Rattle.ckpt_machine.specs.Propagation.{on_node, source_of, pull_unless}
 use Rattle.world_core.specs.declared.snapshots.Background.{Background}
 use Rattle.world_core.specs.Backgrounds.{background_key, filled_from}
 use Rattle.world_core.specs.Nodes.{with_changed}
@@ -26,15 +25,10 @@ use Rattle.world_core.specs.Shows.{complete_replica}
 abbrev pub source_in : RecordState → List (List Replica) → ℕ → Option Replica
 source_in R nodes k = on_node (complete_replica R nodes k) (source_of (entry_of k R.entries))
 
--- the marks that hold it off, or the count
-abbrev pub pull_held : Option CallId → ℕ → PullReply
-pull_held (Some holder) count = pulls.Held holder
-pull_held None count = pulls.Ok count
-
 -- what it tells of the replica
 abbrev pub pull_told : Option Replica → PullReply
 pull_told None = pulls.Nothing
-pull_told (Some x) = pull_held (call_of x.marks) x.count
+pull_told (Some x) = pull_unless (call_of x.marks) x.count
 
 -- the snapshots behind it
 abbrev pub snapshots_pulled : Option Replica → ℕ → List Background → List Background

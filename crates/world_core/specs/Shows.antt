@@ -33,7 +33,7 @@ use Rattle.ckpt_machine.specs.Tables.{takes_copy}
 use Rattle.client_calls.specs.HandRooms.{room_for}
 use Rattle.ckpt_machine.specs.Machine.{Machine, Effect, Staged, ReplicaState, CallState, no_tables}
 use Rattle.ckpt_machine.specs.Machine as snapshots
-use Rattle.ckpt_machine.specs.Steps.{IsDue, after, snapshot_under}
+use Rattle.ckpt_machine.specs.Steps.{IsDue, after, snapshot_under, reservation_under}
 
 -- ---- what the machine keeps and the code does not
 
@@ -80,14 +80,9 @@ abbrev pub shown_reservation : ℕ → Option Replica → Option ℕ
 shown_reservation incarnation None = None
 shown_reservation incarnation (Some x) = Some incarnation
 
--- a reservation counts while the checkpoint is there and the node is not complete for it
-abbrev pub where_not_complete : Option Entry → ℕ → Option ℕ → Option ℕ
-where_not_complete None r reservation = None
-where_not_complete (Some e) r reservation = if slice_index e.complete r == 0 then reservation else None
-
 -- a node has reserved where it has a replica of a checkpoint that is there, for which it is not complete
 abbrev pub reserved_in : RecordState → List (List Replica) → ℕ → ℕ → Option ℕ
-reserved_in R nodes k r = where_not_complete (entry_of k R.entries) r (shown_reservation (slice_index R.up r) (replica_in nodes k r))
+reserved_in R nodes k r = reservation_under (entry_of k R.entries) r (shown_reservation (slice_index R.up r) (replica_in nodes k r))
 
 -- ---- the background snapshots
 
