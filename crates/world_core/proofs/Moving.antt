@@ -23,7 +23,7 @@ use Rattle.ckpt_types.specs.Asks as asks
 use Rattle.ckpt_machine.specs.Facts.{Facts}
 use Rattle.ckpt_machine.specs.Machine.{Machine, ReplicaState, Snapshot, CallState}
 use Rattle.world_core.specs.Nodes.{replica_in}
-use Rattle.ckpt_machine.specs.Steps.{IsDue, on_ok, on_look, without_making, at_some, change_replica, created_for, retained_for, record_step, with_lead, led_from, changed, step_of, after}
+use Rattle.ckpt_machine.specs.Steps.{IsDue, without_making, change_replica, created_for, retained_for, record_step, with_lead, led_from, changed, step_of, after}
 use Rattle.client_calls.specs.declared.in_hand.InHand.{InHand}
 use Rattle.world_core.specs.declared.world.Event.{Event}
 use Rattle.world_core.specs.declared.world.Event.TheVariants as happenings
@@ -109,22 +109,9 @@ moment_after label before = before
 abbrev SameMoment : Machine → Machine → Type 0
 SameMoment m n = n.cluster.moment ≡ m.cluster.moment
 
-on_ok-moment : (m n : Machine) (reply : StepReply) → SameMoment m n → SameMoment m (on_ok reply m n)
-on_ok-moment m n words.Ok same = same
-on_ok-moment m n reply same = refl
-
-on_look-moment : (m n o : Machine) (reply : StepReply) → SameMoment m n → SameMoment m o → SameMoment m (on_look reply m n o)
-on_look-moment m n o words.Done done refused = done
-on_look-moment m n o words.Refused done refused = refused
-on_look-moment m n o reply done refused = refl
-
 without_making-moment : (m : Machine) (k : Option ℕ) → SameMoment m (without_making k m)
 without_making-moment m None = refl
 without_making-moment m (Some k) = refl
-
-at_some-moment : (m : Machine) (o : Option ℕ) (change : ℕ → Machine) → ((n : ℕ) → SameMoment m (change n)) → SameMoment m (at_some o m change)
-at_some-moment m None change same = refl
-at_some-moment m (Some n) change same = same n
 
 change_replica-moment : (m : Machine) (k r : ℕ) (x : Option ReplicaState) (change : ReplicaState → ReplicaState) → SameMoment m (change_replica m k r x change)
 change_replica-moment m k r None change = refl
@@ -142,34 +129,28 @@ retained_for-moment ask k R = refl
 led_from-moment : (m : Machine) (snapshot : Option Snapshot) (k r : ℕ) → SameMoment m (led_from snapshot k r (record_step (active_set k r) m))
 led_from-moment m snapshot k r = let led = record_step (active_set k r) m in change_replica-moment led k r (led.replicas k r) (with_lead snapshot (generation_in (entry_of k led.cluster.entries)))
 
-changed-moment : (m : Machine) (s : CallState) (verb : Verb) (k r : Option ℕ) (reply : StepReply) → SameMoment m (changed m s verb k r reply)
-changed-moment m s verbs.Enter k r reply = on_ok-moment m _ reply (at_some-moment m r _ (λ r. refl))
-changed-moment m s verbs.Leave k r reply = on_ok-moment m _ reply refl
-changed-moment m s verbs.Create k r reply = on_ok-moment m _ reply (created_for-moment s.call (asked s.op) m.cluster)
-changed-moment m s verbs.Reserve k r reply = on_ok-moment m _ reply (at_some-moment m k _ (λ k. at_some-moment m r _ (λ r. refl)))
-changed-moment m s verbs.Finish k r reply = on_ok-moment m _ reply (at_some-moment m k _ (λ k. refl))
-changed-moment m s verbs.Undo k r reply = on_ok-moment m _ reply (at_some-moment m k _ (λ k. refl))
-changed-moment m s verbs.Open k r reply = on_ok-moment m _ reply (at_some-moment m k _ (λ k. refl))
-changed-moment m s verbs.Close k r reply = on_ok-moment m _ reply (at_some-moment m k _ (λ k. refl))
-changed-moment m s verbs.Unlink k r reply = on_ok-moment m _ reply (at_some-moment m k _ (λ k. refl))
-changed-moment m s verbs.Retain k r reply = on_ok-moment m _ reply (at_some-moment m k _ (λ k. retained_for-moment (asked s.op) k m.cluster))
-changed-moment m s verbs.Stage k r reply = on_ok-moment m _ reply (at_some-moment m k _ (λ k. at_some-moment m r _ (λ r. change_replica-moment m k r (m.replicas k r) _)))
-changed-moment m s verbs.Commit k r reply = on_ok-moment m _ reply (at_some-moment m k _ (λ k. at_some-moment m r _ (λ r. change_replica-moment m k r (m.replicas k r) _)))
-changed-moment m s verbs.Apply k r reply = on_ok-moment m _ reply (at_some-moment m k _ (λ k. at_some-moment m r _ (λ r. change_replica-moment m k r (m.replicas k r) _)))
-changed-moment m s verbs.Mark k r reply = on_ok-moment m _ reply (at_some-moment m k _ (λ k. at_some-moment m r _ (λ r. change_replica-moment m k r (m.replicas k r) _)))
-changed-moment m s verbs.Element k r reply = on_ok-moment m _ reply (at_some-moment m k _ (λ k. at_some-moment m r _ (λ r. change_replica-moment m k r (m.replicas k r) _)))
-changed-moment m s verbs.Unmark k r reply = on_ok-moment m _ reply (at_some-moment m k _ (λ k. at_some-moment m r _ (λ r. change_replica-moment m k r (m.replicas k r) _)))
-changed-moment m s verbs.Install k r reply = on_ok-moment m _ reply (at_some-moment m k _ (λ k. at_some-moment m r _ (λ r. change_replica-moment m k r (m.replicas k r) _)))
-changed-moment m s verbs.Iter k r reply = on_ok-moment m _ reply (at_some-moment m k _ (λ k. at_some-moment m r _ (λ r. refl)))
-changed-moment m s verbs.Next k r reply = on_ok-moment m _ reply (at_some-moment m k _ (λ k. at_some-moment m r _ (λ r. refl)))
-changed-moment m s verbs.Hold k r reply = on_ok-moment m _ reply (at_some-moment m k _ (λ k. refl))
-changed-moment m s verbs.Activate k r reply = on_ok-moment m _ reply (at_some-moment m k _ (λ k. at_some-moment m r _ (λ r. led_from-moment m s.snapshot k r)))
-changed-moment m s verbs.Look k r reply = on_look-moment m _ _ reply refl (without_making-moment m (making_of s.call m.cluster))
-changed-moment m s verb k r reply = refl
+-- but for what a change of the record or of a replica is by cases, by computation
+changed-moment : (m : Machine) (s : CallState) (verb : Verb) (reply : StepReply) (k r : Option ℕ) → SameMoment m (changed m s verb k r reply)
+changed-moment m s verbs.Create words.Ok k r = created_for-moment s.call (asked s.op) m.cluster
+changed-moment m s verbs.Retain words.Ok (Some k) r = retained_for-moment (asked s.op) k m.cluster
+changed-moment m s verbs.Stage words.Ok (Some k) (Some r) = change_replica-moment m k r (m.replicas k r) _
+changed-moment m s verbs.Commit words.Ok (Some k) (Some r) = change_replica-moment m k r (m.replicas k r) _
+changed-moment m s verbs.Apply words.Ok (Some k) (Some r) = change_replica-moment m k r (m.replicas k r) _
+changed-moment m s verbs.Mark words.Ok (Some k) (Some r) = change_replica-moment m k r (m.replicas k r) _
+changed-moment m s verbs.Element words.Ok (Some k) (Some r) = change_replica-moment m k r (m.replicas k r) _
+changed-moment m s verbs.Unmark words.Ok (Some k) (Some r) = change_replica-moment m k r (m.replicas k r) _
+changed-moment m s verbs.Install words.Ok (Some k) (Some r) = change_replica-moment m k r (m.replicas k r) _
+changed-moment m s verbs.Activate words.Ok (Some k) (Some r) = led_from-moment m s.snapshot k r
+changed-moment m s verbs.Look words.Refused k r = without_making-moment m (making_of s.call m.cluster)
+changed-moment m s verb words.Ok (Some k) (Some r) = refl
+changed-moment m s verb words.Ok (Some k) None = refl
+changed-moment m s verb words.Ok None (Some r) = refl
+changed-moment m s verb words.Ok None None = refl
+changed-moment m s verb reply k r = refl
 
 step_of-moment : (m : Machine) (o : Option CallState) (verb : Verb) (k r : Option ℕ) (reply : StepReply) (end : Option Outcome) → SameMoment m (step_of m o verb k r reply end)
 step_of-moment m None verb k r reply end = refl
-step_of-moment m (Some s) verb k r reply end = changed-moment m s verb k r reply
+step_of-moment m (Some s) verb k r reply end = changed-moment m s verb reply k r
 
 -- THE LAW: in the state after a label the moment is the one that the label set, or the one before it
 pub after-moment : (m : Machine) (l : Label) → IsDue m l → (after m l).cluster.moment ≡ moment_after l m.cluster.moment
