@@ -71,9 +71,8 @@ module _ (up : List ℕ) where
   -- one of which a node sees what it was, and has what it had
   pub goes_kept : (k : ℕ) (old new : Option Entry) (r : ℕ) (y z : Option Replica) → z ≡ y → IsKept (option_map sight old) (option_map sight new) → GoesAt up k old new r y z
   goes_kept k old None r y z has kept = tt
-  goes_kept k None (Some f) r y z has (inl none) = absurd (let w : Some (sight f) ≡ None = none in cc w)
+  goes_kept k old (Some f) r y z has (inl none) = absurd (let w : Some (sight f) ≡ None = none in cc w)
   goes_kept k None (Some f) r y z has (inr same) = absurd (let w : Some (sight f) ≡ None = same in cc w)
-  goes_kept k (Some e) (Some f) r y z has (inl none) = absurd (let w : Some (sight f) ≡ None = none in cc w)
   goes_kept k (Some e) (Some f) r y z has (inr same) =
       let is : sight f ≡ sight e = same_Some (sight f) (sight e) same in
       (ap (λ (s : Sight). s.2) is, ap (λ (s : Sight). s.3) is, inl (ap (λ (s : Sight). slice_index s.1 r) is, has, inl (ap (λ (s : Sight). s.4) is)))

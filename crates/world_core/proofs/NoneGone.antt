@@ -74,12 +74,10 @@ whole_set f nodes r xs whole one = map-set f nodes r xs ∙ (λ i. slice_set (wh
 whole_pushed : {X : Type 0} (p : X → Bool) (xs : List X) (y : X) → filter p xs ≡ xs → p y ≡ true → filter p (xs ++ y ∷ []) ≡ xs ++ y ∷ []
 whole_pushed p xs y whole one = filter-append p xs (y ∷ []) ∙ (λ i. whole i ++ cond (one i) (y ∷ []) [])
 
--- what is as it was in a part of it is there as it was
-there_as : (new old : Option Entry) → option_map declared new ≡ option_map declared old → is_some new ≡ is_some old
-there_as None None same = refl
-there_as (Some f) (Some e) same = refl
-there_as None (Some e) same = absurd (let w : None ≡ Some (declared e) = same in cc w)
-there_as (Some f) None same = absurd (let w : Some (declared f) ≡ None = same in cc w)
+-- what is declared is there where its checkpoint is
+there_as : (o : Option Entry) → is_some (option_map declared o) ≡ is_some o
+there_as None = refl
+there_as (Some e) = refl
 
 module _ (R : RecordState) (nodes : List (List Replica)) (backgrounds : List Background) (holds : HoldsOnlyWhatStands R nodes) (keeps : HaveRooms R.entries backgrounds) (rises : IdentitiesRise R.entries) (up_to : AllUpTo R.last_identity R.entries) where
   -- each checkpoint that has an entry stays
@@ -162,7 +160,7 @@ module _ (R : RecordState) (nodes : List (List Replica)) (backgrounds : List Bac
       let count : length W.entries + R.last_identity ≡ length R.entries + W.last_identity = count_new call x step in
       let same : length N.entries + R.last_identity ≡ length R.entries + N.last_identity = counts in
       let s = λ (k : ℕ). is_some (entry_of k N.entries) in
-      let stay = λ (k : ℕ) (is : is_some (entry_of k W.entries) ≡ true). there_as (entry_of k N.entries) (entry_of k W.entries) ((kept (created_rises R rises up_to call x step)).all (omega (arith, count, same, given)) k) ∙ is in
+      let stay = λ (k : ℕ) (is : is_some (entry_of k W.entries) ≡ true). sym (there_as (entry_of k N.entries)) ∙ ap is_some ((kept (created_rises R rises up_to call x step)).all (omega (arith, count, same, given)) k) ∙ there_as (entry_of k W.entries) ∙ is in
       (nodes_stay s call x step (stay_old s call x step stay), kept_stay s call x step stay)
 
 -- and the world stays as it is
