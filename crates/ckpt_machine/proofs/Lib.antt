@@ -1,9 +1,9 @@
 pub mod ActiveBy
-mod AsyncNames
-mod ByActor
+pub mod AsyncNames
+pub mod ByActor
 mod FewSteps
-mod HeldIdentity
-mod PendingNames
+pub mod HeldIdentity
+pub mod PendingNames
 pub mod OnComplete
 pub mod Handles
 pub mod Served

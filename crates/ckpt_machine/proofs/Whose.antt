@@ -55,6 +55,10 @@ put_who-here f w x = ap (λ b. cond b x (f w)) (same_who-refl w)
 pub put_who-other : {X : Type 0} (f : Who → X) (w : Who) (x : X) (v : Who) → same_who v w ≡ false → put_who f w x v ≡ f v
 put_who-other f w x v other = ap (λ t. cond t x (f v)) other
 
+-- where what is put stands there, all stays
+pub put_who-same : {X : Type 0} (f : Who → X) (w : Who) (x : X) → x ≡ f w → (v : Who) → put_who f w x v ≡ f v
+put_who-same f w x same v = elim (same_who v w) as (λ t. same_who v w ≡ t → cond t x (f v) ≡ f v) [ true ↦ λ is. same ∙ ap f (sym (same_who-true v w is)) | false ↦ λ other. refl ] refl
+
 -- where nothing is in hand under a name, what is in hand is so under another
 pub held_by_other : {X : Type 0} (f : Who → Option X) (w : Who) → f w ≡ None → (v : Who) (x : X) → f v ≡ Some x → same_who v w ≡ false
 held_by_other f w idle v x at = same_who-false v w (λ same. (let none : None ≡ Some x = sym idle ∙ ap f (sym same) ∙ at in cc none))
