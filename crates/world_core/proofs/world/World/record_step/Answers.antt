@@ -26,7 +26,7 @@ use Rattle.world_core.specs.Freeing.{freed_world}
 use Rattle.world_core.proofs.EventEnds.{done_ends, done_keeps, granted_at, kept_off_as, refused_ends}
 use Rattle.world_core.proofs.Granted.{granted_ok}
 use Rattle.world_core.proofs.Going.{length-behind}
-use Rattle.world_core.proofs.HandPlaces.{same_world}
+use Rattle.world_core.proofs.HandLaws.{same_world}
 use Rattle.world_core.proofs.Held.{next_for}
 use Rattle.world_core.proofs.NoneGone.{none_freed}
 use Rattle.world_core.proofs.RecordEvent.{can_add, can_settle, is_found, is_ready, when_ok, when_err, event_step, refused_step}
