@@ -100,7 +100,7 @@ impl Snapshots {
     pub fn free_gone(&mut self, seen: &Record)
         ensures { self.new ≡ backgrounds_left seen.now.entries self.old }
     {
-        self.list.retain(|background| has_entry(background, seen));
+        keep_there(&mut self.list, seen);
     }
 }
 
@@ -156,6 +156,12 @@ fn where_pulled(background: &Background) -> Option<&Snap>
     // The clause of `attributes` tells that its sections keep to them.
     let _declared = background.snap.attributes();
     Some(&background.snap)
+}
+
+fn keep_there(snapshots: &mut Vec<Background>, seen: &Record)
+    ensures { snapshots.new.items ≡ backgrounds_left seen.now.entries snapshots.old.items }
+{
+    snapshots.retain(|background| has_entry(background, seen));
 }
 
 fn has_entry(background: &Background, seen: &Record) -> bool
