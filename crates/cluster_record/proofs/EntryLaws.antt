@@ -1,6 +1,6 @@
 -- What is kept of each checkpoint is kept by each change of one.
 use Rattle.std.proofs.Common.{◌≡◌, ◌≢◌, ℕ, ◌+◌, ◌-◌, ◌<◌, ◌≤◌, zero, suc, List, [], ◌∷◌, length, replicate, Bool, true, false, not, cond, ◌==◌, refl, sym, ap, subst, ◌∙◌, arith}
-use Rattle.std.specs.Prelude.{Option, Some, None, is_some, IfSome, ℤ, pos, ◌≤ℤ◌, slice_set, slice_index}
+use Rattle.std.specs.Prelude.{Option, Some, None, is_some, IfSome, ℤ, pos, ◌≤ℤ◌, nat_lt, slice_set, slice_index}
 use Rattle.std.proofs.lemmas.Bool.{eqb-false, eqb-true, and_parts}
 use Rattle.std.proofs.lemmas.Int.{ints}
 use Rattle.std.proofs.lemmas.List.{length-set, get_or-set_other}
@@ -10,9 +10,10 @@ use Rattle.ckpt_types.specs.Attributes.{IsWellFormed}
 use Rattle.ckpt_types.specs.Limits.{nodes_max, client_numbers}
 use Rattle.cluster_record.specs.declared.entries.Entry.{Entry}
 use Rattle.cluster_record.specs.Calls.{IsClient}
+use Rattle.cluster_record.specs.Failing.{with_more, most_updated, next_active, led_anew, without_node, entry_failed, unheld_by}
 use Rattle.cluster_record.specs.Kept.{IsName, IsMakingBy, IsComplete, IsKeptEntry}
-use Rattle.cluster_record.specs.Placement.{alone_on, is_collocated, targets, adds}
-use Rattle.cluster_record.specs.RecordState.{RecordState, first_active, first_complete, has_references, referred, opened_with, made_with, idle_from, unreferred, released_all, unnamed, retaining, can_be_held, with_hold, can_lead, is_active, generation_under, with_active, new_entry}
+use Rattle.cluster_record.specs.Placement.{alone_on, is_all, is_collocated, targets, adds}
+use Rattle.cluster_record.specs.RecordState.{RecordState, first_active, first_complete, has_references, referred, opened_with, made_with, idle_from, unreferred, released_all, is_call_of, unnamed, retaining, can_be_held, with_hold, can_lead, is_active, generation_under, with_active, new_entry}
 
 -- ---- what is in the making, or not
 
@@ -131,6 +132,13 @@ module _ (t : ℤ) (e : Entry) (kept : IsKeptEntry t e) where
   pub referred-kept : (c : ℕ) → e.making ≡ None → IsKeptEntry t (referred c e)
   referred-kept c made = with_references (slice_set e.references c (slice_index e.references c + 1)) e.idle made (as_many c (slice_index e.references c + 1)) kept.idle kept.past
 
+  -- an active on another node is complete still where the incarnation of this one changes
+  still_complete : (r n : ℕ) (o : Option ℕ) → ((q : ℕ) → o ≡ Some q → 1 ≤ slice_index e.complete q → q ≢ r) → IfSome o (λ q. IsComplete q e.complete) → IfSome o (λ q. IsComplete q (slice_set e.complete r n))
+  still_complete r n None other is = tt
+  still_complete r n (Some q) other is =
+      let apart : q ≢ r = other q refl is.incarnation in
+      record { node = is.node; incarnation = subst (λ n. 1 ≤ n) (sym (get_or-set_other e.complete r q n 0 apart)) is.incarnation }
+
   -- complete on one node more, which is up in an incarnation
   complete_more : (r n : ℕ) → e.making ≡ None → slice_index e.complete r ≡ 0 → IsKeptEntry t (record e { complete = slice_set e.complete r n })
   complete_more r n made free = record {
@@ -143,16 +151,10 @@ module _ (t : ℤ) (e : Entry) (kept : IsKeptEntry t e) where
     past = kept.past;
     complete = length-set e.complete r n ∙ kept.complete;
     references = kept.references;
-    active = still_complete e.active kept.active;
+    active = still_complete r n e.active (λ q is some same. (let none : slice_index e.complete q ≡ 0 = ap (slice_index e.complete) same ∙ free in omega (arith, none, some))) kept.active;
     generation = kept.generation;
     making = unless_none e.making _ made;
   }
-    where
-      still_complete : (o : Option ℕ) → IfSome o (λ q. IsComplete q e.complete) → IfSome o (λ q. IsComplete q (slice_set e.complete r n))
-      still_complete None is = tt
-      still_complete (Some q) is =
-          let other : q ≢ r = λ same. (let none : slice_index e.complete q ≡ 0 = ap (slice_index e.complete) same ∙ free in let some = is.incarnation in omega (arith, none, some)) in
-          record { node = is.node; incarnation = subst (λ n. 1 ≤ n) (sym (get_or-set_other e.complete r q n 0 other)) is.incarnation }
 
   pub made_with-kept : (opener : ℕ) (up : List ℕ) (c : ℕ) → length up ≡ nodes_max → IsKeptEntry t (made_with opener up c e)
   made_with-kept opener up c few = let all = targets-length e.attributes opener up few in record {
@@ -292,3 +294,114 @@ opened_with-kept t e kept opener up c made = by (adds e.attributes opener e.comp
   by true is =
       let free : slice_index e.complete opener ≡ 0 = eqb-true (slice_index e.complete opener) 0 (and_parts (is_collocated e.attributes) (slice_index e.complete opener == 0) is).1 in
       referred-kept t (record e { complete = slice_set e.complete opener (slice_index up opener) }) (complete_more t e kept opener (slice_index up opener) made free) c made
+
+-- ---- the failure of a node
+
+-- held by no call of a client
+pub unheld_by-kept : (t : ℤ) (e : Entry) → IsKeptEntry t e → (c : ℕ) → IsKeptEntry t (unheld_by c e)
+unheld_by-kept t e kept c = record {
+  identity = kept.identity;
+  name = kept.name;
+  attributes = kept.attributes;
+  retention = kept.retention;
+  made = kept.made;
+  idle = kept.idle;
+  past = kept.past;
+  complete = kept.complete;
+  references = kept.references;
+  active = kept.active;
+  generation = kept.generation;
+  making = still e.making _ _ (λ call by. record { maker = by.maker; name = by.name; complete = by.complete; active = by.active; generation = by.generation; references = by.references; hold = ap (λ o. cond (is_call_of c o) None o) by.hold }) kept.making;
+}
+
+-- the one with the most updates is complete
+most_from : (counts : ℕ → ℕ) (n : ℕ) (cs : List ℕ) (r : ℕ) → most_updated counts n cs ≡ Some r → (i : ℕ) × (r ≡ n + i) × (i < length cs) × (1 ≤ slice_index cs i)
+most_from counts n [] r e = absurd cc
+most_from counts n (c ∷ cs) r e = by (c == 0) refl e (most_from counts (n + 1) cs) where
+  At : ℕ → Type 0
+  At q = (i : ℕ) × (q ≡ n + i) × (i < length (c ∷ cs)) × (1 ≤ slice_index (c ∷ cs) i)
+
+  Behind : ℕ → Type 0
+  Behind q = (i : ℕ) × (q ≡ n + 1 + i) × (i < length cs) × (1 ≤ slice_index cs i)
+
+  further : (q : ℕ) → Behind q → At q
+  further q f = (suc f.0, omega (arith, f.1), omega (arith, f.2), f.3)
+
+  here : (c == 0) ≡ false → n ≡ r → At r
+  here is same = let some : c ≡ 0 → ⊥ = eqb-false c 0 is in (zero, omega (arith, same), omega arith, omega (arith, some))
+
+  by_more : (c == 0) ≡ false → (o : Option ℕ) → ((q : ℕ) → o ≡ Some q → Behind q) → Some (with_more counts n o) ≡ Some r → At r
+  by_more is None more found = here is cc
+  by_more is (Some q) more found = elim (nat_lt (counts n) (counts q)) as (λ b. Some (cond b q n) ≡ Some r → At r) [
+    | true ↦ λ found. (let same : q ≡ r = cc in further r (more r (ap Some same)))
+    | false ↦ λ found. here is cc
+  ] found
+
+  by : (b : Bool) → (c == 0) ≡ b → cond b (most_updated counts (n + 1) cs) (Some (with_more counts n (most_updated counts (n + 1) cs))) ≡ Some r → ((q : ℕ) → most_updated counts (n + 1) cs ≡ Some q → Behind q) → At r
+  by true is found more = further r (more r found)
+  by false is found more = by_more is (most_updated counts (n + 1) cs) more found
+
+most_is : (counts : ℕ → ℕ) (cs : List ℕ) → length cs ≡ nodes_max → IfSome (most_updated counts 0 cs) (λ r. IsComplete r cs)
+most_is counts cs few = by (most_updated counts 0 cs) refl where
+  by : (o : Option ℕ) → most_updated counts 0 cs ≡ o → IfSome o (λ r. IsComplete r cs)
+  by None e = tt
+  by (Some r) e =
+      let f = most_from counts 0 cs r e in
+      let at : f.0 ≡ r = omega (arith, f.1) in
+      record { node = omega (arith, f.2, few, at); incarnation = subst (λ i. 1 ≤ slice_index cs i) at f.3 }
+
+-- who is the active where it is gone is complete
+next_active-is : (counts : ℕ → ℕ) (a : CreationAttributes) (cs : List ℕ) → length cs ≡ nodes_max → IfSome (next_active counts a cs) (λ r. IsComplete r cs)
+next_active-is counts a cs few = elim (is_collocated a) as (λ b. IfSome (cond b None (cond (is_all a) (first_complete 0 cs) (most_updated counts 0 cs))) (λ r. IsComplete r cs)) [
+  | true ↦ tt
+  | false ↦ elim (is_all a) as (λ b. IfSome (cond b (first_complete 0 cs) (most_updated counts 0 cs)) (λ r. IsComplete r cs)) [ true ↦ first_is cs few | false ↦ most_is counts cs few ]
+]
+
+-- none is complete where none was
+none_set : (n r : ℕ) → slice_set {A = ℕ} (replicate n 0) r 0 ≡ replicate n 0
+none_set zero r = refl
+none_set (suc n) zero = refl
+none_set (suc n) (suc r) = ap (λ cs. 0 ∷ cs) (none_set n r)
+
+-- where a node fails
+pub entry_failed-kept : (counts : ℕ → ℕ) (r : ℕ) (t : ℤ) (e : Entry) → IsKeptEntry t e → IsKeptEntry t (entry_failed counts r e)
+entry_failed-kept counts r t e kept = by (is_active e.active r) refl where
+  few : length (slice_set e.complete r 0) ≡ nodes_max
+  few = length-set e.complete r 0 ∙ kept.complete
+
+  apart : (q : ℕ) → e.active ≡ Some q → is_active e.active r ≡ false → q ≢ r
+  apart q is other = eqb-false q r (ap (λ (o : Option ℕ). is_active o r) (sym is) ∙ other)
+
+  led : (o : Option ℕ) → is_active o r ≡ true → is_some o ≡ true
+  led None is = absurd cc
+  led (Some q) is = refl
+
+  by : (b : Bool) → is_active e.active r ≡ b → IsKeptEntry t (cond b (led_anew counts (without_node r e)) (without_node r e))
+  by true is = record {
+    identity = kept.identity;
+    name = kept.name;
+    attributes = kept.attributes;
+    retention = kept.retention;
+    made = kept.made;
+    idle = kept.idle;
+    past = kept.past;
+    complete = few;
+    references = kept.references;
+    active = next_active-is counts e.attributes (slice_set e.complete r 0) few;
+    generation = omega arith;
+    making = unless_none e.making _ (unled e kept.making (led e.active is));
+  }
+  by false is = record {
+    identity = kept.identity;
+    name = kept.name;
+    attributes = kept.attributes;
+    retention = kept.retention;
+    made = kept.made;
+    idle = kept.idle;
+    past = kept.past;
+    complete = few;
+    references = kept.references;
+    active = still_complete t e kept r 0 e.active (λ q at some. apart q at is) kept.active;
+    generation = kept.generation;
+    making = still e.making _ _ (λ call by. record { maker = by.maker; name = by.name; complete = ap (λ cs. slice_set cs r 0) by.complete ∙ none_set nodes_max r; active = by.active; generation = by.generation; references = by.references; hold = by.hold }) kept.making;
+  }

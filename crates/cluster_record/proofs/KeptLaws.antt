@@ -13,12 +13,13 @@ use Rattle.name_table.proofs.TableLemmas.{EachOnce-filter}
 use Rattle.cluster_record.specs.declared.entries.Entry.{Entry}
 use Rattle.cluster_record.specs.declared.clients.LiveClient.{LiveClient}
 use Rattle.cluster_record.specs.declared.record.Record.TheInside.{Inside}
+use Rattle.cluster_record.specs.Failing.{led_anew, without_node, entry_failed}
 use Rattle.cluster_record.specs.Kept.{IsKeptEntry, IsKeptClient, AreKeptClients, HasTimes}
 use Rattle.cluster_record.specs.NamesOf.{names_of, without_gone}
 use Rattle.cluster_record.specs.Places.{find_key, change_key}
 use Rattle.cluster_record.specs.LookUps.{identity_in}
 use Rattle.cluster_record.specs.Placement.{adds}
-use Rattle.cluster_record.specs.RecordState.{identity_of, entry_of, named, unnamed, has_references, idle_from, referred, opened_with, unreferred, released_all, can_be_held, with_hold, can_lead, generation_under, with_active}
+use Rattle.cluster_record.specs.RecordState.{identity_of, entry_of, named, unnamed, has_references, idle_from, referred, opened_with, unreferred, released_all, can_be_held, with_hold, can_lead, is_active, generation_under, with_active}
 use Rattle.cluster_record.specs.RecordView.{AreKeptEntries, IsKept}
 use Rattle.cluster_record.specs.Makings.{making_call}
 use Rattle.cluster_record.specs.RecordReady.{CanRefer}
@@ -264,3 +265,9 @@ with_hold-keeps call = where-keeps can_be_held (λ e. record e { hold = Some cal
 
 pub with_active-keeps : (r : ℕ) → Keeps (with_active r)
 with_active-keeps r = where-keeps (can_lead r) (λ e. record e { active = Some r; generation = generation_under r e; hold = None }) (λ e. refl, λ e. refl)
+
+pub entry_failed-keeps : (counts : ℕ → ℕ → ℕ) (r : ℕ) → Keeps (λ e. entry_failed (counts e.identity) r e)
+entry_failed-keeps counts r = (
+  λ e. elim (is_active e.active r) as (λ b. (cond b (led_anew (counts e.identity) (without_node r e)) (without_node r e)).name ≡ e.name) [ true ↦ refl | false ↦ refl ],
+  λ e. elim (is_active e.active r) as (λ b. (cond b (led_anew (counts e.identity) (without_node r e)) (without_node r e)).identity ≡ e.identity) [ true ↦ refl | false ↦ refl ],
+)

@@ -9,8 +9,11 @@ pub mod RefusalLaws
 pub mod KeptLaws
 pub mod EachChanged
 pub mod EntryLaws
+pub mod CutOffLaws
+pub mod FailLaws
 pub mod ClientLaws
 pub mod NoneAbove
 pub mod Rows
 pub mod RecordRows
+pub mod FailRows
 pub mod Walking

@@ -2,6 +2,8 @@ pub mod Calls
 pub mod Places
 pub mod Placement
 pub mod RecordState
+pub mod Counts
+pub mod Failing
 pub mod RecordView
 pub mod Kept
 pub mod RecordReady

@@ -3,7 +3,8 @@ use Rattle.std.specs.Prelude.{ℕ, List, [], ◌∷◌, ◌++◌, Option, Some, 
 use Rattle.name_table.specs.Table.{NamedCkpt, name_taken_away}
 use Rattle.cluster_record.specs.declared.entries.Entry.{Entry}
 use Rattle.cluster_record.specs.declared.entries.Staying.{Staying}
-use Rattle.cluster_record.specs.declared.entries.Staying.TheVariants.{Swept, AllBut, NotMadeBy}
+use Rattle.cluster_record.specs.declared.entries.Staying.TheVariants.{Swept, AllBut, NotMadeBy, Surviving}
+use Rattle.cluster_record.specs.Failing.{survives}
 use Rattle.cluster_record.specs.RecordState.{stays, is_call_of}
 
 -- what the table has of a checkpoint: its name, or nothing once it is unlinked
@@ -16,11 +17,12 @@ abbrev pub names_of : List Entry → List NamedCkpt
 names_of [] = []
 names_of (e ∷ es) = linked_name e.name e.identity ++ names_of es
 
--- which entries stay: those that a sweep leaves, all but one, or those that a client is not making
+-- which entries stay: those that a sweep leaves, all but one, those that a client is not making, or those that survive the failure of a node
 abbrev pub stays_by : Staying → Entry → Bool
 stays_by (Swept t) = stays t
 stays_by (AllBut k) = λ e. not (e.identity == k)
 stays_by (NotMadeBy c) = λ e. not (is_call_of c e.making)
+stays_by Surviving = survives
 
 -- a table without this name, where there is one
 abbrev pub without_name : Option (List ℕ) → List NamedCkpt → List NamedCkpt

@@ -2,6 +2,7 @@
 ghost use Rattle.std.specs.Prelude.{◌≡◌, ◌≤◌, filter, not, ◌==◌, IfOk, vec_capacity};
 ghost use Rattle.ckpt_types.specs.Limits.{clients_max};
 ghost use Rattle.cluster_record.specs.Calls.{number_of};
+ghost use Rattle.cluster_record.specs.Failing.{first_on};
 ghost use Rattle.cluster_record.specs.Places.{find_key};
 ghost use Rattle.cluster_record.specs.RecordState.{client_key};
 
@@ -27,6 +28,18 @@ pub(crate) fn find_client(clients: &[LiveClient], client: u8) -> Option<LiveClie
     for live in clients {
         if live.client == client {
             return Some(*live);
+        }
+    }
+    None
+}
+
+/// The first client that is live on this node.
+pub(crate) fn first_on(clients: &[LiveClient], node: NodeId) -> Option<u8>
+    ensures { result ≡ first_on node clients.now }
+{
+    for live in clients {
+        if live.node == node {
+            return Some(live.client);
         }
     }
     None

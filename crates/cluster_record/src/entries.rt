@@ -6,11 +6,15 @@ ghost use Rattle.moment_rules.specs.Times.{is_reached};
 ghost use Rattle.cluster_record.specs.Numbers.{may_rise, entry_may_rise};
 ghost use Rattle.cluster_record.specs.Changes.{changed_by, CanChange};
 ghost use Rattle.cluster_record.specs.Makings.{makings_of};
+ghost use Rattle.cluster_record.specs.Counts.{count_told};
+ghost use Rattle.cluster_record.specs.Failing.{survives, unheld_by, entry_failed};
 ghost use Rattle.cluster_record.specs.Kept.{HasTimes};
 ghost use Rattle.cluster_record.specs.NamesOf.{stays_by, without_name, without_gone};
 ghost use Rattle.cluster_record.specs.Places.{change_key, place_key};
 ghost use Rattle.cluster_record.specs.RecordState.{no_nodes, no_references, identity_of, entry_of, is_name, first_active, first_complete, retained_until, stays, has_references, referred, joined, opened_with, made_with, idle_from, unreferred, released_all, is_call_of, can_be_held, with_hold, can_lead, is_active, with_active};
 
+use crate::counts::Counts;
+use crate::leaders::next_active;
 use crate::placement::{adds, incarnation_at, is_collocated, targets};
 use ckpt_types::{
     ActorName, Bytes, CHECKPOINTS_MAX, CLIENT_NUMBERS, CallId, CkptId, CreationAttributes, Moment,
@@ -160,9 +164,35 @@ impl Entry {
         self.hold = None;
     }
 
-    fn change(&mut self, change: Change)
+    // No call of the client holds it any more.
+    fn end_hold(&mut self, client: u8)
+        ensures { self.new ≡ unheld_by client self.old }
+    {
+        if is_call_of(&self.hold, client) {
+            self.hold = None;
+        }
+    }
+
+    // A node fails: the checkpoint is complete there no more, and where that was its active, it gets another or none. It is
+    // rare, and so kept out of the other changes.
+    #[inline(never)]
+    fn fail(&mut self, node: NodeId, counts: &Counts)
+        requires { self.old.generation < 2 ^ 64 - 1 }
+        ensures { self.new ≡ entry_failed (count_told counts.now self.old.identity) node self.old }
+    {
+        let place = node as usize;
+        if place < NODES_MAX {
+            self.complete[place] = 0;
+        }
+        if is_active(self.active, node) {
+            self.active = next_active(&self.attributes, &self.complete, self.identity, counts);
+            self.generation += 1;
+        }
+    }
+
+    fn change(&mut self, change: Change<'_>)
         requires { CanChange change (Some self.old) }
-        ensures { self.new ≡ changed_by change self.old }
+        ensures { self.new ≡ changed_by change.entry self.old }
     {
         match change {
             Change::Made(up, opener, client) => self.make(&up, opener, client),
@@ -172,6 +202,9 @@ impl Entry {
             Change::Retaining(duration) => self.retention = duration,
             Change::OnHold(call) => self.put_on_hold(call),
             Change::Active(node) => self.set_active(node),
+            Change::ReleasedAll(client, now) => self.release_all(client, now),
+            Change::Unheld(client) => self.end_hold(client),
+            Change::Failed(node, counts) => self.fail(node, counts),
         }
     }
 
@@ -225,6 +258,13 @@ impl Entry {
         ensures { result ≡ (is_some self.now.name && not (is_reached (retained_until self.now) now)) }
     {
         self.name.is_some() && !reached(add_until(self.idle, self.retention), now)
+    }
+
+    // Whether it is in the making, or a node is complete for it.
+    fn survives(&self) -> bool
+        ensures { result ≡ survives self.now }
+    {
+        self.making.is_some() || first_complete(&self.complete).is_some()
     }
 
     // Whether the sweep leaves it. The name is looked at first: what nobody has open has no reference in the whole list.
@@ -350,8 +390,8 @@ pub fn is_active(active: Option<NodeId>, node: NodeId) -> bool
     }
 }
 
-// The lowest node that is complete.
-fn first_complete(nodes: &[u32; NODES_MAX]) -> Option<NodeId>
+/// The lowest node that is complete.
+pub(crate) fn first_complete(nodes: &[u32; NODES_MAX]) -> Option<NodeId>
     ensures { result ≡ first_complete 0 nodes.now }
 {
     for r in 0..NODES_MAX as u8 {
@@ -386,8 +426,8 @@ fn place_of(entries: &[Entry], identity: CkptId) -> Option<usize>
 }
 
 /// What a step changes of one entry.
-#[derive(Clone, Copy, Debug)]
-pub(crate) enum Change {
+#[derive(Clone, Copy)]
+pub(crate) enum Change<'a> {
     /// Its making is finished where these nodes are up, by an opener on this one, and the client has it open.
     Made([u32; NODES_MAX], NodeId, u8),
     /// The client has it open once more, where these nodes are up, by an open from this one.
@@ -402,39 +442,47 @@ pub(crate) enum Change {
     OnHold(CallId),
     /// The node is its active.
     Active(NodeId),
+    /// The client has it open no more, from the moment on.
+    ReleasedAll(u8, Moment),
+    /// No call of the client holds it.
+    Unheld(u8),
+    /// The node fails, where the replicas on the others have so many updates.
+    Failed(NodeId, &'a Counts),
 }
 
 /// The entry of an identity is changed, where it is there.
-pub(crate) fn change_entry(entries: &mut Vec<Entry>, identity: CkptId, change: Change)
+pub(crate) fn change_entry(entries: &mut Vec<Entry>, identity: CkptId, change: Change<'_>)
     requires { CanChange change (entry_of identity entries.old.items) }
-    ensures items { entries.new.items ≡ change_key identity_of identity (changed_by change) entries.old.items }
+    ensures items { entries.new.items ≡ change_key identity_of identity (changed_by change.entry) entries.old.items }
     ensures capacity { vec_capacity entries.new ≡ vec_capacity entries.old }
 {
     change_at(entries.as_mut_slice(), identity, change);
 }
 
-fn change_at(entries: &mut [Entry], identity: CkptId, change: Change)
+fn change_at(entries: &mut [Entry], identity: CkptId, change: Change<'_>)
     requires { CanChange change (entry_of identity entries.old) }
-    ensures { entries.new ≡ change_key identity_of identity (changed_by change) entries.old }
+    ensures { entries.new ≡ change_key identity_of identity (changed_by change.entry) entries.old }
 {
     if let Some(i) = place_of(entries, identity) {
         entries[i].change(change);
     }
 }
 
-/// A client has nothing open any more.
-pub(crate) fn release_everywhere(entries: &mut Vec<Entry>, client: u8, now: Moment)
-    ensures items { entries.new.items ≡ map (released_all client now) entries.old.items }
+/// Each entry is changed.
+pub(crate) fn change_each(entries: &mut Vec<Entry>, change: Change<'_>)
+    requires { All (λ e. CanChange change (Some e)) entries.old.items }
+    ensures items { entries.new.items ≡ map (changed_by change.entry) entries.old.items }
     ensures capacity { vec_capacity entries.new ≡ vec_capacity entries.old }
 {
-    release_in(entries.as_mut_slice(), client, now);
+    change_in(entries.as_mut_slice(), change);
 }
 
-fn release_in(entries: &mut [Entry], client: u8, now: Moment)
-    ensures { entries.new ≡ map (released_all client now) entries.old }
+fn change_in(entries: &mut [Entry], change: Change<'_>)
+    requires { All (λ e. CanChange change (Some e)) entries.old }
+    ensures { entries.new ≡ map (changed_by change.entry) entries.old }
 {
     for entry in entries.iter_mut() {
-        entry.release_all(client, now);
+        entry.change(change);
     }
 }
 
@@ -460,6 +508,8 @@ pub(crate) enum Staying {
     AllBut(CkptId),
     /// Those that the client is not making.
     NotMadeBy(u8),
+    /// Those in the making, and those for which a node is complete.
+    Surviving,
 }
 
 impl Staying {
@@ -471,6 +521,7 @@ impl Staying {
             Staying::Swept(now) => entry.stays(now),
             Staying::AllBut(identity) => entry.identity != identity,
             Staying::NotMadeBy(client) => !is_call_of(&entry.making, client),
+            Staying::Surviving => entry.survives(),
         }
     }
 }

@@ -1,8 +1,15 @@
 //! On which nodes a checkpoint is made, and where an open adds a replica.
 ghost use Rattle.std.specs.Prelude.{◌≡◌, slice_index};
-ghost use Rattle.cluster_record.specs.Placement.{is_collocated, alone_on, targets, adds};
+ghost use Rattle.cluster_record.specs.Placement.{is_all, is_collocated, alone_on, targets, adds};
 
-use ckpt_types::{CHECKPOINT_COLLOCATED, CreationAttributes, NODES_MAX, NodeId};
+use ckpt_types::{CHECKPOINT_COLLOCATED, CreationAttributes, NODES_MAX, NodeId, WR_ALL_REPLICAS};
+
+/// Whether an update is on all replicas before it is answered.
+pub(crate) fn is_all(attributes: &CreationAttributes) -> bool
+    ensures { result ≡ is_all attributes.now }
+{
+    attributes.creation_flags == WR_ALL_REPLICAS
+}
 
 /// Whether a checkpoint has its replicas on the nodes of those that open it.
 pub fn is_collocated(attributes: &CreationAttributes) -> bool

@@ -5,7 +5,9 @@ ghost use Rattle.cluster_record.specs.LookUps.{node_in, life_of, up_as, declared
 ghost use Rattle.cluster_record.specs.DueOpen.{targets_by};
 ghost use Rattle.cluster_record.specs.Identities.{IdentitiesRise, AllUpTo};
 ghost use Rattle.cluster_record.specs.Calls.{client_of, IsClient};
-ghost use Rattle.cluster_record.specs.Kept.{IsKeptEntry, AreKeptClients};
+ghost use Rattle.cluster_record.specs.Counts.{count_told};
+ghost use Rattle.cluster_record.specs.Failing.{goes_with_node, cut_off, without_replicas, failed, TellsOthers, first_on, holds_ended};
+ghost use Rattle.cluster_record.specs.Kept.{IsKeptEntry, EachClientOnce, AreKeptClients};
 ghost use Rattle.cluster_record.specs.Makings.{making_call, making_finished, making_undone, makings_of};
 ghost use Rattle.cluster_record.specs.Numbers.{numbers_left};
 ghost use Rattle.cluster_record.specs.Opening.{answer_free, answer_named, open_answer, after_open};
@@ -16,10 +18,11 @@ ghost use Rattle.cluster_record.specs.Places.{find_key};
 ghost use Rattle.cluster_record.specs.RecordReady.{CanBecomeLive, CanOpen, CanCreate, CanRefer, CanReferAt, CanSetActive};
 ghost use Rattle.cluster_record.specs.RecordState.{empty_record, entry_of, named, complete_of, client_key, home_of, is_live_client, is_up, is_live, is_live_from, swept, first_nodes, brought_up, entered, created_by_ask, IsMomentFrom, moved, opened, closed, unlinked, retained, hold_set, active_set, departed};
 
-use crate::clients::{LiveClient, copy_clients, find_client, number_of, take_out};
+use crate::clients::{LiveClient, copy_clients, find_client, first_on, number_of, take_out};
+use crate::counts::Counts;
 use crate::entries::{
-    Change, Entry, Staying, all_may_rise, change_entry, copy_entries, entries_may_rise, find_entry,
-    keep_only, kept_name, makings_in, new_entry, release_everywhere,
+    Change, Entry, Staying, all_may_rise, change_each, change_entry, copy_entries,
+    entries_may_rise, find_entry, keep_only, kept_name, makings_in, new_entry,
 };
 use crate::opening::{OpenAnswer, answer_of};
 use crate::placement::{adds, targets};
@@ -592,7 +595,59 @@ impl Record {
         take_out(&mut self.clients, client);
         let staying = Staying::NotMadeBy(client);
         keep_only(&mut self.entries, &mut self.names, staying);
-        release_everywhere(&mut self.entries, client, self.moment);
+        change_each(&mut self.entries, Change::ReleasedAll(client, self.moment));
+    }
+
+    /// A node fails. Its clients are live no more, what they were making goes, they have nothing open, and their calls
+    /// hold nothing; where nobody has a checkpoint open by that, this moment is that of its last close. No checkpoint
+    /// is complete on the node any more, and one that is made goes, with its name, where no other node is complete for
+    /// it. Exactly where the node was the active, the generation rises by one, and the active is chosen anew: where
+    /// updates are on all replicas, the lowest complete node; where they go to the active alone, the one whose replica
+    /// has the most updates by `counts`, the lowest of those that have as many; and of a collocated checkpoint none,
+    /// until a client sets one. It takes no memory.
+    pub fn fail(&mut self, node: NodeId, counts: &Counts)
+        requires up { is_up node self.old ≡ true }
+        requires counts { TellsOthers counts.now node self.old.entries }
+        requires generations { (k : ℕ) → CanSetActive (entry_of k self.old.entries) }
+        ensures { self.new ≡ failed (count_told counts.now) node self.old }
+    {
+        self.up[node as usize] = 0;
+        self.cut_off(node);
+        self.lose_replicas(node, counts);
+    }
+
+    // The clients of a node leave, and their holds end.
+    fn cut_off(&mut self, node: NodeId)
+        ensures { self.new ≡ cut_off (goes_with_node self.old node) self.old }
+    {
+        while let Some(client) = self.first_on(node) {
+            self.leave(client);
+            self.end_holds(client);
+        }
+    }
+
+    // The first client that is live on this node.
+    fn first_on(&self, node: NodeId) -> Option<u8>
+        ensures first { result ≡ first_on node self.now.clients }
+        ensures each_once { EachClientOnce self.now.clients }
+    {
+        first_on(self.clients.as_slice(), node)
+    }
+
+    // No call of the client holds any checkpoint.
+    fn end_holds(&mut self, client: u8)
+        ensures { self.new ≡ holds_ended client self.old }
+    {
+        change_each(&mut self.entries, Change::Unheld(client));
+    }
+
+    // No checkpoint is complete on the node any more, and each that has no complete node left goes.
+    fn lose_replicas(&mut self, node: NodeId, counts: &Counts)
+        requires { (k : ℕ) → CanSetActive (entry_of k self.old.entries) }
+        ensures { self.new ≡ without_replicas (count_told counts.now) node self.old }
+    {
+        change_each(&mut self.entries, Change::Failed(node, counts));
+        keep_only(&mut self.entries, &mut self.names, Staying::Surviving);
     }
 
     /// The making is undone. Nothing changes where the checkpoint is not in the making.
