@@ -173,8 +173,8 @@ impl Entry {
         }
     }
 
-    // A node fails: the checkpoint is complete there no more, and where that was its active, it gets another or none. It is
-    // rare, and so kept out of the other changes.
+    // A node fails: it is complete there no more, and where that was its active, it gets another or none. That is rare,
+    // and kept out of line, so that other changes stay short.
     #[inline(never)]
     fn fail(&mut self, node: NodeId, counts: &Counts)
         requires { self.old.generation < 2 ^ 64 - 1 }
@@ -442,7 +442,7 @@ pub(crate) enum Change<'a> {
     OnHold(CallId),
     /// The node is its active.
     Active(NodeId),
-    /// The client has it open no more, from the moment on.
+    /// The client closes it as often as it has it open, at the moment.
     ReleasedAll(u8, Moment),
     /// No call of the client holds it.
     Unheld(u8),
@@ -513,6 +513,7 @@ pub(crate) enum Staying {
 }
 
 impl Staying {
+    #[inline(always)]
     fn keeps(self, entry: &Entry) -> bool
         requires { HasTimes entry.now }
         ensures { result ≡ stays_by self entry.now }
