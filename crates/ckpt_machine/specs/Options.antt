@@ -3,11 +3,8 @@ use Rattle.std.specs.Prelude.{Option, Some, None, Bool, false, ◌==◌, ◌||�
 use Rattle.ckpt_types.specs.declared.attributes.CreationAttributes.{CreationAttributes}
 use Rattle.ckpt_types.specs.declared.update.Update.{Update}
 use Rattle.ckpt_types.specs.declared.update.Update.TheVariants as updates
-use Rattle.ckpt_types.specs.Limits.{wr_all_replicas, wr_active_replica_weak, checkpoint_collocated}
-
--- on all of them; else on the active alone
-abbrev pub is_all : CreationAttributes → Bool
-is_all a = a.creation_flags == wr_all_replicas
+use Rattle.ckpt_types.specs.Limits.{wr_active_replica_weak, checkpoint_collocated}
+pub use Rattle.cluster_record.specs.Placement.{is_all}
 
 -- a write of several elements may be cut short between two of them
 abbrev pub is_weak : CreationAttributes → Bool

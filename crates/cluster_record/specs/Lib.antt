@@ -2,6 +2,7 @@ pub mod Calls
 pub mod Places
 pub mod Placement
 pub mod RecordState
+pub mod Failing
 pub mod RecordView
 pub mod Kept
 pub mod RecordReady
