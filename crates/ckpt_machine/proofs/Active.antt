@@ -253,7 +253,7 @@ module _ (m : Machine) (shapes : ℕ → Shape) (inv : InvariantIn shapes m) (s 
 
     -- the generation is that in which it made its marks
     same_generation : (kind : ActiveKind) (w : MarksMade) → driver_of s ≡ drivers.Active (record { call = call; ckpt = k; kind = kind; marks = Some w }) → (w.generation == at.entry.generation) ≡ true
-    same_generation kind w is = eq-eqb w.generation at.entry.generation ((at_made kind (Some w) is).present at.entry at.found)
+    same_generation kind w is = eq-eqb w.generation at.entry.generation ((at_made kind (Some w) is).present refl at.entry at.found)
 
     fit_of : (kind : ActiveKind) (made : Option MarksMade) → driver_of s ≡ drivers.Active (record { call = call; ckpt = k; kind = kind; marks = made }) → MarksFit kind made
     fit_of kind made is = (at_made kind made is).fit
@@ -313,7 +313,7 @@ module _ (m : Machine) (shapes : ℕ → Shape) (inv : InvariantIn shapes m) (s 
       let at = at_made kind (Some w) is in
       let made_is : e.making ≡ None = subst (λ o. IfSome o (λ (e : Entry). e.making ≡ None)) found at.made.made in
       let spread : IsSpread m k (shapes k) e = subst (IsGoodIn m k (shapes k) e) made_is (inv.entries k e found) in
-      absurd (by_marks (shapes k).marks refl (at.marks e found ∙ eq-eqb w.generation e.generation (at.present e found)) spread)
+      absurd (by_marks (shapes k).marks refl (at.marks e found ∙ eq-eqb w.generation e.generation (at.present refl e found)) spread)
     where
       by_marks : (o : Option Marked) → (shapes k).marks ≡ o → is_marked_by s.call o ≡ true → IsSpread m k (shapes k) e → ⊥
       by_marks None stand of_it spread = cc of_it

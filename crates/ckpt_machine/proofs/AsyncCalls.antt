@@ -1,10 +1,6 @@
 -- Which calls are asynchronous: by what is asked for, and by the name under which one is in hand.
-use Rattle.std.proofs.Common.{◌≡◌, ℕ, None, Bool, true, false, refl, sym, ap, ◌∙◌}
-use Rattle.ckpt_types.specs.declared.identities.CallId.{CallId}
+use Rattle.std.proofs.Common.{◌≡◌, ℕ, None, true, false, refl, sym, ap, ◌∙◌}
 use Rattle.ckpt_types.specs.declared.identities.Who.TheVariants.{Actor}
-use Rattle.ckpt_types.specs.declared.identities.Who.TheVariants as whos
-use Rattle.ckpt_types.specs.declared.operation.Op.{Op}
-use Rattle.ckpt_types.specs.declared.operation.Op.TheVariants as ops
 use Rattle.ckpt_types.specs.Asks.{asked, is_async_ask}
 use Rattle.ckpt_types.specs.OpWord.{is_async, word_of_op}
 use Rattle.cluster_record.specs.DueOnce.{OneStep, Enter, Leave, Close, Unlink, Retain}
@@ -14,7 +10,7 @@ use Rattle.ckpt_machine.specs.InHand.{enters, is_enter, IsOnceAt, IsInPlace}
 use Rattle.ckpt_machine.specs.Shape.{Shape}
 use Rattle.ckpt_machine.specs.Machine.{Machine, CallState, who}
 use Rattle.ckpt_machine.proofs.PlainCalls.{ending}
-use Rattle.ckpt_machine.proofs.Whose.{stepped_as-plain, stepped_as-async, put_who-here}
+use Rattle.ckpt_machine.proofs.Whose.{put_who-here}
 use Rattle.ckpt_machine.proofs.AsyncNames.{async_asked, own_name}
 
 -- once it has ended, its actor waits for none

@@ -255,7 +255,7 @@ module _ (m : Machine) (shapes : ℕ → Shape) (inv : InvariantIn shapes m) (ca
       handle = subst (λ (o : Option HandleView). IsSome o) (sym named) refl;
       marks = λ e found. has_no_marks x.id e found (subst (λ o. IfSome o (λ (e : Entry). e.making ≡ None)) found (asked_made op x named).made);
       generation = λ e found. tt;
-      present = λ e found. tt;
+      present = λ none e found. tt;
     };
     live = λ others. live;
   }

@@ -184,7 +184,7 @@ module _ (m : Machine) (shapes : ℕ → Shape) (inv : InvariantIn shapes m) (ca
       by_test true owns =
           let good : IsSpread m k (shapes k) e = subst (IsGoodIn m k (shapes k) e) none (inv.entries k e found) in
           let owner = is_owner-true call ((shapes k).owners r) owns in
-          let own = owner_in m k (shapes k) call (good.owned r call owner) (good.live r call owner) in
+          let own = owner_in m k (shapes k) call (good.owned r call owner) (good.live refl r call owner) in
           absurd (is_new (who own.state) own.state own.in_hand own.call_is)
 
   all_there : (o : Option Entry) → if_declared is_all (declared_in o) ≡ true → IfSome o (λ e. is_all e.attributes ≡ true)
@@ -206,5 +206,5 @@ module _ (m : Machine) (shapes : ℕ → Shape) (inv : InvariantIn shapes m) (ca
     owns = λ e found r there. ap (has (slice_index e.complete r)) (slice_index-replicate 8 r) ∙ has-none (slice_index e.complete r) there
         ∙ sym (owns_nothing h.id e r found (subst (λ o. IfSome o (λ (e : Entry). e.making ≡ None)) found made.made));
     keeps = λ e found. tt;
-    some = λ e found. tt;
+    some = λ none e found. tt;
   }

@@ -1,14 +1,12 @@
 -- Of the calls in hand, and of the asynchronous ones that are not dispatched, all stays so where one of these has ended or begun, where some are given, and where some are dropped.
-use Rattle.std.proofs.Common.{◌≡◌, ◌≢◌, ◌⊎◌, ℕ, ◌+◌, ◌<◌, inl, inr, arith, List, [], ◌∷◌, Option, Some, None, Bool, true, false, not, ◌&&◌, ◌==◌, cond, refl, sym, ap, subst, ◌∙◌}
+use Rattle.std.proofs.Common.{◌≡◌, ◌≢◌, ◌⊎◌, ℕ, ◌+◌, ◌<◌, inl, inr, arith, [], ◌∷◌, Option, Some, None, Bool, true, false, not, ◌&&◌, cond, refl, sym, ap, subst, ◌∙◌}
 use Rattle.std.specs.Prelude.{IsSomeAnd, Contains, option_map}
-use Rattle.std.proofs.lemmas.Bool.{eqb-true, eq-eqb, and_parts}
-use Rattle.std.proofs.lemmas.List.Elements.{Contains-append_left, Contains-append_right, Contains-append_cases, Contains-push_cases}
+use Rattle.std.proofs.lemmas.List.Elements.{Contains-append_cases, Contains-push_cases}
 use Rattle.std.proofs.lemmas.Option.{same_Some}
 use Rattle.ckpt_types.specs.declared.answers.Answer.{Answer}
 use Rattle.ckpt_types.specs.declared.answers.Outcome.{Outcome}
 use Rattle.ckpt_types.specs.declared.answers.Outcome.TheVariants.{Done}
 use Rattle.ckpt_types.specs.declared.identities.ActorName.{ActorName}
-use Rattle.ckpt_types.specs.declared.identities.ActorName.TheVariants.{Client, Node}
 use Rattle.ckpt_types.specs.declared.identities.CallId.{CallId}
 use Rattle.ckpt_types.specs.declared.identities.Who.{Who}
 use Rattle.ckpt_types.specs.declared.identities.Who.TheVariants.{Actor}
@@ -18,7 +16,7 @@ use Rattle.ckpt_types.specs.declared.words.OpWord.{OpWord}
 use Rattle.ckpt_types.specs.declared.operation.Op.TheVariants as ops
 use Rattle.ckpt_types.specs.Asks.{asked, invocation_of}
 use Rattle.ckpt_types.specs.OpWord.{is_async, word_of_op, stepped_as}
-use Rattle.call_dispatch.specs.PendingCalls.{PendingCalls, no_pending, is_actor, is_call, find_async, goes_over, other_calls, ended_call, ending, ended_in, forgotten_over, dispatched, given_number, with_begun}
+use Rattle.call_dispatch.specs.PendingCalls.{PendingCalls, no_pending, is_call, find_async, goes_over, other_calls, ended_call, ending, ended_in, forgotten_over, dispatched, given_number, with_begun}
 use Rattle.call_dispatch.specs.declared.async_call.AsyncCall.{AsyncCall}
 use Rattle.call_dispatch.specs.declared.async_call.EndedCall.{EndedCall}
 use Rattle.client_handles.specs.declared.handle_view.HandleView.{HandleView}
@@ -30,7 +28,7 @@ use Rattle.ckpt_machine.specs.Machine.{CallState, who}
 use Rattle.ckpt_machine.specs.Steps.{kind_of, async_call, pending_begun, call_begun, started_call, goes_on, is_over, goes_with, left_over}
 use Rattle.ckpt_machine.specs.Whose.{put_who, same_who, is_of}
 use Rattle.ckpt_machine.proofs.Actors.{same_actor-refl, same_actor-true}
-use Rattle.ckpt_machine.proofs.KeptLists.{among_filtered, among_dropped, among_mapped, among_images, among_none, found_among, none_found, found_filtered, found_front, found_last}
+use Rattle.ckpt_machine.proofs.KeptLists.{among_filtered, among_dropped, among_mapped, among_none, found_among, none_found, found_filtered, found_front, found_last}
 use Rattle.ckpt_machine.proofs.OptionLemmas.{IsSomeAnd-at, IsSomeAnd-from}
 use Rattle.ckpt_machine.proofs.ByActor.{put_actor-here, put_actor-other}
 use Rattle.ckpt_machine.proofs.Whose.{put_who-cases, stepped_as-async}

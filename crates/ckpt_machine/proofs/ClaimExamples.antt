@@ -36,12 +36,12 @@ and_no_more = (a_write_was_asked, tt)
 -- ---- an active that is set twice
 
 -- the calls of c1
-abbrev other_numbered : ℕ → CallId
+abbrev pub other_numbered : ℕ → CallId
 other_numbered n = record { actor = Client 1; number = n }
 
--- a client is to enter on a node
-abbrev enters_on : ℕ → Op
-enters_on r = ops.Client r (record { release = release; major = major_max; minor = minor_answered }) (record { opens = false; syncs = false })
+-- an Initialize on a node
+abbrev pub an_initialize : ℕ → Op
+an_initialize r = ops.Client r (record { release = release; major = major_max; minor = minor_answered }) (record { opens = false; syncs = false })
 
 -- a collocated checkpoint with one section of 8 bytes, whose updates go to the active alone
 abbrev collocated_section : CreationAttributes
@@ -51,9 +51,9 @@ collocated_section = record { creation_flags = wr_active_replica + checkpoint_co
 abbrev until_both_have_it : List Label
 until_both_have_it =
     labels.Nodes 2
-    ∷ labels.Began (call_numbered 1) (enters_on 0) None beside.Nothing
+    ∷ labels.Began (call_numbered 1) (an_initialize 0) None beside.Nothing
     ∷ labels.Stepped (call_numbered 1) opwords.Client verbs.Enter None (Some 0) words.Ok (Some (Done answers.Version)) beside.Nothing
-    ∷ labels.Began (other_numbered 1) (enters_on 1) None beside.Nothing
+    ∷ labels.Began (other_numbered 1) (an_initialize 1) None beside.Nothing
     ∷ labels.Stepped (other_numbered 1) opwords.Client verbs.Enter None (Some 1) words.Ok (Some (Done answers.Version)) beside.Nothing
     ∷ labels.Began (call_numbered 2) (ops.Open 0 (codes "ck") (checkpoint_write + checkpoint_create) end_of_time (Some collocated_section)) None beside.Nothing
     ∷ labels.Stepped (call_numbered 2) opwords.Open verbs.Create (Some 1) None words.Ok None beside.Nothing
@@ -89,7 +89,7 @@ until_c1_asks =
 abbrev a_hold : Label
 a_hold = labels.Stepped (other_numbered 3) opwords.Active verbs.Hold (Some 1) (Some 0) words.Ok None beside.Nothing
 
-abbrev until_it_holds : List Label
+abbrev pub until_it_holds : List Label
 until_it_holds = until_c1_asks ++ a_hold ∷ []
 
 -- what n0 has by then
@@ -100,7 +100,7 @@ pub it_has_held : HasHeld until_it_holds (other_numbered 3) 1 written
 it_has_held = record { before = until_c1_asks; behind = []; hold = a_hold; node = 0; log_is = refl; hold_is = (refl, refl, refl); held = record { active = refl; replica = _; there = refl; effects_are = refl } }
 
 -- by a call in hand
-abbrev holder_of : Option Entry → Option CallId
+abbrev pub holder_of : Option Entry → Option CallId
 holder_of None = None
 holder_of (Some e) = e.hold
 
@@ -124,7 +124,7 @@ second_set = labels.Stepped (other_numbered 3) opwords.Active verbs.Activate (So
 pub n1_has_what_n0_had : effects_at (until_it_holds ++ second_set ∷ []) 1 ≡ Some written
 n1_has_what_n0_had = refl
 
-abbrev active_of : Option Entry → Option ℕ
+abbrev pub active_of : Option Entry → Option ℕ
 active_of None = None
 active_of (Some e) = e.active
 

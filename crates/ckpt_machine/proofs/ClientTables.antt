@@ -21,7 +21,6 @@ use Rattle.ckpt_machine.specs.Shape.{Shape}
 use Rattle.ckpt_machine.proofs.Actors.{same_actor-true}
 use Rattle.ckpt_machine.proofs.Lives.{LivesOn, lives_on-fewer}
 use Rattle.ckpt_machine.proofs.OtherCalls.{LooksAlike, LooksLater-refl, making_still, IsInHand-alike, IsGoodIn-alike}
-use Rattle.ckpt_machine.proofs.ByActor.{put_actor-same}
 use Rattle.ckpt_machine.proofs.Whose.{stepped_as-plain}
 
 -- the handle that an actor's call is about, for which it waits, is there still

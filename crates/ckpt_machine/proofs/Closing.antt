@@ -36,7 +36,6 @@ use Rattle.ckpt_machine.proofs.EndedTables.{closing_keeps}
 use Rattle.ckpt_machine.proofs.FewerCalls.{calls_fewer}
 use Rattle.ckpt_machine.proofs.OptionLemmas.{IsSomeAnd-at}
 use Rattle.ckpt_machine.proofs.PlainCalls.{is_plain, is_plain_sync, ending, left_other}
-use Rattle.ckpt_machine.proofs.ByActor.{put_actor-same}
 
 -- ---- a synchronisation owns nothing
 

@@ -90,7 +90,7 @@ module _ (m : Machine) (shapes : ℕ → Shape) (inv : InvariantIn shapes m) (s 
   within = subst (λ (n : ℕ). r < n) (sym same_length) (index-within e.complete r complete)
 
   own_alone : (q : ℕ) (d : CallId) → z.owners q ≡ Some d → d ≡ s.call
-  own_alone q d owns = owner_alone m u.ckpt z s commits.origin d (owner_in m u.ckpt z d (spread.owned q d owns) (spread.live q d owns))
+  own_alone q d owns = owner_alone m u.ckpt z s commits.origin d (owner_in m u.ckpt z d (spread.owned q d owns) (spread.live refl q d owns))
 
   abbrev own_slot : Staged
   own_slot = record { owner = s.call; origin = z.origin; update = z.update; moment = z.moment }
@@ -257,7 +257,7 @@ module _ (m : Machine) (shapes : ℕ → Shape) (inv : InvariantIn shapes m) (s 
     lowest = lowest_then;
     first = λ q p d below there owns own. first_then q p d below there owns;
     owned = λ q d owns. inl (owned q d owns);
-    live = λ q d owns. ap (is_live m.cluster) (owners_left q d owns).2 ∙ (inv.hands (who s) s held).live (ap is_enter is);
+    live = λ none q d owns. ap (is_live m.cluster) (owners_left q d owns).2 ∙ (inv.hands (who s) s held).live (ap is_enter is);
     led = spread.led;
     marked = λ marks is_some. IsMarker-other m shapes inv s u held is (put2 m.replicas u.ckpt r (Some with_commit)) o u.ckpt marks (spread.marked marks is_some);
     held = λ d is_some. absurd (never_held m shapes inv s u held is e found d is_some);
@@ -328,7 +328,7 @@ module _ (m : Machine) (shapes : ℕ → Shape) (inv : InvariantIn shapes m) (s 
     nodes = length-slice_set u.owned r 0 ∙ was.nodes;
     owns = λ f there. subst (λ w. OwnsIn w s then_driver f) (sym (ap (λ b. cond b committed (shapes u.ckpt)) (eq-eqb u.ckpt u.ckpt refl))) (subst (OwnsIn committed s then_driver) (same_Some e f (sym found ∙ there)) owns_then);
     keeps = λ f there. subst (λ w. IsDoneIn w then_state) (sym (ap (λ b. cond b committed (shapes u.ckpt)) (eq-eqb u.ckpt u.ckpt refl))) done_own;
-    some = λ f there. subst (λ f. HasSome then_driver f Committing) (same_Some e f (sym found ∙ there)) (ap is_some some);
+    some = λ unfailed f there. subst (λ f. HasSome then_driver f Committing) (same_Some e f (sym found ∙ there)) (ap is_some some);
   }
 
   goes_on : (p : ℕ) → left_then ≡ Some p → Invariant (then_machine (Some then_state))

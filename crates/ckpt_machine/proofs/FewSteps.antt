@@ -1,8 +1,7 @@
 -- At least one step is left of a call in hand, and at most 66.
-use Rattle.std.proofs.Common.{◌≡◌, ℕ, ◌+◌, ◌*◌, ◌<◌, ◌≤◌, List, [], ◌∷◌, length, Option, Some, None, Bool, true, false, cond, not, ◌&&◌, refl, ap, arith}
+use Rattle.std.proofs.Common.{◌≡◌, ℕ, ◌+◌, ◌*◌, ◌≤◌, List, [], ◌∷◌, length, Option, Some, None, Bool, true, false, cond, not, ◌&&◌, refl, ap, arith}
 use Rattle.std.specs.Prelude.{◌==◌}
 use Rattle.ckpt_types.specs.declared.identities.CallId.{CallId}
-use Rattle.ckpt_types.specs.declared.identities.Who.{Who}
 use Rattle.cluster_record.specs.declared.calls.ActiveKind.{ActiveKind}
 use Rattle.cluster_record.specs.declared.calls.ActiveKind.TheVariants as kinds
 use Rattle.cluster_record.specs.declared.calls.Making.{Making}
@@ -18,9 +17,9 @@ use Rattle.cluster_record.specs.RecordState.{RecordState, entry_of, complete_of}
 use Rattle.ckpt_machine.specs.Drivers.{Driver}
 use Rattle.ckpt_machine.specs.Drivers as drivers
 use Rattle.ckpt_machine.specs.InHand.{MarksFit, IsInPlace, is_held_by}
-use Rattle.ckpt_machine.specs.Invariant.{InvariantIn, Invariant, IsGoodIn}
+use Rattle.ckpt_machine.specs.Invariant.{InvariantIn, IsGoodIn}
 use Rattle.ckpt_machine.specs.Laws.{StepsAreFew}
-use Rattle.ckpt_machine.specs.Left.{lacking, having, unserved, making_left, active_left, kind_left, setting_left, steps_left, sync_left, update_left}
+use Rattle.ckpt_machine.specs.Left.{lacking, having, making_left, active_left, kind_left, setting_left, steps_left, sync_left, update_left}
 use Rattle.ckpt_machine.specs.Machine.{Machine, CallState}
 use Rattle.ckpt_machine.specs.Shape.{Shape}
 use Rattle.ckpt_machine.specs.Steps.{driver_of}

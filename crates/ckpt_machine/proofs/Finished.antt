@@ -164,7 +164,7 @@ module _ (m : Machine) (shapes : ℕ → Shape) (inv : InvariantIn shapes m) (s 
     lowest = λ q r d below there none. absurd (cc none);
     first = λ q r d below there none own. absurd (cc none);
     owned = λ r d none. absurd (cc none);
-    live = λ r d none. absurd (cc none);
+    live = λ unfailed r d none. absurd (cc none);
     led = λ marks none. absurd (cc none);
     marked = λ marks none. absurd (cc none);
     held = λ d is. absurd (let w : Some d ≡ None = sym is ∙ none_held in cc w);

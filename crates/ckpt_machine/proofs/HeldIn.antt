@@ -59,4 +59,4 @@ held_in m inv s held place is k r kept e found may =
     by_hold spread (Some holder) hold may same =
         let by = (spread.held holder hold).holder in
         let state : by.state ≡ s = same_state m.in_hand m.pending m.next inv.holds.calls by.state s by.in_hand held (by.call_is ∙ may) in
-        copied_from m s k e e.active refl (subst (λ (z : CallState). is_some z.snapshot ≡ true) state by.some) (subst (λ (z : CallState). z.snapshot ≡ option_map copied (on_node (m.replicas k) e.active)) state (by.copies (spread.held holder hold).led))
+        copied_from m s k e e.active refl (subst (λ (z : CallState). is_some z.snapshot ≡ true) state by.some) (subst (λ (z : CallState). z.snapshot ≡ option_map copied (on_node (m.replicas k) e.active)) state (by.copies ((spread.held holder hold).led refl)))

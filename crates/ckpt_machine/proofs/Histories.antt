@@ -117,7 +117,7 @@ module _ (m : Machine) (shapes : ℕ → Shape) (inv : InvariantIn shapes m) (ba
   slot_owned k r x slot there staged =
       let (e, found, complete) = entry_there k r x there in
       let at = shaped_there k r x e there found in
-      by_shape (is_all e.attributes) e.active at.shaped (λ d owns. owner_in m k (shapes k) d (at.spread.owned r d owns) (at.spread.live r d owns))
+      by_shape (is_all e.attributes) e.active at.shaped (λ d owns. owner_in m k (shapes k) d (at.spread.owned r d owns) (at.spread.live refl r d owns))
     where
       by_owner : (o : Option CallId) → (shapes k).owners r ≡ o → slot_by (shapes k) o ≡ Some slot → ((d : CallId) → (shapes k).owners r ≡ Some d → IsOwner m k (shapes k) d) → IsOwner m k (shapes k) slot.owner × (slot.origin ≡ slot.owner) × (slot.update ≡ (shapes k).update)
       by_owner None is none owned = absurd (cc none)

@@ -1,5 +1,5 @@
 -- A client leaves, and its asynchronous calls and all that they are making go with it; what holds of the calls of others stays.
-use Rattle.std.proofs.Common.{◌≡◌, ℕ, inl, inr, List, [], ◌∷◌, filter, Option, Some, None, Bool, true, false, cond, not, ◌==◌, refl, sym, ap, subst, ◌∙◌, arith}
+use Rattle.std.proofs.Common.{◌≡◌, ℕ, inl, inr, filter, Option, Some, None, Bool, true, false, cond, not, ◌==◌, refl, sym, ap, subst, ◌∙◌, arith}
 use Rattle.std.specs.Prelude.{is_some, IsSome, IfSome, Contains}
 use Rattle.std.proofs.lemmas.Option.{same_Some}
 use Rattle.ckpt_types.specs.declared.identities.ActorName.{ActorName}
@@ -40,7 +40,7 @@ use Rattle.ckpt_machine.proofs.ClientTables.{KeepsHandle}
 use Rattle.ckpt_machine.proofs.DroppedCalls.{without_those, left_in, pending_keeps}
 use Rattle.ckpt_machine.proofs.DueStep.{Goes}
 use Rattle.ckpt_machine.proofs.EndedTables.{other_number, live_alike, emptied_keeps}
-use Rattle.ckpt_machine.proofs.Entries.{ComesOf, ComesOf-filter, ComesOf-map, ComesOf-then, found_filter, found_map}
+use Rattle.ckpt_machine.proofs.Entries.{ComesOf, ComesOf-filter, ComesOf-map, ComesOf-then, found_filter, found_passing, found_map}
 use Rattle.ckpt_machine.proofs.EntryLists.{find_key-without, AllStay-swept}
 use Rattle.ckpt_machine.proofs.FewerCalls.{calls_fewer}
 use Rattle.ckpt_machine.proofs.Moment.{IsLaterEntry-refl, making_stays}
@@ -58,17 +58,6 @@ not_call_of c call client other = by_actor call.actor call.number client other w
   by_actor : (a : ActorName) (n : ℕ) → IsClient a → (number_of a == c) ≡ false → is_call_of c (Some (record { actor = a; number = n })) ≡ false
   by_actor (Client d) n client other = other
   by_actor (Node r) n client other = absurd client
-
--- what is found of those that pass, passes
-found_passing : (p : Entry → Bool) (k : ℕ) (es : List Entry) (e : Entry) → entry_of k (filter p es) ≡ Some e → p e ≡ true
-found_passing p k [] e found = absurd (cc found)
-found_passing p k (x ∷ xs) e found = elim (p x) as (λ b. p x ≡ b → entry_of k (cond b (x ∷ filter p xs) (filter p xs)) ≡ Some e → p e ≡ true) [
-  | true ↦ λ passes there. elim (x.identity == k) as (λ b. cond b (Some x) (entry_of k (filter p xs)) ≡ Some e → p e ≡ true) [
-    | true ↦ λ here. ap p (sym (same_Some x e here)) ∙ passes
-    | false ↦ λ behind. found_passing p k xs e behind
-  ] there
-  | false ↦ λ fails there. found_passing p k xs e there
-] refl found
 
 module _ (m : Machine) (shapes : ℕ → Shape) (inv : InvariantIn shapes m) (s : CallState) (held : m.in_hand (who s) ≡ Some s) (is : driver_of s ≡ drivers.Once Leave) where
   abbrev a : ActorName

@@ -133,3 +133,13 @@ pub mod Promises
 pub mod HeldBy
 pub mod EntrySteps
 pub mod SettingActive
+pub mod NodeGone
+pub mod FailedEntries
+pub mod FailedClients
+pub mod FailedCalls
+pub mod FailedActive
+pub mod FailedShape
+pub mod FailedSpread
+pub mod FailedHands
+pub mod FailureLaw
+pub mod FailureExamples

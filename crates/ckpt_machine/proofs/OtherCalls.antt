@@ -240,7 +240,7 @@ module _ (m n : Machine) (shapes then_shapes : ℕ → Shape) (z : CallState) (a
         subst (λ (cs : List ℕ). (slice_index cs r == 0) ≡ false → has (slice_index cs r) (slice_index u.owned r) ≡ is_owner z.call ((shapes u.ckpt).owners r)) (sym (look.complete (all_at u at e was))) (at.owns e was r) full
         ∙ sym (alike.owners u.ckpt at.made r);
     keeps = λ f is. let (e, was, look) = alike.later u.ckpt at.made f is in PhaseKeeps-alike u u.phase at.made (at.keeps e was);
-    some = λ f is. let (e, was, look) = alike.later u.ckpt at.made f is in HasSome-alike u e f (look.complete (all_at u at e was)) u.phase (at.some e was);
+    some = λ none f is. let (e, was, look) = alike.later u.ckpt at.made f is in HasSome-alike u e f (look.complete (all_at u at e was)) u.phase (at.some none e was);
   }
   IsIn-alike (drivers.Active a) at = record {
     call = at.call;
@@ -256,7 +256,7 @@ module _ (m n : Machine) (shapes then_shapes : ℕ → Shape) (z : CallState) (a
         let (e, was, look) = alike.later a.ckpt at.made f is in
         alike.marks a.ckpt at.made ∙ marks_alike (shapes a.ckpt).marks e f look a.marks (at.marks e was) (at.generation e was));
     generation = λ f is. let (e, was, look) = alike.later a.ckpt at.made f is in generation_alike (shapes a.ckpt).marks e f look a.marks (at.generation e was);
-    present = λ f is. let (e, was, look) = alike.later a.ckpt at.made f is in present_alike (shapes a.ckpt).marks e f look a.marks (at.marks e was) (at.present e was);
+    present = λ none f is. let (e, was, look) = alike.later a.ckpt at.made f is in present_alike (shapes a.ckpt).marks e f look a.marks (at.marks e was) (at.present none e was);
   }
     where
       -- marks that it has made stand where they are of the present generation, which stays with them
@@ -359,14 +359,14 @@ module _ (m n : Machine) (k : ℕ) where
     lowest = λ q r d below there owns. was.lowest q r d below (was_there r d owns q there) owns;
     first = λ q r d below there owns own. was.first q r d below (was_there r d owns q there) owns (owner_before lives sh d (was.owned r d owns) own);
     owned = λ r d owns. owned_alike lives sh d (owners d) (was.owned r d owns);
-    live = λ r d owns. let own = owner_in m k sh d (was.owned r d owns) (was.live r d owns) in lives.owners k sh d (IsOwner-alike lives sh d own (owners d own));
+    live = λ none r d owns. let own = owner_in m k sh d (was.owned r d owns) (was.live none r d owns) in lives.owners k sh d (IsOwner-alike lives sh d own (owners d own));
     led = λ marks is. ap is_some later.active ∙ was.led marks is;
     marked = λ marks is. let own = was.marked marks is in IsMarker-alike marks own (markers marks own);
     held = λ d is. (
         let own = was.held d (sym later.hold ∙ is) in
         record {
           collocated = ap is_collocated later.attributes ∙ own.collocated;
-          led = ap is_some later.active ∙ own.led;
+          led = λ none. ap is_some later.active ∙ own.led none;
           unmarked = own.unmarked;
           holder = subst (λ active. IsHolder n k active d) (sym later.active) (IsHolder-alike e.active d own.holder (holders e.active d own.holder) (active_stays e replicas was.active));
         });

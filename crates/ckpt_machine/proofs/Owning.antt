@@ -81,7 +81,7 @@ module _ (m : Machine) (shapes : ℕ → Shape) (inv : InvariantIn shapes m) (s 
 
   -- a slot of its checkpoint is of a call in hand
   pub owner_of : (e : Entry) → entry_of u.ckpt m.cluster.entries ≡ Some e → (r : ℕ) (call : CallId) → (shapes u.ckpt).owners r ≡ Some call → IsOwner m u.ckpt (shapes u.ckpt) call
-  owner_of e found r call owns = owner_in m u.ckpt (shapes u.ckpt) call ((spread e found).owned r call owns) ((spread e found).live r call owns)
+  owner_of e found r call owns = owner_in m u.ckpt (shapes u.ckpt) call ((spread e found).owned r call owns) ((spread e found).live refl r call owns)
 
   -- where it owns a slot, the shape is as its phase says
   pub own_phase : (sh : Shape) (own : IsOwner m u.ckpt sh s.call) → PhaseFits m sh s u u.phase

@@ -1,5 +1,5 @@
 -- Asynchronous calls that are not dispatched, by their names.
-use Rattle.std.proofs.Common.{◌≡◌, ◌≢◌, List, Option, Some, true, false, ◌&&◌, ◌==◌, refl, sym, ap}
+use Rattle.std.proofs.Common.{◌≡◌, ◌≢◌, List, Some, true, false, ◌&&◌, ◌==◌, refl, sym, ap}
 use Rattle.std.specs.Prelude.{Contains}
 use Rattle.std.proofs.lemmas.Bool.{eqb-true, eq-eqb, and_parts}
 use Rattle.std.proofs.lemmas.List.Elements.{Contains-append_left, Contains-append_right}

@@ -1,11 +1,9 @@
 -- A step that changes one replica and one call in hand leaves what holds of every other call and of every other checkpoint.
 use Rattle.std.proofs.Common.{◌≡◌, ◌≢◌, ℕ, inl, inr, Option, Some, None, Bool, true, false, cond, ◌&&◌, ◌==◌, refl, sym, ap, subst, ◌∙◌}
 use Rattle.std.proofs.lemmas.Bool.{eqb-true, eq-eqb}
-use Rattle.ckpt_types.specs.declared.identities.ActorName.{ActorName}
 use Rattle.ckpt_types.specs.declared.identities.CallId.{CallId}
 use Rattle.cluster_record.specs.declared.entries.Entry.{Entry}
 use Rattle.cluster_record.specs.DueUpdate.{UpdateState}
-use Rattle.cluster_record.specs.Calls.{same_actor, put_actor}
 use Rattle.cluster_record.specs.Places.{put, put2}
 use Rattle.cluster_record.specs.RecordState.{entry_of}
 use Rattle.ckpt_machine.specs.Drivers as drivers
@@ -15,7 +13,6 @@ use Rattle.ckpt_machine.specs.Shape.{Shape, is_owner, IsOwner, IsMarker, IsHolde
 use Rattle.weak_marks.specs.Marks.{Marked}
 use Rattle.ckpt_machine.specs.InHand.{is_marked_by, IsDoneIn, IsInHand}
 use Rattle.ckpt_machine.specs.Invariant.{IsMaker, IsGoodIn, IsCompleteAt, InvariantIn}
-use Rattle.ckpt_machine.proofs.Actors.{same_actor-refl, same_actor-true}
 use Rattle.ckpt_machine.specs.Whose.{put_who, same_who}
 use Rattle.ckpt_types.specs.declared.identities.Who.{Who}
 use Rattle.ckpt_machine.proofs.Whose.{put_who-cases, put_who-other, apart_states}

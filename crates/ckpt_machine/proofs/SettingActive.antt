@@ -22,9 +22,8 @@ use Rattle.cluster_record.specs.Calls.{same_call}
 use Rattle.cluster_record.specs.DueSync.{SyncState, lead_next, unless_held, kind_next, sync_on, sync_next}
 use Rattle.cluster_record.specs.Placement.{is_collocated}
 use Rattle.cluster_record.specs.Places.{put2}
-use Rattle.cluster_record.specs.RecordState.{RecordState, entry_of, stays, swept, is_active, can_be_held, with_hold, hold_set, can_lead, generation_under, with_active, active_set}
+use Rattle.cluster_record.specs.RecordState.{RecordState, entry_of, stays, swept, is_active, with_hold, hold_set, generation_under, with_active, active_set}
 use Rattle.cluster_record.specs.StepDone.{StepDone, done_of, counting, generation_in}
-use Rattle.cluster_record.proofs.IdentityLaws.{KeepsIdentity}
 use Rattle.ckpt_machine.specs.Drivers as drivers
 use Rattle.ckpt_machine.specs.Driving.{event_ckpt, event_node, event_refusal, making_in, driver_taken}
 use Rattle.ckpt_machine.specs.Guards.{HoldOk, HoldKeptOff, MayLead, ActivateOk, GoneLook, LookRefused}
@@ -213,7 +212,7 @@ module _ (m : Machine) (shapes : ℕ → Shape) (inv : InvariantIn shapes m) (s 
           live = spread.live;
           led = spread.led;
           marked = λ marks stand. absurd (let w : Some marks ≡ None = sym stand ∙ unmarked in cc w);
-          held = λ d holds. record { collocated = collocated; led = ap is_some active; unmarked = unmarked; holder = subst (IsHolder held_machine k e.active) (same_Some s.call d holds) holder_then };
+          held = λ d holds. record { collocated = collocated; led = λ none. ap is_some active; unmarked = unmarked; holder = subst (IsHolder held_machine k e.active) (same_Some s.call d holds) holder_then };
         }
 
         looks_then : (z : CallState) → z.call ≢ s.call → LooksLater z (shapes k).marks e held_entry

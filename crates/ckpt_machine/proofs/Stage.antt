@@ -71,7 +71,7 @@ module _ (m : Machine) (shapes : ℕ → Shape) (inv : InvariantIn shapes m) (s 
     (e : Entry) (found : entry_of u.ckpt m.cluster.entries ≡ Some e) (z : Shape) (t : ℤ) (spread : IsSpread m u.ckpt z e) (stages : Stages z s t e) (mom : staged_moment m u.ckpt ≡ t) where
   -- each slot is of this very update
   pub own_alone : (q : ℕ) (d : CallId) → z.owners q ≡ Some d → d ≡ s.call
-  own_alone q d owns = owner_alone m u.ckpt z s stages.origin d (owner_in m u.ckpt z d (spread.owned q d owns) (spread.live q d owns))
+  own_alone q d owns = owner_alone m u.ckpt z s stages.origin d (owner_in m u.ckpt z d (spread.owned q d owns) (spread.live refl q d owns))
 
   slots_own : (q : ℕ) (o : Option CallId) → z.owners q ≡ o → IfSlot (slot_by z o) (λ slot. slot ≡ record { owner = s.call; origin = s.call; update = update_of s.op; moment = staged_moment m u.ckpt })
   slots_own q None owns = tt
@@ -191,7 +191,7 @@ module _ (m : Machine) (shapes : ℕ → Shape) (inv : InvariantIn shapes m) (s 
         lowest = lowest_then;
         first = λ q p d below there has_it own. first_then q p d below there has_it;
         owned = λ q d has_it. inl (subst (IsOwner then_machine u.ckpt staged) (sym (owners_then q d has_it).1) owner_then);
-        live = λ q d has_it. ap (is_live m.cluster) (owners_then q d has_it).1 ∙ (inv.hands (who s) s held).live (ap is_enter is);
+        live = λ none q d has_it. ap (is_live m.cluster) (owners_then q d has_it).1 ∙ (inv.hands (who s) s held).live (ap is_enter is);
         led = spread.led;
         marked = λ marks is_some. IsMarker-other m shapes inv s u held is then_machine.replicas (Some then_state) u.ckpt marks (spread.marked marks is_some);
         held = λ d is_some. absurd (never_held m shapes inv s u held is e found d is_some);
@@ -255,7 +255,7 @@ module _ (m : Machine) (shapes : ℕ → Shape) (inv : InvariantIn shapes m) (s 
             nodes = length-slice_set u.owned r (slice_index e.complete r) ∙ was.nodes;
             owns = λ f there. subst (λ w. OwnsIn w s then_driver f) (sym (ap (λ b. cond b staged (shapes u.ckpt)) (eq-eqb u.ckpt u.ckpt refl))) (subst (OwnsIn staged s then_driver) (same_Some e f (sym found ∙ there)) owns_then);
             keeps = λ f there. tt;
-            some = λ f there. tt;
+            some = λ none f there. tt;
           }
 
           own_then : (w : CallState) → Some then_state ≡ Some w → IsInHand then_machine (put shapes u.ckpt staged) (who s) w

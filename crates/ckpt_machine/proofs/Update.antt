@@ -128,7 +128,7 @@ module _ (m : Machine) (shapes : ℕ → Shape) (inv : InvariantIn shapes m) (s 
         held_moves : last ≡ None → (d : CallId) → (shapes u.ckpt).owners r ≡ Some d → x.slot ≡ slot_by (shapes u.ckpt) (Some d) → Goes m s (drivers.Update u) t
         held_moves none d owns slot =
             let another : same_call d s.call ≡ false = sym (ap (is_owner s.call) owns) ∙ lacks_it in
-            let live : is_live m.cluster d ≡ true = was.live r d owns in
+            let live : is_live m.cluster d ≡ true = was.live refl r d owns in
             let told = IsServed-told m s r to_stage t (drivers.Update u) (replies.Held d) served is (answered _ slot) in
             subst (Goes m s (drivers.Update u)) (sym (told ∙ (λ i. record { verb = verbs.Stage; ckpt = Some u.ckpt; node = Some r; reply = words.Held d; end = cond (live i) (Some (Refused TryAgain (Holder d))) None; details = ended_details (cond (live i) (Some (Refused TryAgain (Holder d))) None) (no_details i) }))) (record {
               row = (
@@ -384,7 +384,7 @@ module _ (m : Machine) (shapes : ℕ → Shape) (inv : InvariantIn shapes m) (s 
     by_next Committing committing first (Some r) lacked having t done = commit_last r having (λ had. let fits : IsCommitting (shapes u.ckpt) s = subst (PhaseFits m (shapes u.ckpt) s u) committing (own_phase m shapes inv s u held is (shapes u.ckpt) (owner_at r had)) in
         record { origin = fits.origin; update = fits.update; rest = inl fits.is_done }) t done
     by_next Committing committing first None lacked having t done =
-        let some : HasSome u e Committing = subst (HasSome u e) committing ((at m shapes inv s u held is).some e found) in
+        let some : HasSome u e Committing = subst (HasSome u e) committing ((at m shapes inv s u held is).some refl e found) in
         absurd (let w : false ≡ true = sym (ap is_some having) ∙ some in cc w)
 
     there_moves : (active : Option ℕ) → e.active ≡ active → (t : Told) → IsDone m s (update_led u m.cluster.moment e active) t → Goes m s (drivers.Update u) t

@@ -136,7 +136,7 @@ module _ (m : Machine) (shapes : ℕ → Shape) (inv : InvariantIn shapes m) (s 
       handle = its.handle;
       marks = λ e found. ap (λ (sh : Shape). is_marked_by s.call sh.marks) shape_then ∙ ap (λ c. same_call c s.call) own ∙ same_call-refl s.call ∙ sym (eq-eqb w.generation e.generation (present_then e found));
       generation = λ e found. let present = present_then e found in omega (arith, present);
-      present = present_then;
+      present = λ none. present_then;
     }
 
     goes_on_keeps : Invariant then_machine
@@ -168,7 +168,7 @@ module _ (m : Machine) (shapes : ℕ → Shape) (inv : InvariantIn shapes m) (s 
     left : marks.done + w.left ≡ length (elements_in marks.update)
 
   own_marks : (w : MarksMade) → made ≡ Some w → OwnMarks w
-  own_marks w made_is = by_marks (shapes k).marks refl (its.marks at.entry at.found ∙ ap (are_present at.entry) made_is ∙ eq-eqb w.generation at.entry.generation (subst (λ o. IfSome o (λ (v : MarksMade). v.generation ≡ at.entry.generation)) made_is (its.present at.entry at.found)))
+  own_marks w made_is = by_marks (shapes k).marks refl (its.marks at.entry at.found ∙ ap (are_present at.entry) made_is ∙ eq-eqb w.generation at.entry.generation (subst (λ o. IfSome o (λ (v : MarksMade). v.generation ≡ at.entry.generation)) made_is (its.present refl at.entry at.found)))
     where
       by_marks : (o : Option Marked) → (shapes k).marks ≡ o → is_marked_by s.call o ≡ true → OwnMarks w
       by_marks None none of_it = absurd (cc of_it)
@@ -308,7 +308,7 @@ module _ (m : Machine) (shapes : ℕ → Shape) (inv : InvariantIn shapes m) (s 
       holds_written : Invariant (record m { replicas = put2 m.replicas k at.node (Some (with_next_element (entry_of k m.cluster.entries) at.replica)); in_hand = put_who m.in_hand (who s) (Some (then_state verbs.Element)) })
       holds_written = subst (λ y. Invariant (record m { replicas = put2 m.replicas k at.node (Some y); in_hand = put_who m.in_hand (who s) (Some (then_state verbs.Element)) })) (sym element_is)
           (goes_on_keeps verbs.Element written next_marks next_made at.generation free next_done its_own.own its_own.update (let l = its_own.left in let above = positive w.left left_some in omega (arith, l, above)) (let f = few_left in omega (arith, f))
-          ((subst (λ o. IfSome o (λ (v : MarksMade). v.generation ≡ at.entry.generation)) made_is (its.present at.entry at.found))) element_takes others_unmarked)
+          ((subst (λ o. IfSome o (λ (v : MarksMade). v.generation ≡ at.entry.generation)) made_is (its.present refl at.entry at.found))) element_takes others_unmarked)
 
       element_goes : (t : Told) → IsServed m s at.node to_do t → Goes m s (driver_of s) t
       element_goes t served = subst (Goes m s (driver_of s)) (sym (IsServed-told m s at.node to_do t _ (replies.Done answers.Nothing) served is

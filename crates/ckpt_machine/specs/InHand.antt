@@ -126,7 +126,7 @@ HasSome u e Staging = Unit {0}
 HasSome u e Committing = IsSome (last_having 0 e.complete u.owned)
 
 -- an update is of a checkpoint that was made, whose updates are on all replicas, and of the slots there it owns those for which it keeps a node
-pub record IsUpdateIn (m : Machine) (shapes : ℕ → Shape) (s : CallState) (u : UpdateState) : Type 0 where
+pub record IsUpdateUnder (failures : Bool) (m : Machine) (shapes : ℕ → Shape) (s : CallState) (u : UpdateState) : Type 0 where
   pub call : u.call ≡ s.call
   pub place : ℕ
   pub update : Update
@@ -137,7 +137,11 @@ pub record IsUpdateIn (m : Machine) (shapes : ℕ → Shape) (s : CallState) (u 
   pub nodes : length u.owned ≡ nodes_max
   pub owns : (e : Entry) → entry_of u.ckpt m.cluster.entries ≡ Some e → OwnsIn (shapes u.ckpt) s u e
   pub keeps : (e : Entry) → entry_of u.ckpt m.cluster.entries ≡ Some e → PhaseKeeps m (shapes u.ckpt) s u u.phase
-  pub some : (e : Entry) → entry_of u.ckpt m.cluster.entries ≡ Some e → HasSome u e u.phase
+  pub some : failures ≡ false → (e : Entry) → entry_of u.ckpt m.cluster.entries ≡ Some e → HasSome u e u.phase
+
+-- where no node has failed
+abbrev pub IsUpdateIn : Machine → (ℕ → Shape) → CallState → UpdateState → Type 0
+IsUpdateIn m shapes s u = IsUpdateUnder false m shapes s u
 
 -- the marks are of the call
 abbrev pub is_marked_by : CallId → Option Marked → Bool
@@ -157,7 +161,7 @@ MarksFit kind None = Unit {0}
 MarksFit kind (Some marks) = ⊥
 
 -- a call to the active is of the kind of its operation, on a checkpoint that was made, and its handle is there
-pub record IsActiveIn (m : Machine) (shapes : ℕ → Shape) (s : CallState) (a : ActiveState) : Type 0 where
+pub record IsActiveUnder (failures : Bool) (m : Machine) (shapes : ℕ → Shape) (s : CallState) (a : ActiveState) : Type 0 where
   pub call : a.call ≡ s.call
   pub kind : active_kind s.kept.all s.kept.weak (asked s.op) ≡ Some a.kind
   pub fit : MarksFit a.kind a.marks
@@ -172,7 +176,11 @@ pub record IsActiveIn (m : Machine) (shapes : ℕ → Shape) (s : CallState) (a 
   pub marks : (e : Entry) → entry_of a.ckpt m.cluster.entries ≡ Some e → is_marked_by s.call (shapes a.ckpt).marks ≡ are_present e a.marks
   pub generation : (e : Entry) → entry_of a.ckpt m.cluster.entries ≡ Some e → IfSome a.marks (λ marks. marks.generation ≤ e.generation)
   -- while no node fails they are of the present one
-  pub present : (e : Entry) → entry_of a.ckpt m.cluster.entries ≡ Some e → IfSome a.marks (λ marks. marks.generation ≡ e.generation)
+  pub present : failures ≡ false → (e : Entry) → entry_of a.ckpt m.cluster.entries ≡ Some e → IfSome a.marks (λ marks. marks.generation ≡ e.generation)
+
+-- where no node has failed
+abbrev pub IsActiveIn : Machine → (ℕ → Shape) → CallState → ActiveState → Type 0
+IsActiveIn m shapes s a = IsActiveUnder false m shapes s a
 
 -- what a call keeps of a pull: the generation of what it has pulled, and the count of its updates
 abbrev pub pulled_as : Snapshot → PulledAt
@@ -253,15 +261,19 @@ IsOnceAt m s (once.Unlink name) = asked s.op ≡ asking.Unlink name
 IsOnceAt m s (once.Retain k duration) = IsRetainAt m s k duration
 
 -- a call in hand is where its steps have led it, by its driver
+abbrev pub IsInPlaceUnder : Bool → Machine → (ℕ → Shape) → CallState → Driver → Type 0
+IsInPlaceUnder failures m shapes s (drivers.Once x) = IsOnceAt m s x
+IsInPlaceUnder failures m shapes s (drivers.Open o) = IsOpenIn m s o
+IsInPlaceUnder failures m shapes s (drivers.Update u) = IsUpdateUnder failures m shapes s u
+IsInPlaceUnder failures m shapes s (drivers.Active a) = IsActiveUnder failures m shapes s a
+IsInPlaceUnder failures m shapes s (drivers.Sync u) = IsSyncBy m s u u.kind
+
+-- where no node has failed
 abbrev pub IsInPlace : Machine → (ℕ → Shape) → CallState → Driver → Type 0
-IsInPlace m shapes s (drivers.Once x) = IsOnceAt m s x
-IsInPlace m shapes s (drivers.Open o) = IsOpenIn m s o
-IsInPlace m shapes s (drivers.Update u) = IsUpdateIn m shapes s u
-IsInPlace m shapes s (drivers.Active a) = IsActiveIn m shapes s a
-IsInPlace m shapes s (drivers.Sync u) = IsSyncBy m s u u.kind
+IsInPlace m shapes s driver = IsInPlaceUnder false m shapes s driver
 
 -- a call in hand is so under its own name; it is a client's, its number was given, it is built, what it asks for drives it, each but an Initialize is live, and it is where its steps have led it
-pub record IsInHand (m : Machine) (shapes : ℕ → Shape) (w : Who) (s : CallState) : Type 0 where
+pub record IsInHandUnder (failures : Bool) (m : Machine) (shapes : ℕ → Shape) (w : Who) (s : CallState) : Type 0 where
   pub whose : who s ≡ w
   pub client : IsClient s.call.actor
   pub number : s.call.number < m.next s.call.actor
@@ -270,4 +282,8 @@ pub record IsInHand (m : Machine) (shapes : ℕ → Shape) (w : Who) (s : CallSt
   pub live : is_enter (driver_of s) ≡ false → is_live m.cluster s.call ≡ true
   -- on the node where it was when it began
   pub home : is_enter (driver_of s) ≡ false → s.kept.node ≡ home_of (client_of s.call) m.cluster
-  pub here : IsInPlace m shapes s (driver_of s)
+  pub here : IsInPlaceUnder failures m shapes s (driver_of s)
+
+-- where no node has failed
+abbrev pub IsInHand : Machine → (ℕ → Shape) → Who → CallState → Type 0
+IsInHand m shapes w s = IsInHandUnder false m shapes w s

@@ -1,5 +1,5 @@
 -- What the law of the machine says.
-use Rattle.std.specs.Prelude.{◌≡◌, ℕ, ◌+◌, ◌<◌, ◌≤◌, List, length, Option, Some, None}
+use Rattle.std.specs.Prelude.{◌≡◌, ℕ, ◌+◌, ◌<◌, ◌≤◌, List, length, Option, Some, None, Bool, true}
 use Rattle.ckpt_types.specs.declared.identities.CallId.{CallId}
 use Rattle.ckpt_types.specs.declared.identities.Who.{Who}
 use Rattle.node_msgs.specs.declared.steps.StepReply.{StepReply}
@@ -9,17 +9,20 @@ use Rattle.run_labels.specs.declared.labels.Label.{Label}
 use Rattle.run_labels.specs.declared.labels.Label.TheVariants as labels
 use Rattle.ckpt_types.specs.declared.words.OpWord.{OpWord}
 use Rattle.ckpt_types.specs.OpWord.{stepped_as}
+use Rattle.cluster_record.specs.RecordState.{is_up}
 use Rattle.cluster_record.specs.StepDone.{done_of, counting}
-use Rattle.ckpt_machine.specs.Invariant.{Invariant}
+use Rattle.ckpt_machine.specs.Invariant.{Invariant, InvariantUnder, InvariantAmidFailures}
 use Rattle.ckpt_machine.specs.Driving.{driver_taken}
 use Rattle.ckpt_machine.specs.Endings.{EndsKnown}
 use Rattle.ckpt_machine.specs.Facts.{Facts}
+use Rattle.ckpt_machine.specs.Failing.{failed_at}
 use Rattle.ckpt_machine.specs.Guards.{Allowed}
 use Rattle.ckpt_machine.specs.Left.{steps_left}
 use Rattle.ckpt_machine.specs.Machine.{Machine, CallState, empty_cluster}
 use Rattle.ckpt_machine.specs.Promises.{KeepsPromises}
 use Rattle.ckpt_machine.specs.Refusals.{IsRefusal, LeavesBy, unmade_swept}
 use Rattle.ckpt_machine.specs.Runs.{last, IsRun, Counts}
+use Rattle.ckpt_machine.specs.Shape.{Shape}
 use Rattle.ckpt_machine.specs.Steps.{IsDue, after, driver_of, counted_at}
 
 -- the empty cluster has the invariant, and counts nothing
@@ -58,6 +61,11 @@ RefusalsLeave = (m : Machine) (l : Label) → Allowed m l → IsRefusal l → Le
 -- a call that is allowed to end was answered OK, was refused by a row that names its cause, or lacked the memory that it takes
 abbrev pub EndsAsItMay : Type 0
 EndsAsItMay = (m : Machine) (l : Label) → Allowed m l → EndsKnown l
+
+-- behind the failure of a node that is up, whether nodes have failed before or not, the invariant holds, but for what it says of no failures alone
+abbrev pub FailuresKeep : Type 0
+FailuresKeep = (failures : Bool) (shapes : ℕ → Shape) (m : Machine) (r : ℕ)
+    → InvariantUnder failures shapes m → is_up r m.cluster ≡ true → InvariantAmidFailures (failed_at r m)
 
 -- a claim about a log holds of each run
 abbrev pub OfEachRun : (List Label → Type 0) → Type 0

@@ -9,6 +9,7 @@ pub mod Complete
 pub mod Listing
 pub mod Propagation
 pub mod Steps
+pub mod Failing
 pub mod Dead
 pub mod BeginRows
 pub mod Guards

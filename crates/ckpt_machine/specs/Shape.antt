@@ -165,17 +165,21 @@ pub record IsHolder (m : Machine) (k : ℕ) (active : Option ℕ) (call : CallId
   pub copies : IsSome active → state.snapshot ≡ option_map copied (on_node (m.replicas k) active)
 
 -- a checkpoint that a call holds is collocated, no marks stand on its active, and the call has a copy of it in its hand
-pub record IsOnHold (m : Machine) (k : ℕ) (sh : Shape) (e : Entry) (call : CallId) : Type 0 where
+pub record IsOnHoldUnder (failures : Bool) (m : Machine) (k : ℕ) (sh : Shape) (e : Entry) (call : CallId) : Type 0 where
   pub collocated : is_collocated e.attributes ≡ true
   -- while no node fails it has an active
-  pub led : IsSome e.active
+  pub led : failures ≡ false → IsSome e.active
   pub unmarked : sh.marks ≡ None
   pub holder : IsHolder m k e.active call
+
+-- where no node has failed
+abbrev pub IsOnHold : Machine → ℕ → Shape → Entry → CallId → Type 0
+IsOnHold m k sh e call = IsOnHoldUnder false m k sh e call
 
 -- ---- the whole
 
 -- a checkpoint that is made has its replicas on its complete nodes, which are up, and of which one is the active, or none of a collocated one; the slots are on the lowest of them, first those of a call in hand, and then those of dead ones; the marks on the active are of a call in hand, and so is the hold on the checkpoint
-pub record IsSpread (m : Machine) (k : ℕ) (sh : Shape) (e : Entry) : Type 0 where
+pub record IsSpreadUnder (failures : Bool) (m : Machine) (k : ℕ) (sh : Shape) (e : Entry) : Type 0 where
   pub nodes : length e.complete ≡ nodes_max
   pub some : IsSome (first_complete 0 e.complete)
   pub up : NodesAreUp m.cluster.up e
@@ -190,7 +194,11 @@ pub record IsSpread (m : Machine) (k : ℕ) (sh : Shape) (e : Entry) : Type 0 wh
   pub first : (q r : ℕ) (call : CallId) → q < r → IsCompleteOn e q → sh.owners r ≡ Some call → IsOwner m k sh call → sh.owners q ≡ Some call
   pub owned : (r : ℕ) (call : CallId) → sh.owners r ≡ Some call → IsOwner m k sh call ⊎ IsLeft m sh call
   -- while no node fails no owner is dead
-  pub live : (r : ℕ) (call : CallId) → sh.owners r ≡ Some call → is_live m.cluster call ≡ true
+  pub live : failures ≡ false → (r : ℕ) (call : CallId) → sh.owners r ≡ Some call → is_live m.cluster call ≡ true
   pub led : (marks : Marked) → sh.marks ≡ Some marks → IsSome e.active
   pub marked : (marks : Marked) → sh.marks ≡ Some marks → IsMarker m k marks
-  pub held : (call : CallId) → e.hold ≡ Some call → IsOnHold m k sh e call
+  pub held : (call : CallId) → e.hold ≡ Some call → IsOnHoldUnder failures m k sh e call
+
+-- where no node has failed
+abbrev pub IsSpread : Machine → ℕ → Shape → Entry → Type 0
+IsSpread m k sh e = IsSpreadUnder false m k sh e

@@ -1,6 +1,7 @@
 use Rattle.ckpt_machine.proofs.Counting.{counts_empty, counts_up}
 use Rattle.ckpt_machine.proofs.Endings.{ends_as_it_may}
 use Rattle.ckpt_machine.proofs.Facts.{facts}
+use Rattle.ckpt_machine.proofs.FailureLaw.{failures_keep}
 use Rattle.ckpt_machine.proofs.FewSteps.{steps_are_few}
 use Rattle.ckpt_machine.proofs.Lawful.{lawful}
 use Rattle.ckpt_machine.proofs.Nearer.{step_nearer}
@@ -36,6 +37,9 @@ returns-clause-refusals c = refusal_leaves
 
 pub returns-clause-ends : goal.returns-clause-ends
 returns-clause-ends c = ends_as_it_may
+
+pub returns-clause-failures : goal.returns-clause-failures
+returns-clause-failures c = failures_keep
 
 pub returns-clause-promises : goal.returns-clause-promises
 returns-clause-promises c = promises_kept

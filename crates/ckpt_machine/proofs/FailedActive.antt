@@ -1,0 +1,75 @@
+-- The active of a checkpoint behind the failure of a node.
+use Rattle.std.proofs.Common.{◌≡◌, ◌≢◌, ℕ, ◌+◌, List, [], ◌∷◌, Option, Some, None, is_some, Bool, true, false, cond, ◌==◌, refl, sym, ap, subst, ◌∙◌, arith, suc, zero}
+use Rattle.std.specs.Prelude.{IsSome, IsSomeAnd, nat_lt, slice_set, slice_index}
+use Rattle.std.proofs.lemmas.Bool.{eq-eqb}
+use Rattle.std.proofs.lemmas.Option.{same_Some}
+use Rattle.ckpt_types.specs.declared.attributes.CreationAttributes.{CreationAttributes}
+use Rattle.cluster_record.specs.Failing.{with_more, most_updated, next_active}
+use Rattle.cluster_record.specs.Placement.{is_all, is_collocated}
+use Rattle.cluster_record.specs.RecordState.{first_complete, is_active}
+use Rattle.ckpt_machine.specs.Shape.{IsActiveBy}
+use Rattle.ckpt_machine.proofs.NodeGone.{complete_still}
+
+-- the lowest is so still, where another goes
+pub first_complete-without : (n : ℕ) (cs : List ℕ) (r : ℕ) → first_complete n cs ≢ Some (n + r) → first_complete n (slice_set cs r 0) ≡ first_complete n cs
+first_complete-without n [] r other = refl
+first_complete-without n (c ∷ cs) zero other = elim (c == 0) as (λ b. cond b (first_complete (n + 1) cs) (Some n) ≢ Some (n + 0) → first_complete (n + 1) cs ≡ cond b (first_complete (n + 1) cs) (Some n)) [
+  | true ↦ λ other. refl
+  | false ↦ λ other. absurd (other (let same : n ≡ n + 0 = omega arith in ap Some same))
+] other
+first_complete-without n (c ∷ cs) (suc r) other = elim (c == 0) as (λ b. cond b (first_complete (n + 1) cs) (Some n) ≢ Some (n + suc r) → cond b (first_complete (n + 1) (slice_set cs r 0)) (Some n) ≡ cond b (first_complete (n + 1) cs) (Some n)) [
+  | true ↦ λ other. first_complete-without (n + 1) cs r (λ is. other (is ∙ (let same : n + 1 + r ≡ n + suc r = omega arith in ap Some same)))
+  | false ↦ λ other. refl
+] other
+
+-- the one with the most updates is complete
+most-node : (counts : ℕ → ℕ) (n : ℕ) (cs : List ℕ) (q : ℕ) → most_updated counts n cs ≡ Some q → (d : ℕ) × (q ≡ n + d) × ((slice_index cs d == 0) ≡ false)
+most-node counts n [] q is = absurd (cc is)
+most-node counts n (c ∷ cs) q is = let rest = most-node counts (n + 1) cs in elim (c == 0) as (λ b. (c == 0) ≡ b → cond b (most_updated counts (n + 1) cs) (Some (with_more counts n (most_updated counts (n + 1) cs))) ≡ Some q → (d : ℕ) × (q ≡ n + d) × ((slice_index (c ∷ cs) d == 0) ≡ false)) [
+  | true ↦ λ none is. further (rest q is)
+  | false ↦ λ there is. by_rest rest there (most_updated counts (n + 1) cs) refl is
+] refl is
+  where
+    further : ((d : ℕ) × (q ≡ n + 1 + d) × ((slice_index cs d == 0) ≡ false)) → (d : ℕ) × (q ≡ n + d) × ((slice_index (c ∷ cs) d == 0) ≡ false)
+    further (d, same, there) = (suc d, (let s : q ≡ n + 1 + d = same in omega (arith, s)), there)
+
+    here : (c == 0) ≡ false → n ≡ q → (d : ℕ) × (q ≡ n + d) × ((slice_index (c ∷ cs) d == 0) ≡ false)
+    here there same = (0, (let s : n ≡ q = same in omega (arith, s)), there)
+
+    by_rest : ((p : ℕ) → most_updated counts (n + 1) cs ≡ Some p → (d : ℕ) × (p ≡ n + 1 + d) × ((slice_index cs d == 0) ≡ false)) → (c == 0) ≡ false → (o : Option ℕ) → most_updated counts (n + 1) cs ≡ o → Some (with_more counts n o) ≡ Some q → (d : ℕ) × (q ≡ n + d) × ((slice_index (c ∷ cs) d == 0) ≡ false)
+    by_rest rest there None behind is = here there (same_Some n q is)
+    by_rest rest there (Some p) behind is = elim (nat_lt (counts n) (counts p)) as (λ b. Some (cond b p n) ≡ Some q → (d : ℕ) × (q ≡ n + d) × ((slice_index (c ∷ cs) d == 0) ≡ false)) [
+      | true ↦ λ is. further (rest q (behind ∙ is))
+      | false ↦ λ is. here there (same_Some n q is)
+    ] is
+
+-- and there is one
+most-some : (counts : ℕ → ℕ) (n : ℕ) (cs : List ℕ) → IsSome (first_complete n cs) → IsSome (most_updated counts n cs)
+most-some counts n [] some = absurd (cc some)
+most-some counts n (c ∷ cs) some = elim (c == 0) as (λ b. IsSome (cond b (first_complete (n + 1) cs) (Some n)) → IsSome (cond b (most_updated counts (n + 1) cs) (Some (with_more counts n (most_updated counts (n + 1) cs))))) [
+  | true ↦ λ some. most-some counts (n + 1) cs some
+  | false ↦ λ some. refl
+] some
+
+-- ---- the active
+
+-- it stays where it was on another node
+pub active_stays : (collocated all : Bool) (cs : List ℕ) (r : ℕ) (active : Option ℕ) → IsActiveBy collocated all cs active → is_active active r ≡ false → IsActiveBy collocated all (slice_set cs r 0) active
+active_stays true all cs r None by other = tt
+active_stays true all cs r (Some q) by other = complete_still cs r q other by
+active_stays false true cs r active by other = by ∙ sym (first_complete-without 0 cs r (λ is. absurd (let same : 0 + r ≡ r = omega arith in let w : true ≡ false = sym (eq-eqb (0 + r) r same) ∙ ap (λ o. is_active o r) (sym (by ∙ is)) ∙ other in cc w)))
+active_stays false false cs r None by other = absurd by
+active_stays false false cs r (Some q) by other = complete_still cs r q other by
+
+-- or there is another
+pub active_anew : (counts : ℕ → ℕ) (a : CreationAttributes) (cs : List ℕ) → IsSome (first_complete 0 cs) → IsActiveBy (is_collocated a) (is_all a) cs (next_active counts a cs)
+active_anew counts a cs some = by_kind (is_collocated a) (is_all a)
+  where
+    by_most : (o : Option ℕ) → most_updated counts 0 cs ≡ o → is_some o ≡ true → IsSomeAnd o (λ q. (slice_index cs q == 0) ≡ false)
+    by_most None none some = absurd (cc some)
+    by_most (Some q) is some = let (d, same, there) = most-node counts 0 cs q is in subst (λ (p : ℕ). (slice_index cs p == 0) ≡ false) (let s : q ≡ 0 + d = same in omega (arith, s)) there
+
+    by_kind : (b c : Bool) → IsActiveBy b c cs (cond b None (cond c (first_complete 0 cs) (most_updated counts 0 cs)))
+    by_kind true c = tt
+    by_kind false true = refl
+    by_kind false false = by_most (most_updated counts 0 cs) refl (most-some counts 0 cs some)
