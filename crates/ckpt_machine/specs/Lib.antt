@@ -34,3 +34,14 @@ pub mod ActivesSet
 pub mod Causes
 pub mod Promises
 pub mod Laws
+pub mod Holding
+pub mod Nodes
+pub mod RecordReady
+pub mod Asking
+pub mod RecordAfter
+pub mod Shown
+pub mod Propagating
+pub mod Leading
+pub mod Taking
+pub mod Granting
+pub mod NodeListing

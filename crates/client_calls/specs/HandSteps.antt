@@ -1,19 +1,10 @@
 -- What a step makes of a call in hand.
-use Rattle.std.specs.Prelude.{◌≡◌, ℕ, Option}
+use Rattle.std.specs.Prelude.{Option}
 use Rattle.ckpt_types.specs.declared.answers.Outcome.{Outcome}
-use Rattle.node_msgs.specs.declared.next.Next.TheVariants.{Serve}
 use Rattle.node_msgs.specs.declared.replies.Reply.{Reply}
-use Rattle.node_msgs.specs.declared.requests.Request.{Request}
 use Rattle.client_calls.specs.declared.in_hand.InHand.{InHand}
-use Rattle.cluster_record.specs.RecordState.{RecordState}
 use Rattle.cluster_record.specs.StepDone.{StepDone}
-use Rattle.ckpt_machine.specs.Drivers.{Driver, Rooms}
-use Rattle.ckpt_machine.specs.Driving.{driver_next, driver_taken, driver_end}
-
--- this is what a call asks of a node next, by what its client has a free place for
-pub record AsksNode (R : RecordState) (x : Driver) (r : ℕ) (request : Request) : Type 0 where
-  pub rooms : Rooms
-  pub next_is : driver_next R rooms x ≡ Serve r request
+use Rattle.ckpt_machine.specs.Driving.{driver_taken, driver_end}
 
 -- a call in hand behind a step: its driver keeps what it needs of it
 abbrev pub hand_taken : StepDone → InHand → InHand

@@ -15,5 +15,4 @@ pub mod Names
 pub mod AlonePlaces
 pub mod AloneLending
 pub mod LineWords
-pub mod Granting
 pub mod HandBegun

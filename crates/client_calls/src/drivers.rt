@@ -10,7 +10,7 @@ ghost use Rattle.ckpt_types.specs.Asks.{asked};
 ghost use Rattle.ckpt_machine.specs.Options.{is_all, is_weak};
 ghost use Rattle.ckpt_machine.specs.Steps.{declares_at, kept_at_beginning};
 ghost use Rattle.ckpt_machine.specs.Tables.{rooms_in};
-ghost use Rattle.client_calls.specs.Granting.{event_granted};
+ghost use Rattle.ckpt_machine.specs.Granting.{event_granted};
 ghost use Rattle.ckpt_machine.specs.Drivers.{Once};
 
 use crate::beginning::{choice_of, ckpt_of_handle};

@@ -5,7 +5,7 @@ ghost use Rattle.ckpt_types.specs.declared.answers.Outcome.TheVariants.{Refused}
 ghost use Rattle.node_msgs.specs.declared.next.Next.TheVariants.{End};
 ghost use Rattle.cluster_record.specs.DueOnce.{enter_next, close_next, unlink_next, retain_next, once_next};
 ghost use Rattle.client_calls.specs.CallStates.{step_in};
-ghost use Rattle.client_calls.specs.Taking.{once_outcome};
+ghost use Rattle.ckpt_machine.specs.Taking.{once_outcome};
 
 use ckpt_types::{
     AisError, Answer, Bytes, CLIENTS_MAX, CallId, Cause, CkptId, NodeId, Outcome, SharedName,

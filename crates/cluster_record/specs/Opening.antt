@@ -1,5 +1,5 @@
 -- An open as one step of the record: what it answers, and what the record becomes.
-use Rattle.std.specs.Prelude.{ℕ, ◌+◌, length, Option, Some, None, not, nat_le, if◌then◌else◌}
+use Rattle.std.specs.Prelude.{ℕ, ◌+◌, length, Option, Some, None, not, nat_le, if◌then◌else◌, Result, Ok, Err}
 use Rattle.ckpt_types.specs.declared.ais_error.AisError.TheVariants.{NotExist, Exist}
 use Rattle.ckpt_types.specs.declared.attributes.CreationAttributes.{CreationAttributes}
 use Rattle.ckpt_types.specs.declared.calls.OpenAsk.{OpenAsk}
@@ -45,3 +45,13 @@ after_answer call ask R (Refused refused) = R
 -- what the record becomes by an open
 abbrev pub after_open : CallId → OpenAsk → RecordState → RecordState
 after_open call ask R = after_answer call ask R (open_answer R ask)
+
+-- what is found of a name by its entry: no checkpoint, or this one; or the call that is making it
+abbrev pub found_by : ℕ → Option CallId → Result (Option ℕ) CallId
+found_by k None = Ok (Some k)
+found_by k (Some call) = Err call
+
+-- what an open finds of its name
+abbrev pub found_in : Option Entry → Result (Option ℕ) CallId
+found_in None = Ok None
+found_in (Some e) = found_by e.identity e.making

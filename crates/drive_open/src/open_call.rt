@@ -9,7 +9,7 @@ ghost use Rattle.node_msgs.specs.Steps.{verb_of};
 ghost use Rattle.cluster_record.specs.DueOpen.{open_begun, making_ckpt, in_time, create_next, entry_next, on_free_name, on_named, on_making, made_of, open_next, open_taken};
 ghost use Rattle.cluster_record.specs.Ends.{IsAtANode, made_in, making_step_end, named_outcome, named_told, open_outcome, open_told, opened_in};
 ghost use Rattle.cluster_record.specs.StepDone.{done_of};
-ghost use Rattle.drive_open.specs.OpenStates.{found_in};
+ghost use Rattle.cluster_record.specs.Opening.{found_in};
 
 use ckpt_types::{
     AisError, Answer, Bytes, CHECKPOINTS_MAX, CallId, Cause, CkptId, CreationAttributes,

@@ -36,7 +36,8 @@ use Rattle.client_calls.specs.HandRooms.{room_for, copy_room, copy_room_for}
 use Rattle.world_core.specs.HandsState.{HandsState, hand_at}
 use Rattle.world_core.specs.Happenings.{Begins, KeepsOther}
 use Rattle.world_core.specs.Runs.{GoesOn, IsThereIf}
-use Rattle.world_core.specs.Shows.{Beginning, Does, HistoryFits, FitsHand, History, IsShown, machine_of, next_of, tables_of, pending_of, hand_of, shown_hand, IsRoomToCopy}
+use Rattle.world_core.specs.Shows.{Beginning, Does, HistoryFits, FitsHand, History, IsShown, machine_of, next_of, tables_of, pending_of, hand_of, shown_hand}
+use Rattle.ckpt_machine.specs.Shown.{IsRoomToCopy}
 use Rattle.world_core.specs.TablesState.{standing_in, kept_by, pending_by, table_changed, at_client}
 use Rattle.client_calls.specs.TableState.{TableState, next_in, kept_in, pending_in, begun_with}
 use Rattle.world_core.proofs.LiveRooms.{rooms_set}

@@ -27,8 +27,8 @@ use Rattle.client_calls.specs.declared.in_hand.InHand.{InHand}
 use Rattle.world_core.specs.declared.world.World.{World}
 use Rattle.world_core.specs.Happenings.{rooms_at, IsStep, KeepsOther}
 use Rattle.world_core.specs.Backgrounds.{HaveRooms}
-use Rattle.world_core.specs.Holding.{HoldsOnlyWhatStands}
-use Rattle.world_core.specs.RecordReady.{IsPlain}
+use Rattle.ckpt_machine.specs.Holding.{HoldsOnlyWhatStands}
+use Rattle.ckpt_machine.specs.RecordReady.{IsPlain}
 use Rattle.world_core.specs.Shows.{Does, Shows, IsShown, HistoryFits, History, machine_of}
 use Rattle.world_core.proofs.Freeing.{DoesBefore}
 use Rattle.world_core.proofs.Held.{state_in, in_hand_at, name_is, actor_is, due_is, IsCopyBehind}

@@ -26,7 +26,7 @@ use Rattle.node_msgs.specs.Requests.{ckpt_of}
 use Rattle.node_core.specs.Nodes.{replica_served, where_seen}
 use Rattle.node_core.specs.Seen.{record_seen, entry_seen, is_complete, is_complete_in}
 use Rattle.node_core.specs.Fitting.{IsReadyFor}
-use Rattle.world_core.specs.Nodes.{node_at, replica_in}
+use Rattle.ckpt_machine.specs.Nodes.{node_at, replica_in}
 use Rattle.ckpt_machine.specs.Drivers.{Driver}
 use Rattle.ckpt_machine.specs.Drivers as drivers
 use Rattle.ckpt_machine.specs.Driving.{driver_next}
@@ -43,19 +43,21 @@ use Rattle.section_iter.specs.Room.{room_declared, IsRoomFor}
 use Rattle.world_core.specs.TablesState.{kept_by}
 use Rattle.world_core.specs.Happenings.{rooms_at}
 use Rattle.ckpt_machine.specs.Facts.{Facts, HasCopyRoom, IsServable}
-use Rattle.world_core.specs.Shows.{HistoryFits, FitsReplica, FitsSlot, FitsCopy, IsRoomToCopy, History, machine_of, shown_replica, shown_slot, shown_copy, where_complete, complete_replica, tables_of}
+use Rattle.world_core.specs.Shows.{HistoryFits, History, machine_of, tables_of}
+use Rattle.ckpt_machine.specs.Shown.{FitsReplica, FitsSlot, FitsCopy, IsRoomToCopy, shown_replica, shown_slot, shown_copy, where_complete, complete_replica}
 use Rattle.client_calls.specs.HandRooms.{room_for}
 use Rattle.ckpt_machine.proofs.NextOf.{OfAsked, next_of}
 use Rattle.ckpt_machine.proofs.OptionLemmas.{IsSomeAnd-at}
-use Rattle.world_core.proofs.ReplicaSteps.{has_one}
-use Rattle.world_core.proofs.Carrying.{GoesToReplica, IsOfCall, IsSameCopy, payload_with}
-use Rattle.world_core.proofs.CopySteps.{HasCopyRoomFor}
+use Rattle.ckpt_machine.proofs.LentReplicas.{has_one}
+use Rattle.world_core.proofs.Carrying.{IsOfCall, payload_with}
+use Rattle.ckpt_machine.proofs.Carried.{GoesToReplica, IsSameCopy}
+use Rattle.ckpt_machine.proofs.CopySteps.{HasCopyRoomFor}
 use Rattle.world_core.proofs.Held.{state_in, in_hand_is, actor_is, iteration_is, due_is, copy_stays}
 use Rattle.world_core.proofs.IterationSteps.{TablesReady, goes_on_with, asked_is, room_for_declared}
 use Rattle.world_core.specs.HandsState.{hand_at}
 use Rattle.client_calls.specs.Names.{client_by}
 use Rattle.ckpt_types.specs.declared.identities.Who.{Who}
-use Rattle.world_core.proofs.Recording.{zero_there}
+use Rattle.ckpt_machine.proofs.GoesAt.{zero_there}
 
 -- ---- what may be due
 

@@ -20,6 +20,7 @@ use Rattle.world_core.specs.declared.world.World.{World}
 use Rattle.world_core.specs.Alone.{calls_gone, syncs_gone}
 use Rattle.world_core.specs.HandsState.{HandsState, HasAlone, alone_in, alone_with, hand_at, set_at, with_alone, with_alone_in, without_call, without_those}
 use Rattle.world_core.specs.TablesState.{pending_by}
+use Rattle.ckpt_machine.proofs.NodeLists.{list_again}
 
 -- ---- two calls
 
@@ -114,11 +115,6 @@ list_at (xs ∷ lists) zero zero y none = refl
 list_at (xs ∷ lists) zero (suc d) y none = let t : (suc d == 0) ≡ false = tests_differ (suc d) 0 (λ e. cc) in rw t refl
 list_at (xs ∷ lists) (suc c) zero y none = let t : (0 == suc c) ≡ false = tests_differ 0 (suc c) (λ e. cc) in rw t refl
 list_at (xs ∷ lists) (suc c) (suc d) y none = let t : (suc d == suc c) ≡ (d == c) = tests_agree (suc d) (suc c) d c (λ e. cc) (λ e. cc) in rw t (list_at lists c d y none)
-
-pub list_again : {X : Type 0} (lists : List (List X)) (c : ℕ) → slice_set lists c (list_or (slice_get lists c)) ≡ lists
-list_again [] c = refl
-list_again (xs ∷ lists) zero = refl
-list_again (xs ∷ lists) (suc c) = ap (λ zs. xs ∷ zs) (list_again lists c)
 
 -- the actor has no list
 abbrev LacksAlone : ActorName → List (List (Option InHand)) → Type 0

@@ -26,7 +26,8 @@ use Rattle.ckpt_machine.specs.Facts.{Facts}
 use Rattle.world_core.specs.HandsState.{hand_at}
 use Rattle.client_calls.specs.Names.{client_by, name_of}
 use Rattle.ckpt_types.specs.declared.identities.Who.{Who}
-use Rattle.world_core.specs.Shows.{History, HistoryFits, FitsHand, FitsCopy, IsRoomToCopy, machine_of, tables_of, shown_hand, shown_copy}
+use Rattle.world_core.specs.Shows.{History, HistoryFits, FitsHand, machine_of, tables_of, shown_hand}
+use Rattle.ckpt_machine.specs.Shown.{FitsCopy, IsRoomToCopy, shown_copy}
 
 -- the call with its history
 abbrev pub state_in : History → Who → InHand → CallState

@@ -41,12 +41,14 @@ use Rattle.world_core.specs.Freeing.{freed_world}
 use Rattle.world_core.specs.Happenings.{IsStep, rooms_at}
 use Rattle.client_calls.specs.HandSteps.{hand_taken}
 use Rattle.client_calls.specs.CallStates.{synchronized_by}
-use Rattle.world_core.specs.Nodes.{replica_in}
+use Rattle.ckpt_machine.specs.Nodes.{replica_in}
 use Rattle.client_calls.specs.Taking.{hand_outcome, hand_told}
-use Rattle.world_core.specs.Shows.{Does, IsShown, History, FitsReplica, IsRoomToCopy, complete_replica, machine_of, shown_replica}
+use Rattle.world_core.specs.Shows.{Does, IsShown, History, machine_of}
+use Rattle.ckpt_machine.specs.Shown.{FitsReplica, IsRoomToCopy, complete_replica, shown_replica}
 use Rattle.world_core.proofs.CallSteps.{IsKnown, known, step_under, IsShownBehind}
-use Rattle.world_core.proofs.CopySteps.{counts_effects, copied_whole, room_alike}
-use Rattle.world_core.proofs.EventEnds.{done_ends, done_keeps, is_done, takes_kept_off}
+use Rattle.ckpt_machine.proofs.CopySteps.{counts_effects, copied_whole, room_alike}
+use Rattle.world_core.proofs.EventEnds.{done_ends, done_keeps}
+use Rattle.ckpt_machine.proofs.StepTaking.{is_done, takes_kept_off}
 use Rattle.world_core.proofs.Finding.{copy_declared, replica_shown}
 use Rattle.world_core.proofs.Held.{copy_stays, state_in}
 use Rattle.world_core.proofs.LiveRooms.{rooms_after}

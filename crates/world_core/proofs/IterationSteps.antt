@@ -49,9 +49,9 @@ use Rattle.world_core.specs.LiveRooms.{LiveHaveRoom}
 use Rattle.world_core.specs.Shows.{History, machine_of}
 use Rattle.client_calls.specs.TableState.{TableState, kept_in, with_client}
 use Rattle.world_core.specs.TablesState.{kept_by, table_changed, at_client}
-use Rattle.world_core.proofs.GoingOn.{gone_on-told}
+use Rattle.ckpt_machine.proofs.GoingOn.{gone_on-told}
 use Rattle.world_core.proofs.LiveRooms.{rooms_client}
-use Rattle.world_core.proofs.RequestRows.{tables_moved}
+use Rattle.ckpt_machine.proofs.RequestRows.{tables_moved}
 use Rattle.world_core.proofs.TableFields.{change_is}
 
 -- ---- a table that is changed twice

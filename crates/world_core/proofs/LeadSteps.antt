@@ -30,24 +30,29 @@ use Rattle.world_core.specs.declared.world.World.{World}
 use Rattle.world_core.specs.Freeing.{freed_world}
 use Rattle.world_core.specs.Happenings.{IsStep, rooms_at}
 use Rattle.world_core.specs.Alone.{ended_at}
-use Rattle.world_core.specs.Leading.{copy_held, nodes_led, CanLead}
+use Rattle.ckpt_machine.specs.Leading.{copy_held, nodes_led, CanLead}
 use Rattle.client_calls.specs.CallStates.{synchronized_by}
-use Rattle.world_core.specs.Nodes.{replica_in}
-use Rattle.world_core.specs.Propagating.{IsPuttable}
+use Rattle.ckpt_machine.specs.Nodes.{replica_in}
+use Rattle.ckpt_machine.specs.Propagating.{IsPuttable}
 use Rattle.client_calls.specs.Taking.{hand_outcome}
-use Rattle.world_core.specs.Shows.{Does, IsShown, History, FitsReplica, complete_replica, machine_of, shown_replica}
+use Rattle.world_core.specs.Shows.{Does, IsShown, History, machine_of}
+use Rattle.ckpt_machine.specs.Shown.{FitsReplica, complete_replica, shown_replica}
 use Rattle.world_core.proofs.CallSteps.{IsKnown, known, known_by, step_before, step_under, IsShownBehind, pulled_by_client}
-use Rattle.world_core.proofs.EventEnds.{done_ends, is_done}
+use Rattle.world_core.proofs.EventEnds.{done_ends}
+use Rattle.ckpt_machine.proofs.StepTaking.{is_done}
 use Rattle.world_core.proofs.Finding.{copy_room_is, no_slot, replica_shown}
-use Rattle.world_core.proofs.Freeing.{does_before, machine_of-freed, Fits-freed, replica_in-freed, rooms_left}
+use Rattle.world_core.proofs.Freeing.{does_before, machine_of-freed, Fits-freed, rooms_left}
+use Rattle.ckpt_machine.proofs.FreedNodes.{replica_in-freed}
 use Rattle.world_core.proofs.Held.{copy_stays, state_in}
 use Rattle.world_core.proofs.HoldSteps.{activates, by_sync}
-use Rattle.world_core.proofs.Leading.{HeldAs, held_as, held_is_there, led_history, shown_led}
+use Rattle.world_core.proofs.Leading.{led_history, shown_led}
+use Rattle.ckpt_machine.proofs.Leads.{HeldAs, held_as, held_is_there}
 use Rattle.world_core.proofs.LiveRooms.{rooms_after, rooms_ended}
 use Rattle.world_core.proofs.Maps.{hand_left}
 use Rattle.world_core.proofs.ReplicaChanged.{IsShownBy}
 use Rattle.world_core.proofs.RecordEvent.{done_beside, event_asks, event_ready, fits_recorded, goes, holds_after, told_so}
-use Rattle.world_core.proofs.Recording.{GoesAt, NodeGoes, with_effects}
+use Rattle.world_core.proofs.Recording.{with_effects}
+use Rattle.ckpt_machine.proofs.GoesAt.{GoesAt, NodeGoes}
 use Rattle.world_core.specs.HandsState.{hand_at, set_at}
 use Rattle.client_calls.specs.Names.{client_by}
 use Rattle.ckpt_types.specs.declared.identities.Who.{Who}

@@ -1,78 +1,25 @@
 -- A node comes to lead a checkpoint, with what was held, where something was: what the world shows then.
-use Rattle.std.proofs.Common.{◌≡◌, ℕ, List, [], Bool, true, false, cond, refl, sym, ap, subst, ◌∙◌}
-use Rattle.std.specs.Prelude.{Option, Some, None, IsSome, is_some, ◌==◌, slice_index}
+use Rattle.std.proofs.Common.{◌≡◌, ℕ, List, Bool, true, false, cond, refl, sym, ap, subst, ◌∙◌}
+use Rattle.std.specs.Prelude.{Option, Some, None, IsSome, ◌==◌, slice_index}
 use Rattle.cluster_record.specs.declared.entries.Entry.{Entry}
 use Rattle.cluster_record.specs.Places.{put2}
 use Rattle.cluster_record.specs.RecordState.{entry_of, complete_of}
 use Rattle.cluster_record.specs.StepDone.{generation_in}
 use Rattle.ckpt_types.specs.declared.identities.CallId.{CallId}
-use Rattle.node_core.specs.Nodes.{replica_key}
 use Rattle.replica.specs.Replicas.{Replica}
 use Rattle.snap_copy.specs.Snapshots as copies
-use Rattle.ckpt_machine.specs.Machine.{Machine, Effect, ReplicaState, Snapshot}
+use Rattle.ckpt_machine.specs.Machine.{Machine, Effect, Snapshot}
 use Rattle.ckpt_machine.specs.Steps.{change_replica, led_from, with_lead}
 use Rattle.world_core.specs.declared.world.World.{World}
-use Rattle.world_core.specs.Holding.{HoldsOnlyWhatStands}
-use Rattle.world_core.specs.Leading.{copy_held, leading, nodes_led, CanLead}
-use Rattle.world_core.specs.Nodes.{replica_in, with_changed}
-use Rattle.world_core.specs.Shows.{History, HistoryFits, FitsCopy, FitsReplica, FitsSlot, FitsSnapshot, complete_replica, machine_of, shown_copy, shown_replica, shown_slot, shown_snapshot, where_complete}
-use Rattle.world_core.proofs.Recording.{zero_there}
+use Rattle.ckpt_machine.specs.Holding.{HoldsOnlyWhatStands}
+use Rattle.ckpt_machine.specs.Leading.{leading, nodes_led, CanLead}
+use Rattle.ckpt_machine.specs.Nodes.{replica_in, with_changed}
+use Rattle.world_core.specs.Shows.{History, HistoryFits, machine_of}
+use Rattle.ckpt_machine.specs.Shown.{FitsReplica, complete_replica, shown_replica, where_complete}
+use Rattle.ckpt_machine.proofs.GoesAt.{zero_there}
 use Rattle.world_core.proofs.ReplicaChanged.{IsShownBy, replica_changed}
-use Rattle.world_core.proofs.ReplicaSteps.{unchanged}
-
--- ---- what is held
-
--- what is held counts the effects that the machine's snapshot has
-pub record HeldAs (snapshot : Option Snapshot) (held : Option copies.Snapshot) : Type 0 where
-  pub effects : List Effect
-  pub same : snapshot ≡ shown_snapshot effects held
-  pub counts : FitsSnapshot effects held
-
--- a call has in hand what it has pulled, just where its checkpoint is held
-pub held_as : (pulled : Option (List Effect)) (copy : Option copies.Snapshot) (e : Entry) → is_some (shown_copy pulled copy) ≡ is_some e.hold → FitsCopy pulled copy → HeldAs (shown_copy pulled copy) (copy_held (Some e) copy)
-held_as None copy e held counts = subst (λ b. HeldAs None (cond b copy None)) held (record { effects = []; same = refl; counts = tt })
-held_as (Some E) None e held counts = subst (λ b. HeldAs None (cond b None None)) held (record { effects = []; same = refl; counts = tt })
-held_as (Some E) (Some t) e held counts = subst (λ b. HeldAs (shown_copy (Some E) (Some t)) (cond b (Some t) None)) held (record { effects = E; same = refl; counts = counts })
-
--- something is held only where something is in hand
-pub held_is_there : (pulled : Option (List Effect)) (copy : Option copies.Snapshot) (e : Entry) → is_some (shown_copy pulled copy) ≡ is_some e.hold → (t : copies.Snapshot) → copy_held (Some e) copy ≡ Some t → IsSome (shown_copy pulled copy) × (copy ≡ Some t)
-held_is_there pulled copy e held t is = by_hold (is_some e.hold) held is where
-  by_hold : (b : Bool) → is_some (shown_copy pulled copy) ≡ b → cond b copy None ≡ Some t → IsSome (shown_copy pulled copy) × (copy ≡ Some t)
-  by_hold true some is = (some, is)
-  by_hold false some is = absurd (cc is)
-
--- ---- what the replica has then
-
--- its effects
-abbrev pub effects_led : Option Snapshot → List Effect → List Effect
-effects_led None E = E
-effects_led (Some s) E = s.effects
-
-abbrev shown_state : List Effect → CallId → Replica → ReplicaState
-shown_state E o x = record { sections = x.sections; effects = E; generation = x.generation; slot = shown_slot o x.slot; marks = x.marks }
-
-led_state : (snapshot : Option Snapshot) (held : Option copies.Snapshot) (C : List Effect) → snapshot ≡ shown_snapshot C held → (E : List Effect) (o : CallId) (x : Replica) (generation : ℕ) →
-    Some (with_lead snapshot generation (shown_state E o x)) ≡ shown_replica (effects_led snapshot E) o (Some (leading held generation x))
-led_state snapshot held C is E o x generation = subst (λ s. Some (with_lead s generation (shown_state E o x)) ≡ shown_replica (effects_led s E) o (Some (leading held generation x))) (sym is) (by_held held) where
-  by_held : (held : Option copies.Snapshot) → Some (with_lead (shown_snapshot C held) generation (shown_state E o x)) ≡ shown_replica (effects_led (shown_snapshot C held) E) o (Some (leading held generation x))
-  by_held None = refl
-  by_held (Some s) = refl
-
-leads_key : (held : Option copies.Snapshot) (generation : ℕ) (x : Replica) → replica_key (leading held generation x) ≡ replica_key x
-leads_key None generation x = refl
-leads_key (Some s) generation x = refl
-
-led_fits : (snapshot : Option Snapshot) (held : Option copies.Snapshot) (C : List Effect) → snapshot ≡ shown_snapshot C held → FitsSnapshot C held → (k : ℕ) (e : Entry) (E : List Effect) (x : Replica) (generation : ℕ) → (IsSome held → x.slot ≡ None) → FitsReplica k (Some e) E (Some x) →
-    FitsReplica k (Some e) (effects_led snapshot E) (Some (leading held generation x))
-led_fits snapshot held C is counts k e E x generation rest its = subst (λ s. FitsReplica k (Some e) (effects_led s E) (Some (leading held generation x))) (sym is) (by_held held counts rest) where
-  by_held : (held : Option copies.Snapshot) → FitsSnapshot C held → (IsSome held → x.slot ≡ None) → FitsReplica k (Some e) (effects_led (shown_snapshot C held) E) (Some (leading held generation x))
-  by_held None counts rest = its
-  by_held (Some s) counts rest = (its.0, its.1, counts, subst (FitsSlot s.count x.marks) (sym (rest refl)) tt)
-
--- nothing is staged on the replica that takes over what is held
-led_free : (r : ℕ) (held : Option copies.Snapshot) (x : Replica) (e : Entry) → (slice_index e.complete r == 0) ≡ false → CanLead r held (Some x) (Some e) → IsSome held → x.slot ≡ None
-led_free r None x e complete can some = absurd (cc some)
-led_free r (Some s) x e complete can some = (can complete).free
+use Rattle.ckpt_machine.proofs.LentReplicas.{unchanged}
+use Rattle.ckpt_machine.proofs.Leads.{HeldAs, effects_led, leads_key, led_fits, led_free, led_state}
 
 -- where the node has a replica
 abbrev if_there : {X : Type 0} → Option Replica → X → X → X

@@ -1,21 +1,15 @@
-pub mod Adding
 pub mod AloneSteps
 pub mod Begin
 pub mod CallSteps
 pub mod Answered
-pub mod Asking
 mod Carrying
 pub mod Events
 pub mod Finding
 pub mod Freeing
-pub mod Going
-pub mod GoingOn
 pub mod HandLaws
 pub mod Held
 pub mod HoldSteps
-pub mod HoldingLaws
 pub mod IterationSteps
-pub mod KeptEntries
 pub mod Leading
 pub mod LeadSteps
 pub mod Listings
@@ -28,17 +22,12 @@ pub mod New
 pub mod NewCalls
 pub mod NoneGone
 pub mod Numbered
-pub mod OpenRoom
 pub mod Openings
 pub mod Pulling
 pub mod Putting
-pub mod Readiness
 pub mod RecordEvent
 pub mod Recording
-pub mod RequestRows
-mod CopySteps
 pub mod ReplicaChanged
-mod ReplicaSteps
 pub mod Reserve
 pub mod Rows
 pub mod Running
@@ -58,5 +47,4 @@ pub mod WaitedFor
 pub mod Words
 mod Staging
 mod Reading
-mod Granted
 pub mod EventEnds

@@ -1,60 +1,23 @@
 -- What the nodes keep of a checkpoint is listed as the machine lists it.
-use Rattle.std.proofs.Common.{◌≡◌, ℕ, suc, ◌+◌, List, [], ◌∷◌, ◌++◌, length, map, Option, Some, None, Bool, true, false, cond, ◌==◌, ℤ, refl, sym, ap, subst, ◌∙◌, append_assoc, append-nil, take, ◌≤◌, arith}
-use Rattle.std.specs.Prelude.{slice_index, slice_get}
-use Rattle.std.proofs.lemmas.List.{length-map, length-take, map-append, take_more}
-use Rattle.std.proofs.lemmas.List.Elements.{filter-append}
-use Rattle.std.proofs.lemmas.Option.{slice_get_within, get_or_from_slice_get}
-use Rattle.ckpt_types.specs.Sections.{Section, is_present, present}
-use Rattle.ckpt_types.proofs.Presence.{length-present-le}
+use Rattle.std.proofs.Common.{◌≡◌, ℕ, suc, ◌+◌, List, [], ◌∷◌, ◌++◌, length, map, Option, Some, None, cond, ◌==◌, ℤ, refl, sym, ap, subst, ◌∙◌, append_assoc, append-nil, arith}
+use Rattle.std.specs.Prelude.{slice_index}
 use Rattle.ckpt_types.specs.declared.identities.CallId.{CallId}
 use Rattle.run_labels.specs.declared.shown.ShownReplica.{ShownReplica}
 use Rattle.run_labels.specs.declared.labels.Label.TheVariants.{Shown}
 use Rattle.cluster_record.specs.declared.entries.Entry.{Entry}
 use Rattle.cluster_record.specs.RecordState.{entry_of, complete_of}
 use Rattle.ckpt_machine.specs.Complete.{with_replica, replicas_from}
-use Rattle.ckpt_machine.specs.Listing.{slot_listed, section_listed, replica_listed, listing_made, listing_of, listing_at}
-use Rattle.ckpt_machine.specs.Machine.{Machine, Effect, ReplicaState}
+use Rattle.ckpt_machine.specs.Listing.{replica_listed, listing_made, listing_of, listing_at}
+use Rattle.ckpt_machine.specs.Machine.{Machine, ReplicaState}
 use Rattle.replica.specs.Replicas.{Replica}
-use Rattle.stage_slot.specs.Slots.{Slot}
-use Rattle.weak_marks.specs.Marks.{Marked}
-use Rattle.world_core.specs.Nodes.{replica_in}
+use Rattle.ckpt_machine.specs.Nodes.{replica_in}
 use Rattle.world_core.specs.declared.world.World.{World}
 use Rattle.world_core.specs.Happenings.{TellsReplicas}
-use Rattle.world_core.specs.Listing.{kept_slot_listed, kept_replica_listed, kept_listed, node_listed, nodes_listed, made_listed, entry_listed, world_listing}
-use Rattle.world_core.specs.Shows.{History, HistoryFits, FitsReplica, machine_of, shown_slot, shown_replica, where_complete, complete_replica}
-
--- ---- the sections of a replica
-
--- among the first sections, with one more
-pub listed_more : (t : ℤ) (sections : List Section) (i : ℕ) (s : Section) → slice_get sections i ≡ Some s
-    → map section_listed (present t (take (i + 1) sections)) ≡ map section_listed (present t (take i sections)) ++ map section_listed (present t (s ∷ []))
-listed_more t sections i s there =
-    ap (λ xs. map section_listed (present t xs)) (take_more sections i s (slice_get_within sections i s there) ∙ ap (λ x. take i sections ++ x ∷ []) (get_or_from_slice_get sections i s s there))
-    ∙ ap (map section_listed) (filter-append (is_present t) (take i sections) (s ∷ []))
-    ∙ map-append section_listed (present t (take i sections)) (present t (s ∷ []))
-
--- no more are listed than there are
-pub length-listed-le : (t : ℤ) (sections : List Section) (i : ℕ) → length (map section_listed (present t (take i sections))) ≤ length sections
-length-listed-le t sections i = omega (arith, length-map (present t (take i sections)) section_listed, length-present-le t (take i sections), length-take i sections)
-
--- ---- one replica
-
-slot_is : (origin : CallId) (o : Option Slot) (marks : Option Marked) → kept_slot_listed o marks ≡ slot_listed (shown_slot origin o) marks
-slot_is origin (Some slot) marks = refl
-slot_is origin None (Some marked) = refl
-slot_is origin None None = refl
-
--- it counts its effects
-replica_is : (t : ℤ) (active : Option ℕ) (r : ℕ) (effects : List Effect) (origin : CallId) (x : Replica) → length effects ≡ x.count
-    → kept_replica_listed t active r x ≡ replica_listed t active (r, record { sections = x.sections; effects = effects; generation = x.generation; slot = shown_slot origin x.slot; marks = x.marks })
-replica_is t active r effects origin x count = λ i. record (kept_replica_listed t active r x) { count = sym count i; slot = slot_is origin x.slot x.marks i }
-
--- of one node, which is complete or not
-one_is : (t : ℤ) (active : Option ℕ) (k r : ℕ) (e : Option Entry) (effects : List Effect) (origin : CallId) (rest : List (ℕ × ReplicaState)) (b : Bool) (o : Option Replica) → FitsReplica k e effects (cond b None o)
-    → map (replica_listed t active) (cond b rest (with_replica r (shown_replica effects origin (cond b None o)) rest)) ≡ cond b [] (kept_listed t active r o) ++ map (replica_listed t active) rest
-one_is t active k r e effects origin rest true o fits = refl
-one_is t active k r e effects origin rest false None fits = refl
-one_is t active k r e effects origin rest false (Some x) fits = ap (λ shown. shown ∷ map (replica_listed t active) rest) (sym (replica_is t active r effects origin x fits.2))
+use Rattle.world_core.specs.Listing.{world_listing}
+use Rattle.ckpt_machine.specs.NodeListing.{node_listed, nodes_listed, made_listed, entry_listed}
+use Rattle.world_core.specs.Shows.{History, HistoryFits, machine_of}
+use Rattle.ckpt_machine.specs.Shown.{FitsReplica, shown_replica, where_complete, complete_replica}
+use Rattle.ckpt_machine.proofs.NodeListings.{one_is}
 
 -- ---- all nodes
 

@@ -22,7 +22,7 @@ use Rattle.ckpt_machine.specs.Drivers as drivers
 use Rattle.cluster_record.specs.DueOnce as once
 use Rattle.world_core.specs.declared.world.World.{World}
 use Rattle.client_handles.specs.ClientState.{ClientState}
-use Rattle.world_core.specs.RecordAfter.{event_after}
+use Rattle.ckpt_machine.specs.RecordAfter.{event_after}
 use Rattle.world_core.specs.LiveRooms.{room_is_taken, LiveHaveRoom}
 use Rattle.world_core.specs.Settling.{settled, looked}
 use Rattle.ckpt_types.specs.Asks.{asked}
@@ -31,7 +31,7 @@ use Rattle.node_msgs.specs.Steps.{event_verb}
 use Rattle.client_calls.specs.TableSettling.{table_looked}
 use Rattle.client_calls.specs.TableState.{TableState, with_calls, with_client}
 use Rattle.world_core.specs.TablesState.{table_changed, at_client}
-use Rattle.world_core.proofs.KeptEntries.{clients_behind, event_declared}
+use Rattle.ckpt_machine.proofs.KeptEntries.{clients_behind, event_declared}
 use Rattle.world_core.proofs.TableFields.{field_same}
 
 -- ---- another table in a client's place

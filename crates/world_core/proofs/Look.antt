@@ -25,7 +25,7 @@ use Rattle.ckpt_types.specs.Asks.{asked}
 use Rattle.ckpt_machine.specs.Drivers.{Driver, Rooms}
 use Rattle.ckpt_machine.specs.Drivers as drivers
 use Rattle.ckpt_machine.specs.Driving.{driver_next, making_in}
-use Rattle.world_core.specs.Nodes.{replica_in}
+use Rattle.ckpt_machine.specs.Nodes.{replica_in}
 use Rattle.ckpt_machine.specs.Steps.{changed, without_making, look_word}
 use Rattle.ckpt_machine.specs.Tables.{handle_closed}
 use Rattle.ckpt_machine.proofs.Deadlines.{in_time-cases}
@@ -41,14 +41,16 @@ use Rattle.world_core.specs.TablesState.{kept_by}
 use Rattle.world_core.specs.Alone.{ended_at, ended_hands, going_with_look, gone_with}
 use Rattle.world_core.proofs.AloneSteps.{MayGo, gone_clients, gone_fits, gone_here, gone_record, gone_set, rooms_gone}
 use Rattle.world_core.proofs.CallSteps.{pulled_by_client, IsKnown, known, known_by, behind_step, step_before, step_told}
-use Rattle.world_core.proofs.Freeing.{does_before, does_freed, holds_behind}
-use Rattle.world_core.proofs.Going.{unmade_goes}
+use Rattle.world_core.proofs.Freeing.{does_before, does_freed}
+use Rattle.ckpt_machine.proofs.FreedNodes.{holds_behind}
+use Rattle.ckpt_machine.proofs.Going.{unmade_goes}
 use Rattle.world_core.proofs.Held.{copy_stays, state_in, in_hand_is, driver_is, name_is, actor_is}
 use Rattle.world_core.proofs.LiveRooms.{rooms_ended, rooms_looked}
 use Rattle.world_core.proofs.Maps.{HasUnder, hand_left, under_other, under_own}
 use Rattle.world_core.proofs.RecordEvent.{closing_shown}
 use Rattle.world_core.proofs.TableFields.{client_same}
-use Rattle.world_core.proofs.Recording.{GoesAt, with_effects, record_is, record_fits}
+use Rattle.world_core.proofs.Recording.{with_effects, record_is, record_fits}
+use Rattle.ckpt_machine.proofs.GoesAt.{GoesAt}
 use Rattle.world_core.specs.HandsState.{HandsState, hand_at, set_at}
 use Rattle.client_calls.specs.Names.{client_by}
 use Rattle.ckpt_types.specs.declared.identities.Who.{Who}
@@ -147,7 +149,7 @@ module _ (w : World) (v : Who) (o : Outcome) (hand : InHand) (held : hand_at w.h
     left_world end = gone_with (going_with_look end) (client_by v) closed (settled_there end)
 
     goes : (h : History) → IsKnown w h → (j q : ℕ) → GoesAt w.cluster.up j (entry_of j w.cluster.entries) (entry_of j R.entries) q (replica_in w.nodes j q) (replica_in w.nodes j q)
-    goes h is = unmade_goes w h is.facts is.holds k
+    goes h is = unmade_goes (machine_of w h) w.nodes (λ k r. refl) is.facts is.holds k
 
     late_changes : (h : History) → IsKnown w h → (end : Outcome) → IsNoDone (End end) → changed (machine_of w h) (state_in h v hand) verbs.Look None None (look_word end) ≡ machine_of (left_world end) (with_effects w h)
     late_changes h is (Done answer) refused = absurd refused

@@ -22,7 +22,7 @@ use Rattle.ckpt_types.specs.Asks.{Ask, asked}
 use Rattle.ckpt_types.specs.Asks as asks
 use Rattle.ckpt_machine.specs.Facts.{Facts}
 use Rattle.ckpt_machine.specs.Machine.{Machine, ReplicaState, Snapshot, CallState}
-use Rattle.world_core.specs.Nodes.{replica_in}
+use Rattle.ckpt_machine.specs.Nodes.{replica_in}
 use Rattle.ckpt_machine.specs.Steps.{IsDue, without_making, change_replica, created_for, retained_for, record_step, with_lead, led_from, changed, step_of, after}
 use Rattle.client_calls.specs.declared.in_hand.InHand.{InHand}
 use Rattle.world_core.specs.declared.world.Event.{Event}
@@ -30,16 +30,18 @@ use Rattle.world_core.specs.declared.world.Event.TheVariants as happenings
 use Rattle.world_core.specs.declared.world.World.{World}
 use Rattle.world_core.specs.Backgrounds.{HaveRooms}
 use Rattle.world_core.specs.Freeing.{freed_world}
-use Rattle.world_core.specs.Holding.{HoldsOnlyWhatStands}
+use Rattle.ckpt_machine.specs.Holding.{HoldsOnlyWhatStands}
 use Rattle.world_core.specs.Happenings.{SetsMoment}
 use Rattle.world_core.specs.Runs.{Answers, AnswersBegin, AnswersStep, IsShownOf, IsPulledOf, IsPutOf, moment_of}
 use Rattle.world_core.specs.Shows.{Does, Shows, History, machine_of}
 use Rattle.world_core.specs.HandsState.{hand_at}
 use Rattle.ckpt_machine.proofs.Copying.{after_pull, after_put}
-use Rattle.world_core.proofs.Freeing.{DoesBefore, does_before, does_freed, holds_behind}
-use Rattle.world_core.proofs.Going.{goes_kept}
-use Rattle.world_core.proofs.KeptEntries.{left_whole, sight, kept_filter}
-use Rattle.world_core.proofs.Recording.{GoesAt, with_effects, record_is, record_fits}
+use Rattle.world_core.proofs.Freeing.{DoesBefore, does_before, does_freed}
+use Rattle.ckpt_machine.proofs.FreedNodes.{holds_behind}
+use Rattle.ckpt_machine.proofs.Going.{goes_kept}
+use Rattle.ckpt_machine.proofs.KeptEntries.{left_whole, sight, kept_filter}
+use Rattle.world_core.proofs.Recording.{with_effects, record_is, record_fits}
+use Rattle.ckpt_machine.proofs.GoesAt.{GoesAt}
 use Rattle.world_core.proofs.SnapshotRooms.{moved_has}
 
 -- ---- the moment is set

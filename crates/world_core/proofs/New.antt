@@ -10,15 +10,16 @@ use Rattle.world_core.specs.declared.world.World.{World}
 use Rattle.cluster_record.specs.RecordState.{RecordState, entry_of, is_live_client}
 use Rattle.cluster_record.specs.DueOnce.{Leave}
 use Rattle.ckpt_machine.specs.Drivers.{Once}
-use Rattle.world_core.specs.Nodes.{replica_in}
+use Rattle.ckpt_machine.specs.Nodes.{replica_in}
 use Rattle.ckpt_machine.specs.Machine.{empty_cluster, no_tables}
 use Rattle.ckpt_machine.specs.Steps.{room_in}
 use Rattle.world_core.specs.declared.snapshots.Background.{Background}
 use Rattle.world_core.specs.Backgrounds.{background_in, pulled_in, HasRoom}
-use Rattle.world_core.specs.Shows.{Beginning, History, Shows, HistoryFits, FitsReplica, FitsSnapshot, snapshot_shown, FitsHand, machine_of, complete_replica, hand_of, next_of, pending_of, reserved_in, shown_hand, shown_replica, tables_of, where_complete}
+use Rattle.world_core.specs.Shows.{Beginning, History, Shows, HistoryFits, snapshot_shown, FitsHand, machine_of, hand_of, next_of, pending_of, shown_hand, tables_of}
+use Rattle.ckpt_machine.specs.Shown.{FitsReplica, FitsSnapshot, complete_replica, reserved_in, shown_replica, where_complete}
 use Rattle.world_core.specs.Runs.{IsNew, IsRunTo}
-use Rattle.world_core.proofs.HoldingLaws.{nothing_held}
-use Rattle.world_core.proofs.Recording.{zero_there}
+use Rattle.ckpt_machine.proofs.HoldingLaws.{nothing_held}
+use Rattle.ckpt_machine.proofs.GoesAt.{zero_there}
 
 -- no call has begun yet
 abbrev no_call : CallId

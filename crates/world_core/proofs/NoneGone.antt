@@ -1,10 +1,8 @@
 -- Where no checkpoint is gone by a step of the record, nothing is to be freed behind it.
-use Rattle.std.proofs.Common.{◌≡◌, ℕ, suc, ◌+◌, Bool, true, false, List, [], ◌∷◌, ◌++◌, length, map, refl, sym, ap, subst, ◌∙◌, cond, arith}
-use Rattle.std.specs.Prelude.{Option, Some, None, is_some, ◌==◌, filter, slice_set}
-use Rattle.std.proofs.lemmas.Bool.{eq-eqb}
+use Rattle.std.proofs.Common.{◌≡◌, ℕ, ◌+◌, Bool, true, false, List, [], ◌∷◌, ◌++◌, length, map, refl, sym, ap, subst, ◌∙◌, cond, arith}
+use Rattle.std.specs.Prelude.{Option, Some, None, is_some, ◌==◌, filter}
 use Rattle.std.specs.Option.{option_map}
-use Rattle.std.proofs.lemmas.List.{length_push, map-set}
-use Rattle.std.proofs.lemmas.List.Elements.{filter-append}
+use Rattle.std.proofs.lemmas.List.{length_push}
 use Rattle.ckpt_types.specs.Limits.{checkpoints_max}
 use Rattle.ckpt_types.specs.declared.attributes.CreationAttributes.{CreationAttributes}
 use Rattle.ckpt_types.specs.declared.identities.CallId.{CallId}
@@ -12,7 +10,6 @@ use Rattle.node_msgs.specs.declared.next.RecordStep.{RecordStep}
 use Rattle.node_msgs.specs.declared.next.RecordStep.TheVariants as events
 use Rattle.cluster_record.specs.declared.entries.Entry.{Entry}
 use Rattle.cluster_record.specs.LookUps.{identity_in}
-use Rattle.cluster_record.specs.Places.{find_key}
 use Rattle.cluster_record.specs.Placement.{adds}
 use Rattle.cluster_record.specs.RecordState.{RecordState, identity_of, entry_of, named, home_of, new_entry, created_as}
 use Rattle.cluster_record.specs.Identities.{AllUpTo, IdentitiesRise}
@@ -24,55 +21,19 @@ use Rattle.node_core.specs.Nodes.{replica_key}
 use Rattle.replica.specs.Replicas.{Replica}
 use Rattle.world_core.specs.declared.snapshots.Background.{Background}
 use Rattle.world_core.specs.declared.world.World.{World}
-use Rattle.world_core.specs.Backgrounds.{background_key, background_in, snapshot_room, backgrounds_left, HasRoom, HaveRooms}
-use Rattle.world_core.specs.Freeing.{freed, freed_world}
-use Rattle.world_core.specs.Holding.{replicas_on, HoldsOnlyWhatStands}
-use Rattle.world_core.specs.Nodes.{replica_in, with_added, with_opened}
-use Rattle.world_core.specs.RecordAfter.{event_after, nodes_behind, snapshots_behind, with_room_asked}
+use Rattle.world_core.specs.Backgrounds.{background_key, background_in, snapshot_room, backgrounds_left, HasRoom, HaveRooms, snapshots_behind, with_room_asked}
+use Rattle.world_core.specs.Freeing.{freed_world}
+use Rattle.ckpt_machine.specs.Nodes.{freed, replica_in, with_added, with_opened}
+use Rattle.ckpt_machine.specs.Holding.{replicas_on, HoldsOnlyWhatStands}
+use Rattle.ckpt_machine.specs.RecordAfter.{event_after, nodes_behind}
 use Rattle.world_core.specs.Shows.{IsShown}
-use Rattle.world_core.proofs.Adding.{added_replica}
+use Rattle.ckpt_machine.proofs.Adding.{added_replica}
 use Rattle.world_core.proofs.CallSteps.{IsKnown, known}
-use Rattle.world_core.proofs.HoldingLaws.{held_at}
-use Rattle.world_core.proofs.KeptEntries.{declared, with_created, by_creation, created_there, created_own, created_rises, event_declared}
-use Rattle.world_core.proofs.ReplicaSteps.{has_one}
-
--- ---- found by a key
-
-module _ {X : Type 0} (key : X → ℕ) where
-  -- something is found of the key
-  abbrev Has : ℕ → List X → Type 0
-  Has k xs = is_some (find_key key k xs) ≡ true
-
-  has_own : (x : X) (o : Option X) → is_some (cond (key x == key x) (Some x) o) ≡ true
-  has_own x o = ap (λ b. is_some (cond b (Some x) o)) (eq-eqb (key x) (key x) refl)
-
-  has_more : (b : Bool) (x : X) (o : Option X) → is_some o ≡ true → is_some (cond b (Some x) o) ≡ true
-  has_more true x o is = refl
-  has_more false x o is = is
-
-  -- where all keys that are found stay, a filter by the key leaves all
-  whole_by_key : (s : ℕ → Bool) (xs : List X) → ((k : ℕ) → Has k xs → s k ≡ true) → filter (λ x. s (key x)) xs ≡ xs
-  whole_by_key s [] stay = refl
-  whole_by_key s (x ∷ xs) stay =
-      let rest : List X = filter (λ x. s (key x)) xs in
-      ap (λ b. cond b (x ∷ rest) rest) (stay (key x) (has_own x (find_key key (key x) xs)))
-      ∙ ap (λ (ys : List X). x ∷ ys) (whole_by_key s xs (λ k is. stay k (has_more (key x == k) x (find_key key k xs) is)))
-
--- ---- what the nodes have, and the background snapshots
-
--- a replica stays by its checkpoint
-abbrev staying : (ℕ → Bool) → List Replica → List Replica
-staying s xs = filter (λ x. s (replica_key x)) xs
-
-whole_nodes : (f : List Replica → List Replica) (nodes : List (List Replica)) → ((r : ℕ) → f (replicas_on nodes r) ≡ replicas_on nodes r) → map f nodes ≡ nodes
-whole_nodes f [] whole = refl
-whole_nodes f (xs ∷ nodes) whole = λ i. whole 0 i ∷ whole_nodes f nodes (λ r. whole (suc r)) i
-
-whole_set : (f : List Replica → List Replica) (nodes : List (List Replica)) (r : ℕ) (xs : List Replica) → map f nodes ≡ nodes → f xs ≡ xs → map f (slice_set nodes r xs) ≡ slice_set nodes r xs
-whole_set f nodes r xs whole one = map-set f nodes r xs ∙ (λ i. slice_set (whole i) r (one i))
-
-whole_pushed : {X : Type 0} (p : X → Bool) (xs : List X) (y : X) → filter p xs ≡ xs → p y ≡ true → filter p (xs ++ y ∷ []) ≡ xs ++ y ∷ []
-whole_pushed p xs y whole one = filter-append p xs (y ∷ []) ∙ (λ i. whole i ++ cond (one i) (y ∷ []) [])
+use Rattle.ckpt_machine.proofs.HoldingLaws.{held_at}
+use Rattle.ckpt_machine.proofs.KeptEntries.{declared, with_created, created_there, created_own, created_rises, event_declared}
+use Rattle.ckpt_machine.proofs.LentReplicas.{has_one}
+use Rattle.world_core.proofs.SnapshotRooms.{with_creation}
+use Rattle.ckpt_machine.proofs.WholeLists.{has_more, staying, whole_by_key, whole_nodes, whole_pushed, whole_set}
 
 -- what is declared is there where its checkpoint is
 there_as : (o : Option Entry) → is_some (option_map declared o) ≡ is_some o
@@ -128,7 +89,7 @@ module _ (R : RecordState) (nodes : List (List Replica)) (backgrounds : List Bac
 
   -- so many more as identities are given
   count_new : (call : CallId) (x : Driver) (step : RecordStep) → length (with_new call x step) + R.last_identity ≡ length R.entries + (with_created call x step R).last_identity
-  count_new = by_creation R backgrounds (λ N then. length N.entries + R.last_identity ≡ length R.entries + N.last_identity) refl (λ call name a. one_more R.entries (new_entry call name a R)) where
+  count_new = with_creation R backgrounds (λ N then. length N.entries + R.last_identity ≡ length R.entries + N.last_identity) refl (λ call name a. one_more R.entries (new_entry call name a R)) where
     one_more : (xs : List Entry) (new : Entry) → length (xs ++ new ∷ []) + R.last_identity ≡ length xs + (R.last_identity + 1)
     one_more xs new = let more : length (xs ++ new ∷ []) ≡ length xs + 1 = length_push xs new in omega (arith, more)
 
@@ -137,7 +98,7 @@ module _ (R : RecordState) (nodes : List (List Replica)) (backgrounds : List Bac
   before call name a s stay k is = stay k (ap is_some (created_there R up_to call name a k) ∙ has_more identity_of (k == (R.last_identity + 1)) (new_entry call name a R) (entry_of k R.entries) is)
 
   stay_old : (s : ℕ → Bool) (call : CallId) (x : Driver) (step : RecordStep) → Stay (with_new call x step) s → Stay R.entries s
-  stay_old s = by_creation R backgrounds (λ N then. Stay N.entries s → Stay R.entries s) (λ stay. stay) (λ call name a. before call name a s)
+  stay_old s = with_creation R backgrounds (λ N then. Stay N.entries s → Stay R.entries s) (λ stay. stay) (λ call name a. before call name a s)
 
   -- so where its replicas and snapshots stay by their checkpoints, all do
   nodes_stay : (s : ℕ → Bool) (call : CallId) (x : Driver) (step : RecordStep) → Stay R.entries s → map (staying s) (nodes_behind x step R nodes) ≡ nodes_behind x step R nodes
@@ -146,7 +107,7 @@ module _ (R : RecordState) (nodes : List (List Replica)) (backgrounds : List Bac
   nodes_stay s call x step stay = nodes_whole s stay
 
   kept_stay : (s : ℕ → Bool) (call : CallId) (x : Driver) (step : RecordStep) → Stay (with_new call x step) s → filter (λ b. s (background_key b)) (snapshots_behind x step R backgrounds) ≡ snapshots_behind x step R backgrounds
-  kept_stay s = by_creation R backgrounds (λ N then. Stay N.entries s → filter (λ b. s (background_key b)) then ≡ then) (kept_whole s) (λ call name a stay.
+  kept_stay s = with_creation R backgrounds (λ N then. Stay N.entries s → filter (λ b. s (background_key b)) then ≡ then) (kept_whole s) (λ call name a stay.
       room_whole s (before call name a s stay) (R.last_identity + 1) a (stay (R.last_identity + 1) (ap is_some (created_own R up_to call name a))))
 
   -- THE LAW: where entries and identities have become more by as many, or by none, each replica and each snapshot is of a checkpoint that is there

@@ -10,8 +10,8 @@ use Rattle.cluster_record.specs.Places.{list_or}
 use Rattle.cluster_record.proofs.Places.{get_set}
 use Rattle.replica.specs.Replicas.{Replica}
 use Rattle.node_core.specs.Nodes.{NodeState, freed_node, is_there}
-use Rattle.world_core.specs.Freeing.{freed}
-use Rattle.world_core.specs.Nodes.{node_at, nodes_shown, StandByNumber}
+use Rattle.ckpt_machine.specs.Nodes.{freed}
+use Rattle.ckpt_machine.specs.Nodes.{node_at, nodes_shown, StandByNumber}
 
 -- a node with other replicas
 abbrev pub holding : NodeState → List Replica → NodeState

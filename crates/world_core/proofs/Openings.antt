@@ -1,6 +1,6 @@
 -- The parts of a new world make it new.
-use Rattle.std.proofs.Common.{◌≡◌, ℕ, zero, suc, List, [], refl, ap, ◌∙◌}
-use Rattle.std.specs.Prelude.{Option, Some, None, replicate, slice_get}
+use Rattle.std.proofs.Common.{◌≡◌, List, [], refl, ap, ◌∙◌}
+use Rattle.std.specs.Prelude.{Option, None, replicate, slice_get}
 use Rattle.call_dispatch.specs.PendingCalls.{no_pending}
 use Rattle.ckpt_types.specs.declared.identities.ActorName.{ActorName}
 use Rattle.ckpt_types.specs.declared.identities.ActorName.TheVariants.{Client, Node}
@@ -16,12 +16,7 @@ use Rattle.client_calls.specs.TableState.{TableState, next_in, kept_in, pending_
 use Rattle.client_calls.specs.NewTable.{new_table}
 use Rattle.ckpt_machine.specs.Machine.{no_tables}
 use Rattle.world_core.specs.Runs.{IsNew}
-
--- at each place of n times the same there is it or nothing
-pub slice_get-replicate : {X : Type 0} (P : Option X → Type 0) (x : X) → P None → P (Some x) → (n i : ℕ) → P (slice_get (replicate n x) i)
-slice_get-replicate P x none some zero i = none
-slice_get-replicate P x none some (suc n) zero = some
-slice_get-replicate P x none some (suc n) (suc i) = slice_get-replicate P x none some n i
+use Rattle.ckpt_machine.proofs.NodeLists.{slice_get-replicate}
 
 -- no actor has an asynchronous call
 none_alone : (a : ActorName) → alone_in (replicate 100 []) a ≡ []

@@ -21,10 +21,12 @@ use Rattle.ckpt_machine.proofs.OptionLemmas.{IsSomeAnd-at}
 use Rattle.world_core.specs.declared.snapshots.Background.{Background}
 use Rattle.world_core.specs.declared.world.World.{World}
 use Rattle.world_core.specs.Backgrounds.{background_key, background_in, where_pulled, pulled_in, filled_unless, HasRoom, HaveRooms}
-use Rattle.world_core.specs.Propagating.{source_in, pull_told, snapshots_pulled, CanPull}
+use Rattle.world_core.specs.Propagating.{snapshots_pulled, CanPull}
+use Rattle.ckpt_machine.specs.Propagating.{source_in, pull_told}
 use Rattle.world_core.specs.Happenings.{Propagates}
 use Rattle.world_core.specs.Runs.{IsPulledOf}
-use Rattle.world_core.specs.Shows.{Does, IsShown, History, HistoryFits, FitsReplica, FitsSnapshot, machine_of, complete_replica, shown_replica, shown_slot, shown_snapshot, snapshot_shown}
+use Rattle.world_core.specs.Shows.{Does, IsShown, History, HistoryFits, machine_of, snapshot_shown}
+use Rattle.ckpt_machine.specs.Shown.{FitsReplica, FitsSnapshot, complete_replica, shown_replica, shown_slot, shown_snapshot}
 use Rattle.world_core.proofs.CallSteps.{IsKnown, known, known_by}
 
 -- ---- the snapshots, changed at one

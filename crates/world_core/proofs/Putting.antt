@@ -22,16 +22,17 @@ use Rattle.ckpt_machine.specs.Steps.{IsDue, after, snapshot_under}
 use Rattle.world_core.specs.declared.snapshots.Background.{Background}
 use Rattle.world_core.specs.declared.world.World.{World}
 use Rattle.world_core.specs.Backgrounds.{background_in, where_pulled, pulled_in, HasRoom}
-use Rattle.world_core.specs.Nodes.{replica_in, with_changed}
-use Rattle.world_core.specs.Propagating.{install_told, pulled_told, put_told, nodes_installed, nodes_put, IsPuttable, CanPut}
+use Rattle.ckpt_machine.specs.Nodes.{replica_in, with_changed}
+use Rattle.ckpt_machine.specs.Propagating.{install_told, pulled_told, put_told, nodes_installed, nodes_put, IsPuttable, CanPut}
 use Rattle.world_core.specs.Happenings.{Propagates}
 use Rattle.world_core.specs.Runs.{IsPutOf}
-use Rattle.world_core.specs.Shows.{Does, IsShown, History, FitsReplica, FitsSlot, FitsSnapshot, machine_of, complete_replica, where_complete, shown_replica, shown_slot, shown_snapshot}
+use Rattle.world_core.specs.Shows.{Does, IsShown, History, machine_of}
+use Rattle.ckpt_machine.specs.Shown.{FitsReplica, FitsSlot, FitsSnapshot, complete_replica, where_complete, shown_replica, shown_slot, shown_snapshot}
 use Rattle.world_core.proofs.CallSteps.{IsKnown, known, known_by}
 use Rattle.world_core.proofs.Finding.{no_slot, replica_shown}
-use Rattle.world_core.proofs.Maps.{set_again}
+use Rattle.ckpt_machine.proofs.NodeMaps.{set_again}
 use Rattle.world_core.proofs.ReplicaChanged.{IsShownBy, replica_changed, with_effects_of}
-use Rattle.world_core.proofs.Serve.{node_within}
+use Rattle.ckpt_machine.proofs.ServedNodes.{node_within}
 
 -- ---- changes of the one that is found
 

@@ -36,12 +36,12 @@ use Rattle.world_core.specs.Alone.{ended_at}
 use Rattle.world_core.specs.HandsState.{hand_at, set_at}
 use Rattle.client_calls.specs.HandSteps.{hand_end, hand_taken}
 use Rattle.world_core.specs.Happenings.{IsNext, IsStep}
-use Rattle.world_core.specs.Nodes.{node_at, nodes_after, replica_in, with_changed}
+use Rattle.ckpt_machine.specs.Nodes.{node_at, nodes_after, replica_in, with_changed}
 use Rattle.client_calls.specs.ReadTold.{read_told}
 use Rattle.world_core.specs.Shows.{IsShown}
-use Rattle.world_core.proofs.HandLaws.{list_again}
+use Rattle.ckpt_machine.proofs.NodeLists.{list_again}
 use Rattle.world_core.proofs.Serve.{its_details, its_end}
-use Rattle.world_core.proofs.Reserve.{copy_kept}
+use Rattle.ckpt_machine.proofs.Reserving.{copy_kept}
 use Rattle.world_core.proofs.Staging.{named_is}
 use Rattle.world_core.proofs.Stepping.{its_nodes, its_replica, its_served, its_there}
 

@@ -1,6 +1,6 @@
 -- A step of the record, whatever the step: done, or refused by the record or for the memory that it takes.
-use Rattle.std.proofs.Common.{◌≡◌, inl, inr, ℕ, List, length, true, false, refl, sym, ap, subst, ◌∙◌, ◌+◌, arith}
-use Rattle.std.specs.Prelude.{Option, Some, None, IsSome, IsSomeAnd, slice_get, Result, Ok, Err, is_err, OnOk, OnErr}
+use Rattle.std.proofs.Common.{◌≡◌, inl, ℕ, List, length, true, false, refl, sym, ap, subst, ◌∙◌}
+use Rattle.std.specs.Prelude.{Option, Some, None, IsSome, slice_get, Ok}
 use Rattle.ckpt_types.specs.declared.answers.Outcome.{Outcome}
 use Rattle.ckpt_types.specs.declared.identities.ActorName.{ActorName}
 use Rattle.ckpt_types.specs.declared.identities.ActorName.TheVariants.{Client}
@@ -16,35 +16,33 @@ use Rattle.run_labels.specs.declared.labels.Label.{Label}
 use Rattle.run_labels.specs.declared.labels.Label.TheVariants.{Stepped}
 use Rattle.ckpt_types.specs.OpWord.{word_of_op}
 use Rattle.client_handles.specs.ClientState.{ClientState, emptied, has_handle_room}
-use Rattle.cluster_record.specs.declared.calls.Making.{Making}
-use Rattle.cluster_record.specs.declared.entries.Entry.{Entry}
 use Rattle.cluster_record.specs.Calls.{number_of, client_of, left}
 use Rattle.cluster_record.specs.DueOnce as once
-use Rattle.cluster_record.specs.DueOpen.{making_ckpt, OpenState}
-use Rattle.cluster_record.specs.LookUps.{creation_flags_of, at_ckpt, identity_in}
-use Rattle.cluster_record.specs.RecordState.{RecordState, entry_of, named, opened, finished, undone, unlinked, swept, is_live_client}
+use Rattle.cluster_record.specs.DueOpen.{OpenState}
+use Rattle.cluster_record.specs.LookUps.{creation_flags_of}
+use Rattle.cluster_record.specs.RecordState.{RecordState, entry_of, is_live_client}
 use Rattle.ckpt_types.specs.Asks.{Ask, asked}
 use Rattle.ckpt_types.specs.Asks as asks
 use Rattle.ckpt_machine.specs.Drivers.{Driver}
 use Rattle.ckpt_machine.specs.Drivers as drivers
 use Rattle.ckpt_machine.specs.Driving.{driver_next, event_ckpt, event_node, event_end, event_refusal}
-use Rattle.ckpt_machine.specs.Facts.{IsEventReady, IsFinishable}
+use Rattle.ckpt_machine.specs.Facts.{IsEventReady}
 use Rattle.ckpt_machine.specs.Machine.{Machine, CallState, Effect, no_tables}
 use Rattle.snap_copy.specs.Snapshots as copies
-use Rattle.ckpt_machine.specs.Steps.{Told, IsDone, IsEventAnswer, IsRecordAnswer, at_some, changed, kept_off, led_from, pulled_by, created_for, retained_for, driver_of, record_step, with_closed, with_given, with_record, with_tables, without_calls, without_syncs}
+use Rattle.ckpt_machine.specs.Steps.{Told, IsDone, IsEventAnswer, IsRecordAnswer, changed, kept_off, pulled_by, driver_of, with_closed, with_tables, without_calls, without_syncs}
 use Rattle.replica.specs.Replicas.{Replica}
-use Rattle.world_core.specs.Nodes.{replica_in}
-use Rattle.ckpt_machine.specs.Tables.{handle_closed, handle_given, closing, registering, has_place}
+use Rattle.ckpt_machine.specs.Nodes.{replica_in, freed}
+use Rattle.ckpt_machine.specs.Tables.{handle_closed, handle_given, closing, registering}
 use Rattle.ckpt_machine.proofs.AskedFor.{DrivesFor, state_drives}
 use Rattle.client_calls.specs.declared.in_hand.InHand.{InHand}
 use Rattle.world_core.specs.declared.world.World.{World}
-use Rattle.world_core.specs.Freeing.{freed, freed_world}
+use Rattle.world_core.specs.Freeing.{freed_world}
 use Rattle.world_core.specs.Happenings.{rooms_at, IsStep}
-use Rattle.world_core.specs.Holding.{HoldsOnlyWhatStands}
+use Rattle.ckpt_machine.specs.Holding.{HoldsOnlyWhatStands}
 use Rattle.world_core.specs.declared.snapshots.Background.{Background}
-use Rattle.world_core.specs.Backgrounds.{pulled_in}
-use Rattle.world_core.specs.RecordAfter.{event_after, nodes_behind, snapshots_behind}
-use Rattle.world_core.specs.RecordReady.{IsPlain, IsRefusedWith, CanAdd, HasFound, IsRecordReady}
+use Rattle.world_core.specs.Backgrounds.{pulled_in, snapshots_behind}
+use Rattle.ckpt_machine.specs.RecordAfter.{event_after, nodes_behind}
+use Rattle.ckpt_machine.specs.RecordReady.{IsPlain, IsRefusedWith, CanAdd, HasFound, IsRecordReady}
 use Rattle.world_core.specs.Settling.{settled, CanSettle, CanGive}
 use Rattle.world_core.specs.Shows.{Does, IsShown, History, HistoryFits, machine_of, tables_of, HasNumbersLeft}
 use Rattle.world_core.specs.TablesState.{kept_by, at_client}
@@ -53,116 +51,30 @@ use Rattle.world_core.specs.Alone.{calls_gone, ended_at, going_with, gone_with, 
 use Rattle.world_core.proofs.AloneSteps.{MayGo, all_gone, gone_fits, gone_here, rooms_gone, syncs_are, gone_clients, gone_set}
 use Rattle.world_core.proofs.WaitedFor.{may_go_with}
 use Rattle.world_core.proofs.CallSteps.{pulled_by_client, event_counts, event_pulls, IsKnown, known, known_by, behind_step, IsShownBehind, step_before, step_told, step_under}
-use Rattle.world_core.proofs.Freeing.{does_before, does_freed, holds_behind}
-use Rattle.world_core.proofs.Going.{event_goes, event_once, event_free}
-use Rattle.world_core.proofs.KeptEntries.{event_up}
+use Rattle.world_core.proofs.Freeing.{does_before, does_freed}
+use Rattle.ckpt_machine.proofs.FreedNodes.{holds_behind}
+use Rattle.ckpt_machine.proofs.Going.{event_goes, event_once, event_free}
+use Rattle.ckpt_machine.proofs.KeptEntries.{event_up}
 use Rattle.world_core.proofs.Held.{copy_stays, state_in, in_hand_is, driver_is, name_is, actor_is, due_is}
 use Rattle.world_core.specs.LiveRooms.{LiveHaveRoom, room_is_taken}
 use Rattle.world_core.proofs.LiveRooms.{EntersWithRoom, rooms_ended, rooms_settled, rooms_after}
-use Rattle.world_core.proofs.ReplicaSteps.{has_one}
-use Rattle.world_core.proofs.Recording.{GoesAt, with_effects, record_is, record_fits}
+use Rattle.world_core.proofs.Recording.{with_effects, record_is, record_fits}
+use Rattle.ckpt_machine.proofs.GoesAt.{GoesAt}
 use Rattle.world_core.proofs.SnapshotRooms.{behind-pulled, event_has}
 use Rattle.world_core.specs.HandsState.{HandsState, hand_at, set_at}
 use Rattle.client_calls.specs.Names.{client_by}
 use Rattle.ckpt_types.specs.declared.identities.Who.{Who}
 use Rattle.world_core.proofs.TableFields.{change_is, client_same}
-use Rattle.std.proofs.lemmas.Bool.{lt-ltb, ltb-true}
 use Rattle.ckpt_types.specs.declared.words.OpWord.{OpWord}
 use Rattle.cluster_record.specs.Makings.{makings_of}
 use Rattle.cluster_record.specs.StepDone.{done_of}
-use Rattle.ckpt_types.specs.Limits.{handles_max}
 use Rattle.client_calls.specs.HandSteps.{hand_taken}
-use Rattle.world_core.proofs.Granted.{has_found}
-use Rattle.world_core.proofs.OpenRoom.{open_room}
-use Rattle.world_core.proofs.Readiness.{record_ready}
+use Rattle.ckpt_machine.proofs.Granted.{has_found}
+use Rattle.ckpt_machine.proofs.OpenRoom.{open_room}
+use Rattle.ckpt_machine.proofs.Readiness.{record_ready}
 use Rattle.world_core.proofs.Maps.{HasUnder, hand_left, under_other, under_own}
 use Rattle.ckpt_types.specs.declared.identities.Who.TheVariants.{Actor}
-
--- ---- what is there of what a step is about
-
-identity_there : (P : Entry → Type 0) (e : Option Entry) → IsSomeAnd e P → IsSome (identity_in e)
-identity_there P None there = absurd there
-identity_there P (Some e) there = refl
-
-pub finishable_there : (m : Machine) (c : ℕ) (making : Option Making) → IsFinishable m c making → IsSome making
-finishable_there m c None ready = absurd ready
-finishable_there m c (Some making) ready = refl
-
-ckpt_there : (making : Option Making) → IsSome making → IsSome (making_ckpt making)
-ckpt_there None there = absurd (cc there)
-ckpt_there (Some making) there = refl
-
--- what is said of a result, where it is known which it is
-pub when_ok : {T E : Type 0} (P : Type 0) (r : Result T E) → is_err r ≡ false → OnOk r P → P
-when_ok P (Ok x) is h = h
-when_ok P (Err e) is h = absurd cc
-
-pub when_err : {T E : Type 0} (P : Type 0) (r : Result T E) → is_err r ≡ true → OnErr r P → P
-when_err P (Ok x) is h = absurd cc
-when_err P (Err e) is h = h
-
--- where there is a place for one handle more beside those in the making, there is room for it
-place_is_room : (making : ℕ) (t : ClientState) → has_place making t ≡ true → has_handle_room t ≡ true
-place_is_room making t place = let few = ltb-true (length t.handles + making) handles_max place in lt-ltb (length t.handles) handles_max (omega (arith, few))
-
--- ---- what it makes of the machine, by its driver
-
--- beside the record: of the client's tables and of its asynchronous calls, or of the replica that leads
-abbrev pub besides : CallState → RecordStep → Option ℕ → Machine → Machine
-besides s events.Enter k m = with_tables s.call.actor (registering (asked s.op)) m
-besides s events.Open k m = at_some k m (λ k. with_given s k m)
-besides s events.Finish k m = at_some k m (λ k. with_given s k m)
-besides s events.Close k m = with_closed s m
-besides s events.Leave k m = without_calls s.call.actor (with_tables s.call.actor emptied m)
-besides s (events.Activate r) k m = at_some k m (λ k. led_from s.snapshot k r m)
-besides s step k m = m
-
-module _ (m : Machine) (s : CallState) where
-  -- a step at the checkpoint that the label names
-  step_at : (change : ℕ → RecordState → RecordState) (k : Option ℕ) → IsSome k → at_some k m (λ k. record_step (change k) m) ≡ with_record m (swept (at_ckpt k m.cluster (λ k. change k m.cluster)))
-  step_at change None there = absurd (cc there)
-  step_at change (Some k) there = refl
-
-  -- for the client of the call, which gets a handle of it
-  given_at : (change : ℕ → ℕ → RecordState → RecordState) (c : ℕ) (k : Option ℕ) → c ≡ client_of s.call → IsSome k →
-      (let after = with_record m (swept (at_ckpt k m.cluster (λ k. change k c m.cluster))) in at_some k m (λ k. with_given s k (record_step (change k (client_of s.call)) m)) ≡ at_some k after (λ k. with_given s k after))
-  given_at change c None client there = absurd (cc there)
-  given_at change c (Some k) client there = λ i. with_given s k (record_step (change k (sym client i)) m)
-
-  -- the label alone tells what the driver makes of the record
-  change_done : (x : Driver) (step : RecordStep) → IsEventReady m s x step → DrivesFor s.call (asked s.op) x →
-      changed m s (event_verb step) (event_ckpt m.cluster x step) (event_node x step) words.Ok ≡ besides s step (event_ckpt m.cluster x step) (with_record m (event_after s.call x step m.cluster))
-  change_done (drivers.Once (once.Enter r)) events.Enter ready drives = refl
-  change_done (drivers.Once once.Leave) events.Leave ready drives = refl
-  change_done (drivers.Once (once.Close k)) events.Close ready drives = refl
-  change_done (drivers.Once (once.Unlink name)) events.Unlink ready drives = step_at unlinked (identity_in (named name m.cluster.entries)) (identity_there _ (named name m.cluster.entries) ready)
-  change_done (drivers.Once (once.Retain k duration)) events.Retain ready drives = ap (λ ask. record_step (retained_for ask k) m) drives.asks
-  change_done (drivers.Open o) events.Create ready drives = ap (λ ask. record_step (created_for s.call ask) m) drives.asks
-  change_done (drivers.Open o) events.Open ready drives = given_at opened o.ask.client (identity_in (named o.ask.name m.cluster.entries)) drives.client (identity_there _ (named o.ask.name m.cluster.entries) ready.0)
-  change_done (drivers.Open o) events.Finish ready drives = given_at finished o.ask.client (making_ckpt o.making) drives.client (ckpt_there o.making (finishable_there m o.ask.client o.making ready.0))
-  change_done (drivers.Open o) events.Undo ready drives = step_at undone (making_ckpt o.making) (ckpt_there o.making (has_one o.making _ ready.0))
-  change_done (drivers.Sync u) (events.Hold r) ready drives = refl
-  change_done (drivers.Sync u) (events.Activate r) ready drives = refl
-  change_done x step ready drives = absurd ready
-
--- ---- where it is refused
-
--- it is not done
-abbrev pub IsNotOk : StepReply → Type 0
-IsNotOk words.Ok = ⊥
-IsNotOk reply = Unit {0}
-
-refused_leaves : (m : Machine) (s : CallState) (step : RecordStep) (k r : Option ℕ) (reply : StepReply) → IsNotOk reply → changed m s (event_verb step) k r reply ≡ m
-refused_leaves m s events.Enter k r words.Ok not_ok = absurd not_ok
-refused_leaves m s step k r words.Ok not_ok = absurd not_ok
-refused_leaves m s events.Enter k r reply not_ok = refl
-refused_leaves m s step k r reply not_ok = refl
-
--- a step that is refused, or lacks its memory, is told so
-refused_so : (refusal : Option Outcome) (step : RecordStep) (verb : Verb) (k r : Option ℕ) (reply : StepReply) (end : Outcome) → IsRefusedWith refusal step reply end → IsNotOk reply × IsRecordAnswer refusal step (record { verb = verb; ckpt = k; node = r; reply = reply; end = Some end; details = beside.Nothing })
-refused_so (Some why) step verb k r words.Refused end refused = (tt, (refl, ap Some refused))
-refused_so None step verb k r words.Memory end refused = (tt, inr (refused.0, refl, ap Some refused.1))
-refused_so refusal step verb k r reply end refused = absurd refused
+use Rattle.ckpt_machine.proofs.StepDone.{IsNotOk, besides, change_done, finishable_there, place_is_room, refused_leaves, refused_so}
 
 -- ---- what it makes of the client's table
 
@@ -289,11 +201,11 @@ module _ (w : World) (v : Who) (step : RecordStep) (hand : InHand) (held : hand_
     module _ (eight : length w.nodes ≡ 8) (granted : event_refusal w.cluster step hand.driver ≡ None) where
       -- each entry goes on
       pub goes : (j q : ℕ) → GoesAt w.cluster.up j (entry_of j w.cluster.entries) (entry_of j R.entries) q (replica_in w.nodes j q) (replica_in nodes j q)
-      goes = event_goes w h is.facts is.holds hand.call s hand.driver step eight granted event_asks
+      goes = event_goes (machine_of w h) w.nodes (λ k r. refl) is.facts is.holds hand.call s hand.driver step eight granted event_asks
 
       -- and the nodes that are freed of the others hold only what stands
       pub holds_after : HoldsOnlyWhatStands R (freed R.entries nodes)
-      holds_after = holds_behind w.cluster R w.nodes nodes up goes is.holds (event_once w h is.facts is.holds hand.call s hand.driver step eight granted event_asks)
+      holds_after = holds_behind w.cluster R w.nodes nodes up goes is.holds (event_once (machine_of w h) w.nodes (λ k r. refl) is.facts is.holds hand.call s hand.driver step eight granted event_asks)
 
     -- no marks keep a plain one off
     plain_kept : (k : Option ℕ) (step : RecordStep) → IsPlain step → kept_off m k step ≡ None
@@ -450,7 +362,7 @@ module _ (w : World) (v : Who) (step : RecordStep) (hand : InHand) (held : hand_
     can_add granted =
         let h = shown.shows.history in
         let is : IsKnown w h = known w shown in
-        event_free w h is.facts is.holds (state_in h v hand) hand.driver step granted (event_ready shown)
+        event_free (machine_of w h) w.nodes (λ k r. refl) is.facts is.holds (state_in h v hand) hand.driver step granted (event_ready shown)
 
     -- ---- what it makes of the world, with the parts as the code names them
 

@@ -9,12 +9,13 @@ use Rattle.ckpt_machine.specs.Machine.{Machine, Effect}
 use Rattle.node_core.specs.Nodes.{replica_key}
 use Rattle.replica.specs.Replicas.{Replica}
 use Rattle.world_core.specs.declared.world.World.{World}
-use Rattle.world_core.specs.Holding.{HoldsOnlyWhatStands}
-use Rattle.world_core.specs.Nodes.{replica_in, with_changed}
-use Rattle.world_core.specs.Shows.{History, HistoryFits, FitsReplica, complete_replica, machine_of, shown_replica}
-use Rattle.world_core.proofs.HoldingLaws.{holds_changed}
-use Rattle.world_core.proofs.Maps.{changed_here, complete_at_node, fits_replica, put_replica, reserved_same}
-use Rattle.world_core.proofs.Serve.{node_within}
+use Rattle.ckpt_machine.specs.Holding.{HoldsOnlyWhatStands}
+use Rattle.ckpt_machine.specs.Nodes.{replica_in, with_changed}
+use Rattle.world_core.specs.Shows.{History, HistoryFits, machine_of}
+use Rattle.ckpt_machine.specs.Shown.{FitsReplica, complete_replica, shown_replica}
+use Rattle.ckpt_machine.proofs.HoldingLaws.{holds_changed}
+use Rattle.ckpt_machine.proofs.NodeMaps.{changed_here, complete_at_node, fits_replica, put_replica, reserved_same}
+use Rattle.ckpt_machine.proofs.ServedNodes.{node_within}
 
 -- the world shows this state of the machine with this history, and its nodes hold only what stands
 pub record IsShownBy (m : Machine) (w : World) (h : History) : Type 0 where

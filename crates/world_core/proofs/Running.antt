@@ -29,7 +29,8 @@ use Rattle.ckpt_machine.proofs.Whose.{put_who-here}
 use Rattle.world_core.specs.declared.world.World.{World}
 use Rattle.world_core.specs.HandsState.{hand_at}
 use Rattle.world_core.specs.Runs.{IsRunTo}
-use Rattle.world_core.specs.Shows.{Does, Shows, FitsReplica, IsShown, HasNumbersLeft, machine_of, shown_replica}
+use Rattle.world_core.specs.Shows.{Does, Shows, IsShown, HasNumbersLeft, machine_of}
+use Rattle.ckpt_machine.specs.Shown.{FitsReplica, shown_replica}
 use Rattle.world_core.specs.StepsLeft.{hand_left, left_of}
 use Rattle.world_core.proofs.Held.{state_in, in_hand_is, driver_is}
 

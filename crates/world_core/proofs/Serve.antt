@@ -1,13 +1,12 @@
 -- A step of a call that a node serves, for a request that goes to a replica.
-use Rattle.std.proofs.Common.{◌≡◌, ℕ, ◌<◌, ℤ, true, List, length, refl, sym, ap, subst, ◌∙◌, cond}
-use Rattle.std.specs.Prelude.{Option, Some, None, ◌==◌, ◌&&◌, IsSomeAnd, slice_get, slice_index, slice_set}
-use Rattle.std.proofs.lemmas.Option.{slice_get_within}
+use Rattle.std.proofs.Common.{◌≡◌, ℕ, ℤ, true, List, refl, sym, ap, subst, ◌∙◌, cond}
+use Rattle.std.specs.Prelude.{Option, Some, None, ◌==◌, ◌&&◌, IsSomeAnd, slice_index}
 use Rattle.ckpt_types.specs.declared.answers.Outcome.{Outcome}
 use Rattle.ckpt_types.specs.declared.identities.ActorName.TheVariants.{Client}
 use Rattle.ckpt_types.specs.declared.identities.CallId.{CallId}
 use Rattle.ckpt_types.specs.Asks.{asked}
 use Rattle.node_msgs.specs.declared.requests.Request.{Request}
-use Rattle.node_msgs.specs.declared.requests.Request.TheVariants.{Reserve, Stage}
+use Rattle.node_msgs.specs.declared.requests.Request.TheVariants.{Stage}
 use Rattle.node_msgs.specs.declared.replies.Reply.{Reply}
 use Rattle.node_msgs.specs.declared.next.Next.TheVariants.{Serve}
 use Rattle.node_msgs.specs.declared.details.Details.{Details}
@@ -18,19 +17,19 @@ use Rattle.section_iter.specs.KeptIds.{KeptIds}
 use Rattle.client_calls.specs.declared.in_hand.InHand.{InHand}
 use Rattle.replica.specs.Replicas.{Replica}
 use Rattle.world_core.specs.declared.world.World.{World}
-use Rattle.cluster_record.specs.Places.{find_key, change_key, list_or, put2}
-use Rattle.cluster_record.specs.RecordState.{RecordState, entry_of, complete_of}
+use Rattle.cluster_record.specs.Places.{put2}
+use Rattle.cluster_record.specs.RecordState.{entry_of, complete_of}
 use Rattle.cluster_record.specs.StepDone.{StepDone, counting, count_told, done_of}
 use Rattle.snap_copy.specs.Snapshots as copies
 use Rattle.node_msgs.specs.Requests.{ckpt_of}
 use Rattle.node_msgs.specs.Steps.{verb_of, word_of}
-use Rattle.node_core.specs.Nodes.{NodeState, MayReply, replica_key, replica_served, seen_for, served_for}
+use Rattle.node_core.specs.Nodes.{MayReply, replica_served}
 use Rattle.node_core.specs.Payloads.{Payload}
 use Rattle.node_core.specs.Seen.{RecordSeen, record_seen, is_complete}
 use Rattle.node_core.specs.Serving.{reply_at, reply_of, details_at, iteration_behind, snapshot_behind, replica_after}
 use Rattle.node_core.specs.Fitting.{IsReadyFor}
-use Rattle.world_core.specs.Nodes.{node_at, nodes_after, replica_in}
-use Rattle.world_core.specs.Holding.{HoldsOnlyWhatStands}
+use Rattle.ckpt_machine.specs.Nodes.{node_at, nodes_after, replica_in}
+use Rattle.ckpt_machine.specs.Holding.{HoldsOnlyWhatStands}
 use Rattle.client_calls.specs.Lending.{IsValidFor, iteration_lent}
 use Rattle.world_core.specs.TablesLending.{tables_lending, tables_keeping}
 use Rattle.cluster_record.specs.Ends.{served_done}
@@ -39,54 +38,32 @@ use Rattle.world_core.specs.Happenings.{rooms_at}
 use Rattle.world_core.specs.TablesState.{kept_by}
 use Rattle.ckpt_machine.specs.Driving.{driver_next, driver_taken, driver_end}
 use Rattle.ckpt_machine.specs.Machine.{Machine, Effect, ReplicaState, CallState}
-use Rattle.ckpt_machine.specs.Steps.{due, driver_of, ended_details, ids_asked, payload_due, MayAnswer, changed, counted_at, pulled_by, seen_at, staged_moment}
+use Rattle.ckpt_machine.specs.Steps.{due, driver_of, ended_details, ids_asked, payload_due, changed, counted_at, pulled_by, staged_moment}
 use Rattle.ckpt_machine.specs.Tables.{ids_of, kept_asked}
 use Rattle.ckpt_machine.specs.Facts.{HasNoSlot, IsServable}
-use Rattle.world_core.specs.Shows.{Does, HistoryFits, History, machine_of, tables_of, shown_replica, shown_slot, complete_replica, FitsReplica, IsRoomToCopy}
+use Rattle.world_core.specs.Shows.{Does, HistoryFits, History, machine_of, tables_of}
+use Rattle.ckpt_machine.specs.Shown.{shown_replica, shown_slot, complete_replica, FitsReplica, IsRoomToCopy}
 use Rattle.ckpt_machine.proofs.Calls.{IsOwn, own_request}
-use Rattle.world_core.proofs.Carrying.{GoesToReplica, reserves_none, Carries, payload_with, reply_carried, details_carried, replica_carried, carried_on}
+use Rattle.world_core.proofs.Carrying.{payload_with}
+use Rattle.ckpt_machine.proofs.Carried.{GoesToReplica, Carries, reply_carried, details_carried, replica_carried, carried_on}
 use Rattle.world_core.proofs.Finding.{There}
 use Rattle.world_core.proofs.Finding as finding
 use Rattle.world_core.proofs.Held.{state_in, in_hand_is, actor_is, driver_is, IsCopyBehind, copy_stays}
-use Rattle.world_core.proofs.CopySteps.{counts_effects, counts_seen, counts_told, pulled_after, room_alike, copy_behind}
+use Rattle.ckpt_machine.proofs.CopySteps.{counts_effects, counts_seen, counts_told, pulled_after, room_alike, copy_behind}
 use Rattle.world_core.proofs.IterationSteps.{tables_move, rooms_moved}
 use Rattle.world_core.proofs.LiveRooms.{rooms_ended}
-use Rattle.world_core.proofs.HoldingLaws.{after_key, replicas_served, holds_served}
-use Rattle.world_core.proofs.Maps.{changed_here, slice_there, complete_at_node, put_replica, fits_replica, reserved_same}
-use Rattle.world_core.proofs.RequestRows.{effects_in, effects_after, effects_carried, origin_after, row_moves, row_fits, tables_moved}
+use Rattle.ckpt_machine.proofs.HoldingLaws.{holds_served}
+use Rattle.ckpt_machine.proofs.NodeMaps.{complete_at_node, put_replica, fits_replica, reserved_same}
+use Rattle.ckpt_machine.proofs.RequestRows.{effects_in, effects_after, effects_carried, origin_after, row_moves, row_fits, tables_moved}
 use Rattle.world_core.proofs.Told.{told_world}
 use Rattle.world_core.proofs.CallSteps.{IsKnown, known_by, IsShownBehind, step_before}
 use Rattle.world_core.specs.HandsState.{hand_at}
 use Rattle.client_calls.specs.Names.{client_by}
 use Rattle.ckpt_types.specs.declared.identities.Who.{Who}
 use Rattle.world_core.proofs.Freeing.{does_before}
-
--- ---- what the nodes have
-
--- after a request to one node, the replica of each checkpoint on each node
-served_there : (R : RecordState) (nodes : List (List Replica)) (r : ℕ) (request : Request) (p : Payload) (reply : Reply) (x : Replica) → GoesToReplica request → is_complete (record_seen R (ckpt_of request) r) ≡ true → replica_in nodes (ckpt_of request) r ≡ Some x →
-    (j q : ℕ) → replica_in (nodes_after R nodes r request p reply) j q ≡ cond ((j == ckpt_of request) && (q == r)) (Some (replica_after request p (record_seen R (ckpt_of request) r) x)) (replica_in nodes j q)
-served_there R nodes r request p reply x goes complete is j q =
-    let after = replica_after request p (record_seen R (ckpt_of request) r) in
-    let new = change_key replica_key (ckpt_of request) after in
-    ap (λ (ys : List Replica). replica_in (slice_set nodes r ys) j q)
-    (replicas_served R (node_at nodes r) request p reply (reserves_none request goes) ∙ ap (λ b. cond b (new (list_or (slice_get nodes r))) (list_or (slice_get nodes r))) complete)
-    ∙ changed_here nodes (ckpt_of request) r after (after_key request p (record_seen R (ckpt_of request) r)) x is j q
-
--- the node is there
-pub node_within : (nodes : List (List Replica)) (k r : ℕ) (x : Replica) → replica_in nodes k r ≡ Some x → r < length nodes
-node_within nodes k r x is = let (xs, there) = slice_there (slice_get nodes r) (find_key replica_key k) x refl is in slice_get_within nodes r xs there
+use Rattle.ckpt_machine.proofs.ServedNodes.{may_answer, node_within, replied, served_there}
 
 -- ---- the step
-
--- what is asked of a replica as it is, is answered by that replica
-replied : (R : RecordState) (n : NodeState) (request : Request) (p : Payload) (reply : Reply) → GoesToReplica request → MayReply (seen_for R n request) n request p reply → reply ≡ reply_at request p (seen_for R n request) (served_for R n request)
-replied R n (Reserve k) p reply goes may = absurd goes
-replied R n request p reply goes may = may
-
-may_answer : (m : Machine) (s : CallState) (r : ℕ) (request : Request) (answer : Reply) → GoesToReplica request → answer ≡ reply_at request (payload_due m s) (record_seen m.cluster (ckpt_of request) r) (seen_at m (ckpt_of request) r) → MayAnswer m s request r answer
-may_answer m s r (Reserve k) answer goes h = absurd goes
-may_answer m s r request answer goes h = h
 
 -- the parts of a step that a node serves, by its reply
 module _ (w : World) (v : Who) (r : ℕ) (request : Request) (hand : InHand) (p : Payload) (reply : Reply) where

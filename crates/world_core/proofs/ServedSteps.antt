@@ -23,7 +23,7 @@ use Rattle.cluster_record.specs.StepDone.{StepDone}
 use Rattle.replica.specs.Replicas.{Replica}
 use Rattle.node_core.specs.declared.lent.Lent.{Lent}
 use Rattle.node_core.specs.Details.{details_told}
-use Rattle.world_core.specs.Asking.{MayCome}
+use Rattle.ckpt_machine.specs.Asking.{MayCome}
 use Rattle.snap_copy.specs.Snapshots.{Snapshot}
 use Rattle.node_msgs.specs.declared.requests.Request.TheVariants as requests
 use Rattle.node_core.specs.Nodes.{MayReply, replica_served}
@@ -35,11 +35,12 @@ use Rattle.ckpt_machine.specs.Steps.{ended_details}
 use Rattle.client_calls.specs.declared.in_hand.InHand.{InHand}
 use Rattle.world_core.specs.declared.world.World.{World}
 use Rattle.world_core.specs.Alone.{ended_at}
-use Rattle.world_core.specs.Nodes.{node_at, nodes_after}
+use Rattle.ckpt_machine.specs.Nodes.{node_at, nodes_after}
 use Rattle.client_calls.specs.Lending.{IsLentBy, IsValidFor, CanKeep, CanLend, hand_lending, iteration_lent, table_lending, table_keeping}
 use Rattle.world_core.specs.TablesLending.{tables_lending, tables_keeping}
 use Rattle.cluster_record.specs.Ends.{served_done}
-use Rattle.client_calls.specs.HandSteps.{AsksNode, hand_taken, hand_end}
+use Rattle.client_calls.specs.HandSteps.{hand_taken, hand_end}
+use Rattle.ckpt_machine.specs.Taking.{AsksNode}
 use Rattle.world_core.specs.Happenings.{IsNext, IsStep, rooms_at}
 use Rattle.client_calls.specs.TableState.{TableState}
 use Rattle.world_core.specs.TablesState.{kept_by}

@@ -1,6 +1,6 @@
 -- The room for snapshots: with which step of the record it comes, and that each checkpoint that is there has its own behind any.
-use Rattle.std.proofs.Common.{◌≡◌, inl, inr, ℕ, ◌+◌, ◌==◌, ℤ, Bool, true, false, List, [], ◌∷◌, ◌++◌, refl, sym, ap, subst, ◌∙◌, cond, arith}
-use Rattle.std.specs.Prelude.{Option, Some, None}
+use Rattle.std.proofs.Common.{◌≡◌, inl, inr, ℕ, ◌+◌, ◌==◌, ℤ, Bool, true, false, List, [], ◌∷◌, ◌++◌, refl, sym, ap, subst, ◌∙◌, cond, arith, ◌-◌}
+use Rattle.std.specs.Prelude.{Option, Some, None, ◌==◌}
 use Rattle.std.specs.Option.{option_map}
 use Rattle.std.proofs.lemmas.Option.{same_Some}
 use Rattle.std.proofs.lemmas.Bool.{eqb-true, eq-eqb}
@@ -16,9 +16,23 @@ use Rattle.cluster_record.proofs.Places.{find_pushed}
 use Rattle.ckpt_machine.specs.Drivers.{Driver}
 use Rattle.ckpt_machine.specs.Options.{is_all}
 use Rattle.world_core.specs.declared.snapshots.Background.{Background}
-use Rattle.world_core.specs.Backgrounds.{background_key, background_in, where_pulled, pulled_in, snapshot_room, with_room_for, HasRoom, HasRoomWhere, HaveRooms}
-use Rattle.world_core.specs.RecordAfter.{event_after, snapshots_behind}
-use Rattle.world_core.proofs.KeptEntries.{IsKept, Keeps, kept_filter, undone_stays, swept_stays, declared, with_created, by_creation, created_there, created_rises, event_declared}
+use Rattle.world_core.specs.Backgrounds.{background_key, background_in, where_pulled, pulled_in, snapshot_room, with_room_for, HasRoom, HasRoomWhere, HaveRooms, snapshots_behind, with_room_asked}
+use Rattle.ckpt_machine.specs.RecordAfter.{event_after}
+use Rattle.ckpt_machine.proofs.KeptEntries.{IsKept, Keeps, kept_filter, undone_stays, swept_stays, declared, with_created, created_there, created_rises, event_declared}
+use Rattle.node_msgs.specs.declared.next.RecordStep.TheVariants as events
+use Rattle.ckpt_machine.specs.Drivers as drivers
+
+-- ---- a creation
+
+-- what holds without one, and with one and the room for its snapshot, holds of it
+pub with_creation : (R : RecordState) (backgrounds : List Background) (P : RecordState → List Background → Type 0) → P R backgrounds → ((call : CallId) (name : List ℕ) (a : CreationAttributes) → P (created_as call name (Some a) R) (with_room_for (R.last_identity + 1) a backgrounds)) →
+    (call : CallId) (x : Driver) (step : RecordStep) → P (with_created call x step R) (snapshots_behind x step R backgrounds)
+with_creation R backgrounds P none one call (drivers.Open o) events.Create = by_attributes o.ask.attrs where
+  by_attributes : (a : Option CreationAttributes) → P (created_as call o.ask.name a R) (with_room_asked (R.last_identity + 1) a backgrounds)
+  by_attributes None = none
+  by_attributes (Some a) = one call o.ask.name a
+with_creation R backgrounds P none one call (drivers.Open o) step = none
+with_creation R backgrounds P none one call x step = none
 
 -- ---- room for one more
 
@@ -37,7 +51,7 @@ pulled_in-room k a backgrounds j = elim (is_all a) as (λ b. pulled_in (cond b b
 
 -- so whatever the step, what was pulled is the same
 pub behind-pulled : (call : CallId) (x : Driver) (step : RecordStep) (R : RecordState) (backgrounds : List Background) (j : ℕ) → pulled_in (snapshots_behind x step R backgrounds) j ≡ pulled_in backgrounds j
-behind-pulled call x step R backgrounds = by_creation R backgrounds (λ N then. (j : ℕ) → pulled_in then j ≡ pulled_in backgrounds j) (λ j. refl) (λ call name a. pulled_in-room (R.last_identity + 1) a backgrounds) call x step
+behind-pulled call x step R backgrounds = with_creation R backgrounds (λ N then. (j : ℕ) → pulled_in then j ≡ pulled_in backgrounds j) (λ j. refl) (λ call name a. pulled_in-room (R.last_identity + 1) a backgrounds) call x step
 
 -- ---- every step
 
@@ -96,7 +110,7 @@ module _ (R : RecordState) (backgrounds : List Background) (keeps : HaveRooms R.
 
   -- behind each step of the record
   pub event_has : (call : CallId) (x : Driver) (step : RecordStep) → Have (event_after call x step R) (snapshots_behind x step R backgrounds)
-  event_has call x step = step_has (with_created call x step R) (event_after call x step R) (snapshots_behind x step R backgrounds) ((event_declared R call x step).3 (created_rises R rises up_to call x step)) (by_creation R backgrounds Have all_have created_has call x step)
+  event_has call x step = step_has (with_created call x step R) (event_after call x step R) (snapshots_behind x step R backgrounds) ((event_declared R call x step).3 (created_rises R rises up_to call x step)) (with_creation R backgrounds Have all_have created_has call x step)
 
   -- where a making is undone
   pub unmade_has : (k : ℕ) → Have (swept (undone k R)) backgrounds

@@ -43,7 +43,7 @@ use Rattle.node_core.specs.Serving.{reply_at, details_at, commit_answer, slot_id
 use Rattle.node_core.specs.StageReplies.{reply_refused, reply_told}
 use Rattle.client_calls.specs.declared.in_hand.InHand.{InHand}
 use Rattle.world_core.specs.declared.world.World.{World}
-use Rattle.world_core.specs.Nodes.{node_at, nodes_after, replica_in, with_changed}
+use Rattle.ckpt_machine.specs.Nodes.{node_at, nodes_after, replica_in, with_changed}
 use Rattle.client_calls.specs.Lending.{IsValidFor}
 use Rattle.world_core.specs.TablesLending.{tables_lending, tables_keeping}
 use Rattle.world_core.specs.Happenings.{IsNext, IsStep}
@@ -52,10 +52,11 @@ use Rattle.client_calls.specs.HandSteps.{hand_taken, hand_end, end_by}
 use Rattle.world_core.specs.Shows.{IsShown, HasNumbersLeft}
 use Rattle.world_core.specs.TablesState.{kept_by}
 use Rattle.client_calls.specs.UpdateSteps.{IsUpdate, is_creation}
-use Rattle.world_core.proofs.Carrying.{GoesToReplica, Carries, payload_with}
+use Rattle.world_core.proofs.Carrying.{payload_with}
+use Rattle.ckpt_machine.proofs.Carried.{GoesToReplica, Carries}
 use Rattle.world_core.proofs.Serve.{its_copy, its_end, its_details, its_iteration, served_world}
 use Rattle.world_core.proofs.Held.{with_copy}
-use Rattle.world_core.proofs.Reserve.{copy_kept}
+use Rattle.ckpt_machine.proofs.Reserving.{copy_kept}
 use Rattle.world_core.specs.HandsState.{HandsState, hand_at, set_at}
 use Rattle.ckpt_types.specs.declared.identities.ActorName.TheVariants.{Client}
 use Rattle.ckpt_types.specs.declared.identities.Who.{Who}

@@ -25,7 +25,7 @@ use Rattle.node_msgs.specs.Requests.{ckpt_of}
 use Rattle.node_msgs.specs.Steps.{verb_of, word_of}
 use Rattle.node_core.specs.declared.lent.Lent.{Lent}
 use Rattle.node_core.specs.Fitting.{HasCountLeft, IsReadyFor, MayBeMade}
-use Rattle.world_core.specs.Asking.{ReplicaMayBeAsked, MayCome}
+use Rattle.ckpt_machine.specs.Asking.{ReplicaMayBeAsked, MayCome}
 use Rattle.node_core.specs.Nodes.{NodeState, MayReply, replica_key, replica_served, seen_from}
 use Rattle.node_core.specs.Payloads.{Payload}
 use Rattle.node_core.specs.Seen.{entry_seen, record_seen, is_complete}
@@ -36,7 +36,7 @@ use Rattle.ckpt_machine.specs.Driving.{driver_next, driver_taken, driver_end}
 use Rattle.ckpt_machine.specs.Facts.{Facts, IsActive, IsReservable, IsServable}
 use Rattle.ckpt_machine.specs.Machine.{Machine, CallState}
 use Rattle.ckpt_machine.specs.Steps.{due, driver_of, ended_details}
-use Rattle.world_core.specs.Nodes.{node_at, nodes_after, replica_in, with_changed}
+use Rattle.ckpt_machine.specs.Nodes.{node_at, nodes_after, replica_in, with_changed}
 use Rattle.client_calls.specs.Lending.{IsLentBy, IsValidFor, CanLend, CanKeep}
 use Rattle.world_core.specs.TablesLending.{tables_lending}
 use Rattle.cluster_record.specs.Ends.{served_done}
@@ -45,14 +45,15 @@ use Rattle.world_core.specs.TablesState.{kept_by}
 use Rattle.world_core.specs.Shows.{Does, IsShown, HasNumbersLeft, History, HistoryFits, machine_of}
 use Rattle.world_core.specs.Happenings.{rooms_at, IsNext, IsStep}
 use Rattle.world_core.proofs.CallSteps.{IsKnown, known, step_under}
-use Rattle.world_core.proofs.Carrying.{GoesToReplica, Carries, IsOfCall, lent_with, payload_with, has_lent, reserves_none}
+use Rattle.world_core.proofs.Carrying.{IsOfCall, lent_with, payload_with, has_lent}
+use Rattle.ckpt_machine.proofs.Carried.{GoesToReplica, Carries, reserves_none}
 use Rattle.world_core.proofs.Finding.{IsReservationOr}
 use Rattle.world_core.proofs.Finding as finding
 use Rattle.world_core.proofs.Held.{state_in, in_hand_is, driver_is, next_for, with_copy}
-use Rattle.world_core.proofs.HoldingLaws.{replicas_served}
+use Rattle.ckpt_machine.proofs.HoldingLaws.{replicas_served}
 use Rattle.world_core.proofs.IterationSteps.{TablesReady, HasIterationRoom, EndsIts, can_lend, can_keep}
 use Rattle.world_core.proofs.Maps.{hand_left}
-use Rattle.world_core.proofs.OpenRoom.{iterate_room}
+use Rattle.ckpt_machine.proofs.OpenRoom.{iterate_room}
 use Rattle.world_core.proofs.Reserve.{reserve_does}
 use Rattle.world_core.specs.HandsState.{hand_at}
 use Rattle.client_calls.specs.Names.{client_by}

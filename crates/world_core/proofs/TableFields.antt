@@ -14,7 +14,7 @@ use Rattle.world_core.specs.declared.world.World.{World}
 use Rattle.client_calls.specs.TableState.{TableState, next_in, kept_in, pending_in, with_calls, with_client}
 use Rattle.world_core.specs.TablesState.{kept_by, pending_by, table_changed, at_client}
 use Rattle.world_core.specs.Shows.{History, machine_of, next_of, pending_of, tables_of}
-use Rattle.world_core.proofs.Maps.{same_there, set_again}
+use Rattle.ckpt_machine.proofs.NodeMaps.{same_there, set_again}
 
 -- what is the same of two tables is the same where the one stands for the other
 field_case : {X : Type 0} (f : Option TableState → X) (t t' : TableState) → f (Some t) ≡ f (Some t') → (b : Bool) (o : Option TableState) → (b ≡ true → o ≡ Some t) → f o ≡ f (cond b (Some t') o)

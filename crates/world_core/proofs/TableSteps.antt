@@ -21,7 +21,7 @@ use Rattle.world_core.specs.TablesLending.{tables_lending, tables_keeping}
 use Rattle.world_core.specs.LiveRooms.{room_is_taken}
 use Rattle.world_core.specs.declared.world.World.{World}
 use Rattle.client_calls.specs.Standings.{standing}
-use Rattle.world_core.proofs.Maps.{set_again}
+use Rattle.ckpt_machine.proofs.NodeMaps.{set_again}
 use Rattle.world_core.specs.TablesState.{standing_in, kept_by, pending_by, table_changed, at_client}
 use Rattle.client_calls.specs.TableSettling.{table_settled, table_looked, MayGive, MaySettle}
 use Rattle.world_core.specs.Settling.{settled, looked, CanGive, CanSettle}

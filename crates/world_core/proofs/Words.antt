@@ -12,9 +12,10 @@ use Rattle.cluster_record.specs.RecordState.{RecordState, entry_of, brought_up, 
 use Rattle.ckpt_machine.specs.Machine.{Machine}
 use Rattle.ckpt_machine.specs.Steps.{IsWord, after, reservation_under}
 use Rattle.world_core.specs.HandsState.{hand_at}
-use Rattle.world_core.specs.Shows.{Does, History, machine_of, shown_hand, reserved_in}
+use Rattle.world_core.specs.Shows.{Does, History, machine_of, shown_hand}
+use Rattle.ckpt_machine.specs.Shown.{reserved_in}
 use Rattle.client_calls.specs.LineWords.{step_word}
-use Rattle.world_core.proofs.HoldingLaws.{held_by_none}
+use Rattle.ckpt_machine.proofs.HoldingLaws.{held_by_none}
 
 -- the machine has no call in hand under a name where there is none
 pub none_in_hand : (w : World) (h : History) (v : Who) → hand_at w.hands v ≡ None → (machine_of w h).in_hand v ≡ None

@@ -1,15 +1,19 @@
 -- The background snapshots that the world keeps: of each checkpoint whose updates go to its active alone, the room for one, and what was pulled last.
-use Rattle.std.specs.Prelude.{◌≡◌, ℕ, List, [], ◌∷◌, ◌++◌, true, false, Option, Some, None, is_some, if◌then◌else◌, filter}
+use Rattle.std.specs.Prelude.{◌≡◌, ℕ, List, [], ◌∷◌, ◌++◌, true, false, Option, Some, None, is_some, if◌then◌else◌, filter, ◌+◌}
 use Rattle.ckpt_types.specs.declared.attributes.CreationAttributes.{CreationAttributes}
 use Rattle.ckpt_types.specs.declared.identities.CallId.{CallId}
 use Rattle.cluster_record.specs.declared.entries.Entry.{Entry}
 use Rattle.cluster_record.specs.Places.{find_key}
-use Rattle.cluster_record.specs.RecordState.{entry_of}
+use Rattle.cluster_record.specs.RecordState.{entry_of, RecordState}
 use Rattle.weak_marks.specs.Marks.{call_of}
 use Rattle.snap_copy.specs.Snapshots.{Snapshot}
 use Rattle.replica.specs.Replicas.{Replica, pulled_from}
 use Rattle.ckpt_machine.specs.Options.{is_all}
 use Rattle.world_core.specs.declared.snapshots.Background.{Background}
+use Rattle.node_msgs.specs.declared.next.RecordStep.{RecordStep}
+use Rattle.node_msgs.specs.declared.next.RecordStep.TheVariants as events
+use Rattle.ckpt_machine.specs.Drivers.{Driver}
+use Rattle.ckpt_machine.specs.Drivers as drivers
 
 -- it is found by its checkpoint
 abbrev pub background_key : Background → ℕ
@@ -37,6 +41,16 @@ snapshot_room k a = record { ckpt = k; snap = record { attributes = a; sections 
 -- with the room for one of a checkpoint that is to be made, unless its updates are on all replicas
 abbrev pub with_room_for : ℕ → CreationAttributes → List Background → List Background
 with_room_for k a backgrounds = if is_all a then backgrounds else backgrounds ++ snapshot_room k a ∷ []
+
+-- with the room for the snapshot of a checkpoint that is to be made, where attributes are given
+abbrev pub with_room_asked : ℕ → Option CreationAttributes → List Background → List Background
+with_room_asked k None backgrounds = backgrounds
+with_room_asked k (Some a) backgrounds = with_room_for k a backgrounds
+
+-- what the background snapshots become by it: a creation takes the room for the one of its checkpoint
+abbrev pub snapshots_behind : Driver → RecordStep → RecordState → List Background → List Background
+snapshots_behind (drivers.Open o) events.Create R backgrounds = with_room_asked (R.last_identity + 1) o.ask.attrs backgrounds
+snapshots_behind driver step R backgrounds = backgrounds
 
 -- those of checkpoints that have an entry
 abbrev pub backgrounds_left : List Entry → List Background → List Background

@@ -4,7 +4,7 @@ use Rattle.std.specs.Borrow.{Lends, MutBor, Fml}
 use Rattle.replica.specs.Replicas.{Replica}
 use Rattle.replica.specs.contracts.replica.Replica.{the_row as replica_row}
 use Rattle.world_core.specs.contracts.nodes.Nodes.{the_row}
-use Rattle.world_core.specs.Nodes.{with_changed}
+use Rattle.ckpt_machine.specs.Nodes.{with_changed}
 
 -- the nodes end with the replica of a checkpoint on one of them set to what is left in it
 abbrev pub LendsReplica : MutBor (List (List Replica)) → ℕ → ℕ → MutBor Replica → Fml

@@ -5,9 +5,10 @@ ghost use Rattle.cluster_record.specs.LookUps.{at_ckpt, identity_in};
 ghost use Rattle.cluster_record.specs.Opening.{open_answer, after_open};
 ghost use Rattle.cluster_record.specs.RecordState.{entry_of, named, home_of, opened};
 ghost use Rattle.client_calls.specs.CallStates.{step_in};
-ghost use Rattle.world_core.specs.Nodes.{with_opened};
-ghost use Rattle.world_core.specs.RecordAfter.{once_change, event_change, event_after, nodes_behind, snapshots_behind, with_room_asked};
-ghost use Rattle.world_core.specs.RecordReady.{CanAsk, CanAdd, HasFound, HasNoneOf, IsGranted, IsOnceReady, IsOpenedAs, IsOpenReady, IsPlain, IsRecordReady};
+ghost use Rattle.ckpt_machine.specs.Nodes.{with_opened};
+ghost use Rattle.ckpt_machine.specs.RecordAfter.{once_change, event_change, event_after, nodes_behind};
+ghost use Rattle.world_core.specs.Backgrounds.{snapshots_behind, with_room_asked};
+ghost use Rattle.ckpt_machine.specs.RecordReady.{CanAsk, CanAdd, HasFound, HasNoneOf, IsGranted, IsOnceReady, IsOpenedAs, IsOpenReady, IsPlain, IsRecordReady};
 ghost use Rattle.ckpt_machine.specs.Driving.{takes_memory};
 ghost use Rattle.ckpt_machine.specs.Drivers.{Open};
 

@@ -8,13 +8,13 @@ ghost use Rattle.ckpt_types.specs.Reads.{read};
 ghost use Rattle.node_msgs.specs.declared.replies.Reply.TheVariants as replies;
 ghost use Rattle.cluster_record.specs.RecordState.{entry_of};
 ghost use Rattle.node_core.specs.Details.{details_told};
-ghost use Rattle.world_core.specs.Asking.{MayCome, KeepsToDeclared};
+ghost use Rattle.ckpt_machine.specs.Asking.{MayCome, KeepsToDeclared};
 ghost use Rattle.node_core.specs.Lending.{HasRoomToRead};
 ghost use Rattle.node_core.specs.Nodes.{MayReply, seen_for, served_for};
 ghost use Rattle.node_core.specs.Payloads.{payload_of};
 ghost use Rattle.node_core.specs.Serving.{details_at, done_or_refused, iteration_behind, snapshot_behind};
-ghost use Rattle.world_core.specs.Freeing.{freed};
-ghost use Rattle.world_core.specs.Nodes.{node_at, nodes_after, nodes_shown, replica_in, with_added, StandByNumber};
+ghost use Rattle.ckpt_machine.specs.Nodes.{freed};
+ghost use Rattle.ckpt_machine.specs.Nodes.{node_at, nodes_after, nodes_shown, replica_in, with_added, StandByNumber};
 ghost use Rattle.world_core.specs.ReplicaLending.{LendsReplica};
 
 use ckpt_types::{CkptId, Moment, NODES_MAX, NodeId, ReadBuf, ReadElement};
@@ -37,7 +37,7 @@ impl Model for Nodes {
 
     ghost Value = { List (List Replica) };
 
-    ghost use Rattle.world_core.specs.Nodes.{nodes_shown, StandByNumber};
+    ghost use Rattle.ckpt_machine.specs.Nodes.{nodes_shown, StandByNumber};
 
     ghost view = { λ nodes. nodes_shown nodes.list.items };
 

@@ -6,8 +6,9 @@ ghost use Rattle.cluster_record.specs.RecordState.{complete_of, entry_of};
 ghost use Rattle.ckpt_machine.specs.Propagation.{source_of};
 ghost use Rattle.world_core.specs.Backgrounds.{background_in, pulled_in};
 ghost use Rattle.world_core.specs.Happenings.{Adds, Propagates};
-ghost use Rattle.world_core.specs.Nodes.{replica_in};
-ghost use Rattle.world_core.specs.Propagating.{CanPull, CanPut, nodes_put, pull_told, put_told, snapshots_pulled, source_in, takes_puts};
+ghost use Rattle.ckpt_machine.specs.Nodes.{replica_in};
+ghost use Rattle.world_core.specs.Propagating.{CanPull, snapshots_pulled};
+ghost use Rattle.ckpt_machine.specs.Propagating.{CanPut, nodes_put, pull_told, put_told, source_in, takes_puts};
 ghost use Rattle.world_core.specs.Runs.{IsPulledOf, IsPutOf};
 ghost use Rattle.world_core.specs.Shows.{IsShown};
 

@@ -9,8 +9,8 @@ ghost use Rattle.node_msgs.specs.declared.next.Next.TheVariants as nexts;
 ghost use Rattle.node_msgs.specs.declared.next.RecordStep.TheVariants as events;
 ghost use Rattle.client_calls.specs.Names.{IsClientName};
 ghost use Rattle.world_core.specs.Happenings.{Adds, IsNext, IsStep};
-ghost use Rattle.world_core.specs.Leading.{copy_held, nodes_led, CanLead, HasFreeHold};
-ghost use Rattle.world_core.specs.Nodes.{replica_in};
+ghost use Rattle.ckpt_machine.specs.Leading.{copy_held, nodes_led, CanLead, HasFreeHold};
+ghost use Rattle.ckpt_machine.specs.Nodes.{replica_in};
 ghost use Rattle.world_core.specs.Shows.{HasNumbersLeft, IsShown};
 
 use crate::nodes::Nodes;

@@ -3,7 +3,8 @@ ghost use Rattle.std.specs.Prelude.{◌≡◌, ◌<◌, ◌≤◌, ◌+◌, ◌+
 ghost use Rattle.ckpt_types.specs.Sections.{section_of, present};
 ghost use Rattle.ckpt_types.specs.Limits.{listed_bytes_max, nodes_max};
 ghost use Rattle.ckpt_machine.specs.Listing.{section_listed};
-ghost use Rattle.world_core.specs.Listing.{kept_slot_listed, kept_replica_listed, node_listed, nodes_listed, made_listed, world_listing};
+ghost use Rattle.world_core.specs.Listing.{world_listing};
+ghost use Rattle.ckpt_machine.specs.NodeListing.{kept_slot_listed, kept_replica_listed, node_listed, nodes_listed, made_listed};
 ghost use Rattle.world_core.specs.Happenings.{Adds, TellsReplicas};
 
 use crate::nodes::Nodes;

@@ -4,9 +4,9 @@ use Rattle.cluster_record.specs.LookUps.{adds_in}
 use Rattle.cluster_record.specs.Placement.{adds}
 use Rattle.cluster_record.specs.RecordState.{entry_of, home_of, identity_of}
 use Rattle.ckpt_machine.proofs.EntryLists.{find_key-key}
-use Rattle.world_core.specs.Nodes.{replica_in, with_added}
-use Rattle.world_core.specs.RecordReady.{HasNoneOf}
-use Rattle.world_core.proofs.Adding.{opened_none, opened_adds}
+use Rattle.ckpt_machine.specs.Nodes.{replica_in, with_added}
+use Rattle.ckpt_machine.specs.RecordReady.{HasNoneOf}
+use Rattle.ckpt_machine.proofs.Adding.{opened_none, opened_adds}
 use Rattle.world_core.proofs.applying.add_replica.Goals as goal
 
 pub returns-then-not-adds_replica-clause-ok : goal.returns-then-not-adds_replica-clause-ok

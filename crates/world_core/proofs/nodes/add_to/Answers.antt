@@ -5,7 +5,7 @@ use Rattle.cluster_record.specs.RecordState.{entry_of}
 use Rattle.node_core.specs.Changing.{added_for}
 use Rattle.node_core.specs.Nodes.{NodeState}
 use Rattle.node_core.specs.Seen.{entry_seen}
-use Rattle.world_core.specs.Nodes.{nodes_shown, StandByNumber}
+use Rattle.ckpt_machine.specs.Nodes.{nodes_shown, StandByNumber}
 use Rattle.world_core.proofs.Numbered.{node_is, numbered_set, shown_set, set_or_same}
 use Rattle.world_core.proofs.nodes.add_to.Goals as goal
 

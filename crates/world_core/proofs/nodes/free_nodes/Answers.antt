@@ -2,7 +2,7 @@ use Rattle.std.proofs.Common.{◌≡◌, ◌+◌, ◌<◌, ◌≤◌, length, ma
 use Rattle.std.specs.Prelude.{slice_set}
 use Rattle.cluster_record.proofs.EachChanged.{changed_from, changed_from-start, changed_from-next, changed_from-end}
 use Rattle.node_core.specs.Nodes.{NodeState, freed_node}
-use Rattle.world_core.specs.Nodes.{nodes_shown, StandByNumber}
+use Rattle.ckpt_machine.specs.Nodes.{nodes_shown, StandByNumber}
 use Rattle.world_core.proofs.Numbered.{numbered_freed, shown_freed}
 use Rattle.world_core.proofs.nodes.free_nodes.Goals as goal
 

@@ -1,5 +1,5 @@
 use Rattle.std.proofs.Common.{◌≡◌, ◌++◌, ◌∷◌, [], sym, ap, subst, ◌∙◌, arith}
-use Rattle.world_core.specs.Nodes.{nodes_shown, StandByNumber}
+use Rattle.ckpt_machine.specs.Nodes.{nodes_shown, StandByNumber}
 use Rattle.world_core.proofs.Numbered.{nodes_from, first_nodes-next, numbered_first, shown_first}
 use Rattle.world_core.proofs.nodes.new_nodes.Goals as goal
 

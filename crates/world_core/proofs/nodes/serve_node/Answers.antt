@@ -1,11 +1,11 @@
 use Rattle.std.proofs.Common.{sym, ap, subst, ◌∙◌}
 use Rattle.std.specs.Prelude.{slice_set}
-use Rattle.world_core.specs.Asking.{MayCome}
-use Rattle.world_core.proofs.Asking.{fits_that_comes}
+use Rattle.ckpt_machine.specs.Asking.{MayCome}
+use Rattle.ckpt_machine.proofs.Asking.{fits_that_comes}
 use Rattle.node_core.specs.Nodes.{NodeState, MayReply, replicas_after, seen_for, served_for}
 use Rattle.node_core.specs.Payloads.{payload_of}
 use Rattle.node_core.specs.Serving.{details_at, iteration_behind, snapshot_behind}
-use Rattle.world_core.specs.Nodes.{nodes_shown, StandByNumber}
+use Rattle.ckpt_machine.specs.Nodes.{nodes_shown, StandByNumber}
 use Rattle.world_core.proofs.Numbered.{node_is, numbered_set, shown_set}
 use Rattle.world_core.proofs.nodes.serve_node.Goals as goal
 

@@ -3,7 +3,7 @@ use Rattle.std.proofs.lemmas.Bool.{eq-eqb}
 use Rattle.cluster_record.specs.RecordState.{entry_of}
 use Rattle.replica.specs.Replicas.{installed}
 use Rattle.world_core.specs.Backgrounds.{pulled_in}
-use Rattle.world_core.proofs.ReplicaSteps.{left_as, put_as}
+use Rattle.ckpt_machine.proofs.LentReplicas.{left_as, put_as}
 use Rattle.world_core.proofs.propagation.put_snapshot.Goals as goal
 
 pub returns-in-Ok-clause-reply : goal.returns-in-Ok-clause-reply

@@ -1,8 +1,8 @@
 use Rattle.std.proofs.Common.{◌≡◌, Bool, true, false, None, Some, not, slice_index, refl, sym, ap, ◌∙◌}
 use Rattle.std.specs.Prelude.{◌==◌}
 use Rattle.cluster_record.specs.RecordState.{entry_of}
-use Rattle.world_core.specs.Leading.{leading, nodes_led}
-use Rattle.world_core.proofs.ReplicaSteps.{led_as, left_as, unchanged}
+use Rattle.ckpt_machine.specs.Leading.{leading, nodes_led}
+use Rattle.ckpt_machine.proofs.LentReplicas.{led_as, left_as, unchanged}
 use Rattle.world_core.proofs.setting.lead.Goals as goal
 
 not_zero : (b t : Bool) → t ≡ not b → t ≡ true → b ≡ false

@@ -1,6 +1,6 @@
 use Rattle.std.proofs.Common.{◌≡◌, ap, ◌∙◌, length, FitsSigned, w64, arith}
 use Rattle.std.proofs.lemmas.Int.{to_z-of_z}
-use Rattle.world_core.specs.Listing.{nodes_listed}
+use Rattle.ckpt_machine.specs.NodeListing.{nodes_listed}
 use Rattle.world_core.proofs.showing.list_replicas.Goals as goal
 
 pub returns : goal.returns

@@ -1,5 +1,5 @@
 use Rattle.std.proofs.Common.{◌≡◌, ◌≤◌, length}
-use Rattle.world_core.specs.Listing.{nodes_listed}
+use Rattle.ckpt_machine.specs.NodeListing.{nodes_listed}
 use Rattle.world_core.proofs.showing.list_replicas.Given as goal
 
 abbrev pub invariant-loop-r : goal.invariant-loop-r

@@ -3,7 +3,7 @@ use Rattle.std.proofs.lemmas.Int.{to_z-of_z}
 use Rattle.std.proofs.lemmas.List.{take_all}
 use Rattle.ckpt_types.specs.Sections.{section_of, present}
 use Rattle.ckpt_machine.specs.Listing.{section_listed}
-use Rattle.world_core.proofs.Listings.{listed_more, length-listed-le}
+use Rattle.ckpt_machine.proofs.NodeListings.{listed_more, length-listed-le}
 use Rattle.world_core.proofs.showing.list_sections.Goals as goal
 
 pub loop-place-preserved : goal.loop-place-preserved

@@ -1,7 +1,7 @@
 use Rattle.std.proofs.Common.{◌≡◌, length, arith, sym, ap, subst, ◌∙◌}
 use Rattle.std.proofs.lemmas.List.{with_items_is}
 use Rattle.std.proofs.lemmas.Result.{on_ok_weaker, on_err_weaker}
-use Rattle.world_core.specs.Nodes.{nodes_shown, with_added, StandByNumber}
+use Rattle.ckpt_machine.specs.Nodes.{nodes_shown, with_added, StandByNumber}
 use Rattle.world_core.proofs.nodes.Nodes.add.Goals as goal
 
 pub returns-clause-ok : goal.returns-clause-ok

@@ -3,7 +3,7 @@ use Rattle.std.specs.Prelude.{slice_index_or, slice_set}
 use Rattle.cluster_record.specs.Places.{find_key, change_key}
 use Rattle.replica.specs.Replicas.{Replica}
 use Rattle.node_core.specs.Nodes.{NodeState, replica_key}
-use Rattle.world_core.specs.Nodes.{node_at, nodes_shown, replica_in, with_changed}
+use Rattle.ckpt_machine.specs.Nodes.{node_at, nodes_shown, replica_in, with_changed}
 use Rattle.world_core.proofs.Numbered.{holding, node_is, shown_set}
 use Rattle.world_core.proofs.nodes.Nodes.at.Goals as goal
 

@@ -3,8 +3,8 @@ use Rattle.std.proofs.lemmas.List.{with_items_is}
 use Rattle.node_core.specs.Nodes.{MayReply, seen_for, served_for}
 use Rattle.node_core.specs.Payloads.{payload_of}
 use Rattle.node_core.specs.Serving.{details_at, iteration_behind, snapshot_behind}
-use Rattle.world_core.specs.Asking.{MayCome}
-use Rattle.world_core.specs.Nodes.{node_at, nodes_after, nodes_shown, StandByNumber}
+use Rattle.ckpt_machine.specs.Asking.{MayCome}
+use Rattle.ckpt_machine.specs.Nodes.{node_at, nodes_after, nodes_shown, StandByNumber}
 use Rattle.world_core.proofs.nodes.Nodes.serve.Goals as goal
 
 pub serve_node-requires-clause-may : goal.serve_node-requires-clause-may

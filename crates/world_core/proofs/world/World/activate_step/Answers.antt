@@ -13,7 +13,7 @@ use Rattle.client_calls.specs.declared.in_hand.InHand.{InHand}
 use Rattle.world_core.specs.Freeing.{freed_world}
 use Rattle.world_core.specs.Alone.{ended_at}
 use Rattle.world_core.specs.Happenings.{IsStep}
-use Rattle.world_core.specs.Leading.{copy_held}
+use Rattle.ckpt_machine.specs.Leading.{copy_held}
 use Rattle.world_core.specs.HandsState.{hand_at, set_at}
 use Rattle.world_core.proofs.LeadSteps.{activates_one, lead_can, lead_ends, lead_step, leads_its}
 use Rattle.world_core.proofs.Held.{next_for}

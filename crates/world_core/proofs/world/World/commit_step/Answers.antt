@@ -14,8 +14,8 @@ use Rattle.cluster_record.specs.Ends.{ended_unless}
 use Rattle.world_core.proofs.HandLaws.{same_world}
 use Rattle.replica.specs.Replicas.{committed}
 use Rattle.stage_slot.specs.Slots.{IsOwnedBy}
-use Rattle.world_core.specs.Nodes.{replica_in, with_changed}
-use Rattle.world_core.proofs.ReplicaSteps.{has_one, holds_here, left_as}
+use Rattle.ckpt_machine.specs.Nodes.{replica_in, with_changed}
+use Rattle.ckpt_machine.proofs.LentReplicas.{has_one, holds_here, left_as}
 use Rattle.world_core.proofs.Staging.{owns, commit_is}
 use Rattle.world_core.proofs.Stepping.{node_there}
 use Rattle.world_core.proofs.world.World.commit_step.Goals as goal

@@ -12,24 +12,26 @@ use Rattle.world_core.specs.declared.world.World.{World}
 use Rattle.world_core.specs.Happenings.{IsNext, IsStep}
 use Rattle.world_core.specs.Shows.{IsShown, HasNumbersLeft}
 use Rattle.world_core.specs.Settling.{CanSettle}
-use Rattle.world_core.specs.RecordReady.{IsRefusedAs}
+use Rattle.ckpt_machine.specs.RecordReady.{IsRefusedAs}
 use Rattle.client_calls.specs.declared.in_hand.InHand.{InHand}
-use Rattle.client_calls.specs.Granting.{event_granted}
+use Rattle.ckpt_machine.specs.Granting.{event_granted}
 use Rattle.client_calls.specs.Taking.{hand_outcome}
 use Rattle.node_msgs.specs.declared.next.Next.TheVariants.{Event}
 use Rattle.ckpt_machine.specs.Driving.{event_refusal, takes_memory}
 use Rattle.ckpt_machine.specs.Tables.{handle_closed}
-use Rattle.world_core.specs.RecordAfter.{event_after, nodes_behind, snapshots_behind}
+use Rattle.ckpt_machine.specs.RecordAfter.{event_after, nodes_behind}
+use Rattle.world_core.specs.Backgrounds.{snapshots_behind}
 use Rattle.world_core.specs.HandsState.{hand_at, set_at}
 use Rattle.world_core.specs.Alone.{ended_at}
 use Rattle.world_core.specs.Freeing.{freed_world}
 use Rattle.world_core.proofs.EventEnds.{done_ends, done_keeps, granted_at, kept_off_as, refused_ends}
-use Rattle.world_core.proofs.Granted.{granted_ok}
-use Rattle.world_core.proofs.Going.{length-behind}
+use Rattle.ckpt_machine.proofs.Granted.{granted_ok}
+use Rattle.ckpt_machine.proofs.Going.{length-behind}
 use Rattle.world_core.proofs.HandLaws.{same_world}
 use Rattle.world_core.proofs.Held.{next_for}
 use Rattle.world_core.proofs.NoneGone.{none_freed}
-use Rattle.world_core.proofs.RecordEvent.{can_add, can_settle, is_found, is_ready, when_ok, when_err, event_step, refused_step}
+use Rattle.world_core.proofs.RecordEvent.{can_add, can_settle, is_found, is_ready, event_step, refused_step}
+use Rattle.ckpt_machine.proofs.StepDone.{when_ok, when_err}
 use Rattle.world_core.proofs.TableSteps.{kept_is, may_settle, settled_is}
 use Rattle.world_core.proofs.world.World.record_step.Goals as goal
 

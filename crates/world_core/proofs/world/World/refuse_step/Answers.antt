@@ -6,7 +6,7 @@ use Rattle.run_labels.specs.declared.labels.Label.TheVariants.{Stepped}
 use Rattle.cluster_record.specs.Calls.{left}
 use Rattle.ckpt_machine.specs.Driving.{event_refusal}
 use Rattle.world_core.specs.Happenings.{IsStep}
-use Rattle.world_core.specs.RecordReady.{IsRefusedWith}
+use Rattle.ckpt_machine.specs.RecordReady.{IsRefusedWith}
 use Rattle.world_core.specs.Alone.{ended_at}
 use Rattle.world_core.specs.HandsState.{hand_at, set_at}
 use Rattle.world_core.proofs.EventEnds.{refused_ends}

@@ -8,12 +8,12 @@ use Rattle.node_msgs.specs.declared.requests.Request.TheVariants.{Stage}
 use Rattle.replica.specs.Replicas.{answer_unless, outcome_on, staged}
 use Rattle.stage_slot.specs.Slots.{owner_of}
 use Rattle.ckpt_types.specs.OpWord.{word_of_op}
-use Rattle.client_calls.specs.HandSteps.{AsksNode}
-use Rattle.world_core.specs.Nodes.{replica_in, with_changed}
+use Rattle.ckpt_machine.specs.Taking.{AsksNode}
+use Rattle.ckpt_machine.specs.Nodes.{replica_in, with_changed}
 use Rattle.world_core.proofs.HandLaws.{left_alone}
 use Rattle.world_core.proofs.ServedSteps.{asks_of}
 use Rattle.node_core.specs.Fitting.{TakesUpdate}
-use Rattle.world_core.proofs.ReplicaSteps.{has_one, holds_here, holds_there, left_as}
+use Rattle.ckpt_machine.proofs.LentReplicas.{has_one, holds_here, holds_there, left_as}
 use Rattle.world_core.proofs.Staging.{takes, stage_is, stage_refused}
 use Rattle.world_core.proofs.Stepping.{node_there}
 use Rattle.world_core.proofs.world.World.stage_step.Goals as goal

@@ -4,8 +4,8 @@ use Rattle.cluster_record.specs.declared.entries.Entry.{Entry}
 use Rattle.node_core.specs.Changing.{taken_over}
 use Rattle.replica.specs.Replicas.{Replica}
 use Rattle.snap_copy.specs.Snapshots.{Snapshot}
-use Rattle.world_core.specs.Nodes.{with_changed}
-use Rattle.world_core.specs.Propagating.{IsPuttable}
+use Rattle.ckpt_machine.specs.Nodes.{with_changed}
+use Rattle.ckpt_machine.specs.Propagating.{IsPuttable}
 
 -- the checkpoint is there, and no call holds it
 abbrev pub HasFreeHold : Option Entry → Type 0

@@ -29,9 +29,9 @@ use Rattle.node_core.specs.Serving.{reply_of, reply_unless, done_or_refused, upd
 use Rattle.ckpt_machine.specs.Machine.{Machine, Effect, ReplicaState, Snapshot, CallState}
 use Rattle.ckpt_machine.specs.Propagation.{copied}
 use Rattle.ckpt_machine.specs.Steps.{counted_at, count_in, pulled_by, seen_snapshot}
-use Rattle.world_core.specs.Shows.{shown_replica, shown_copy, FitsReplica, FitsSnapshot, FitsCopy, IsRoomToCopy}
-use Rattle.world_core.proofs.Carrying.{GoesToReplica}
-use Rattle.world_core.proofs.RequestRows.{effects_in}
+use Rattle.ckpt_machine.specs.Shown.{shown_replica, shown_copy, FitsReplica, FitsSnapshot, FitsCopy, IsRoomToCopy}
+use Rattle.ckpt_machine.proofs.Carried.{GoesToReplica}
+use Rattle.ckpt_machine.proofs.RequestRows.{effects_in}
 
 -- a replica that fits counts its effects
 pub counts_effects : (k : ℕ) (E : List Effect) (x : Replica) (e : Option Entry) → FitsReplica k e E (Some x) → length E ≡ x.count

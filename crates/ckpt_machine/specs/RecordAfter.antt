@@ -1,6 +1,5 @@
--- What a step of a call makes of the record, and of the nodes and the background snapshots, by what drives the call.
-use Rattle.std.specs.Prelude.{ℕ, ◌+◌, List, Option, Some, None}
-use Rattle.ckpt_types.specs.declared.attributes.CreationAttributes.{CreationAttributes}
+-- What a step of a call makes of the record and of the nodes, by what drives the call.
+use Rattle.std.specs.Prelude.{List}
 use Rattle.ckpt_types.specs.declared.identities.CallId.{CallId}
 use Rattle.node_msgs.specs.declared.next.RecordStep.{RecordStep}
 use Rattle.node_msgs.specs.declared.next.RecordStep.TheVariants as events
@@ -13,9 +12,7 @@ use Rattle.ckpt_machine.specs.Drivers.{Driver}
 use Rattle.ckpt_machine.specs.Drivers as drivers
 use Rattle.ckpt_machine.specs.Driving.{event_ckpt}
 use Rattle.replica.specs.Replicas.{Replica}
-use Rattle.world_core.specs.declared.snapshots.Background.{Background}
-use Rattle.world_core.specs.Backgrounds.{with_room_for}
-use Rattle.world_core.specs.Nodes.{with_opened}
+use Rattle.ckpt_machine.specs.Nodes.{with_opened}
 
 -- what a call of one step makes of it
 abbrev pub once_change : CallId → OneStep → RecordState → RecordState
@@ -37,16 +34,6 @@ event_change call driver step R = R
 abbrev pub nodes_behind : Driver → RecordStep → RecordState → List (List Replica) → List (List Replica)
 nodes_behind (drivers.Open o) events.Open R nodes = with_opened (named o.ask.name R.entries) (home_of o.ask.client R) nodes
 nodes_behind driver step R nodes = nodes
-
--- with the room for the snapshot of a checkpoint that is to be made, where attributes are given
-abbrev pub with_room_asked : ℕ → Option CreationAttributes → List Background → List Background
-with_room_asked k None backgrounds = backgrounds
-with_room_asked k (Some a) backgrounds = with_room_for k a backgrounds
-
--- what the background snapshots become by it: a creation takes the room for the one of its checkpoint
-abbrev pub snapshots_behind : Driver → RecordStep → RecordState → List Background → List Background
-snapshots_behind (drivers.Open o) events.Create R backgrounds = with_room_asked (R.last_identity + 1) o.ask.attrs backgrounds
-snapshots_behind driver step R backgrounds = backgrounds
 
 -- and what is over is swept away
 abbrev pub event_after : CallId → Driver → RecordStep → RecordState → RecordState

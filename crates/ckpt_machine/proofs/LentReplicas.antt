@@ -8,10 +8,10 @@ use Rattle.cluster_record.specs.Places.{find_key, change_key, list_or}
 use Rattle.replica.specs.Replicas.{Replica, installed}
 use Rattle.snap_copy.specs.Snapshots.{Snapshot}
 use Rattle.node_core.specs.Nodes.{replica_key}
-use Rattle.world_core.specs.Leading.{leading, nodes_led}
-use Rattle.world_core.specs.Nodes.{replica_in, with_changed}
-use Rattle.world_core.specs.Propagating.{nodes_installed, nodes_put, takes_puts}
-use Rattle.world_core.proofs.HandLaws.{list_again}
+use Rattle.ckpt_machine.specs.Leading.{leading, nodes_led}
+use Rattle.ckpt_machine.specs.Nodes.{replica_in, with_changed}
+use Rattle.ckpt_machine.specs.Propagating.{nodes_installed, nodes_put, takes_puts}
+use Rattle.ckpt_machine.proofs.NodeLists.{list_again}
 
 -- two changes that make the same of the one that is found are alike
 pub change_alike : {X : Type 0} (key : X → ℕ) (k : ℕ) (f g : X → X) (xs : List X) (x : X) → find_key key k xs ≡ Some x → f x ≡ g x → change_key key k f xs ≡ change_key key k g xs

@@ -24,9 +24,7 @@ use Rattle.cluster_record.proofs.Places.{find_pushed}
 use Rattle.ckpt_machine.specs.Drivers.{Driver}
 use Rattle.ckpt_machine.specs.Drivers as drivers
 use Rattle.ckpt_machine.proofs.Joining.{joined-attributes, opened_with-identity}
-use Rattle.world_core.specs.declared.snapshots.Background.{Background}
-use Rattle.world_core.specs.Backgrounds.{with_room_for}
-use Rattle.world_core.specs.RecordAfter.{once_change, event_change, event_after, snapshots_behind, with_room_asked}
+use Rattle.ckpt_machine.specs.RecordAfter.{once_change, event_change, event_after}
 
 -- ---- what is left of a list
 
@@ -238,15 +236,14 @@ abbrev pub with_created : CallId → Driver → RecordStep → RecordState → R
 with_created call (drivers.Open o) events.Create R = created_as call o.ask.name o.ask.attrs R
 with_created call driver step R = R
 
--- what holds without one, and with one and the room for its snapshot, holds of it
-pub by_creation : (R : RecordState) (backgrounds : List Background) (P : RecordState → List Background → Type 0) → P R backgrounds → ((call : CallId) (name : List ℕ) (a : CreationAttributes) → P (created_as call name (Some a) R) (with_room_for (R.last_identity + 1) a backgrounds)) →
-    (call : CallId) (x : Driver) (step : RecordStep) → P (with_created call x step R) (snapshots_behind x step R backgrounds)
-by_creation R backgrounds P none one call (drivers.Open o) events.Create = by_attributes o.ask.attrs where
-  by_attributes : (a : Option CreationAttributes) → P (created_as call o.ask.name a R) (with_room_asked (R.last_identity + 1) a backgrounds)
+-- what holds without one, and with one, holds of it
+pub by_creation : (R : RecordState) (P : RecordState → Type 0) → P R → ((call : CallId) (name : List ℕ) (a : CreationAttributes) → P (created_as call name (Some a) R)) → (call : CallId) (x : Driver) (step : RecordStep) → P (with_created call x step R)
+by_creation R P none one call (drivers.Open o) events.Create = by_attributes o.ask.attrs where
+  by_attributes : (a : Option CreationAttributes) → P (created_as call o.ask.name a R)
   by_attributes None = none
   by_attributes (Some a) = one call o.ask.name a
-by_creation R backgrounds P none one call (drivers.Open o) step = none
-by_creation R backgrounds P none one call x step = none
+by_creation R P none one call (drivers.Open o) step = none
+by_creation R P none one call x step = none
 
 -- behind a creation, each checkpoint that was there is there, and the one that is created
 pub created_there : (R : RecordState) → AllUpTo R.last_identity R.entries → (call : CallId) (name : List ℕ) (a : CreationAttributes) (j : ℕ) → entry_of j (created_as call name (Some a) R).entries ≡ cond (j == (R.last_identity + 1)) (Some (new_entry call name a R)) (entry_of j R.entries)
@@ -257,11 +254,11 @@ created_own R up_to call name a = created_there R up_to call name a (R.last_iden
 
 -- and identities rise
 pub created_rises : (R : RecordState) → IdentitiesRise R.entries → AllUpTo R.last_identity R.entries → (call : CallId) (x : Driver) (step : RecordStep) → IdentitiesRise (with_created call x step R).entries
-created_rises R rises up_to = by_creation R [] (λ N b. IdentitiesRise N.entries) rises (λ call name a. IdentitiesRise-push R.last_identity R.entries (new_entry call name a R) rises up_to (omega arith))
+created_rises R rises up_to = by_creation R (λ N. IdentitiesRise N.entries) rises (λ call name a. IdentitiesRise-push R.last_identity R.entries (new_entry call name a R) rises up_to (omega arith))
 
 module _ (R : RecordState) (call : CallId) where
   declared_stays : (x : Driver) (step : RecordStep) → KeepsRecord declared (with_created call x step R) (clients_behind call x R) (event_change call x step R)
-  declared_stays (drivers.Open o) events.Create = (refl, refl, by_creation R [] (λ N b. N.clients ≡ R.clients) refl (λ call name a. refl) call (drivers.Open o) events.Create, kept_all declared (with_created call (drivers.Open o) events.Create R).entries)
+  declared_stays (drivers.Open o) events.Create = (refl, refl, by_creation R (λ N. N.clients ≡ R.clients) refl (λ call name a. refl) call (drivers.Open o) events.Create, kept_all declared (with_created call (drivers.Open o) events.Create R).entries)
   declared_stays (drivers.Open o) events.Open =
       let home = home_of o.ask.client R in
       at_stays declared R (identity_in (named o.ask.name R.entries)) (λ k. opened k o.ask.client R) (one_stays declared R (opened_with home R.up o.ask.client) (opened_with-identity home R.up o.ask.client) (joined-attributes home R.up))
@@ -275,4 +272,4 @@ module _ (R : RecordState) (call : CallId) where
 
   -- and the same nodes are up
   pub event_up : (x : Driver) (step : RecordStep) → (event_after call x step R).up ≡ R.up
-  event_up x step = (event_declared x step).0 ∙ by_creation R [] (λ N b. N.up ≡ R.up) refl (λ call name a. refl) call x step
+  event_up x step = (event_declared x step).0 ∙ by_creation R (λ N. N.up ≡ R.up) refl (λ call name a. refl) call x step

@@ -6,11 +6,11 @@ use Rattle.cluster_record.specs.Placement.{adds}
 use Rattle.cluster_record.specs.Places.{list_or}
 use Rattle.node_core.specs.Nodes.{replica_key, with_reserved}
 use Rattle.replica.specs.Replicas.{Replica, opened_replica}
-use Rattle.world_core.specs.Nodes.{replica_in, with_added, with_opened}
+use Rattle.ckpt_machine.specs.Nodes.{replica_in, with_added, with_opened}
 use Rattle.ckpt_machine.proofs.OnceByKey.{counted, counted-push}
-use Rattle.world_core.specs.Holding.{replicas_on}
-use Rattle.world_core.proofs.HoldingLaws.{once_set}
-use Rattle.world_core.proofs.Reserve.{NoneButThis, reserved_here}
+use Rattle.ckpt_machine.specs.Holding.{replicas_on}
+use Rattle.ckpt_machine.proofs.HoldingLaws.{once_set}
+use Rattle.ckpt_machine.proofs.Reserving.{NoneButThis, reserved_here}
 
 -- the replica that an open of a checkpoint adds
 abbrev pub added_replica : Entry → Replica

@@ -14,7 +14,7 @@ use Rattle.cluster_record.specs.RecordReady.{CanReferAt}
 use Rattle.cluster_record.specs.RecordState.{RecordState, home_of, named}
 use Rattle.cluster_record.proofs.NameLaws.{named-entry}
 use Rattle.cluster_record.proofs.RefusalLaws.{open_answer-made}
-use Rattle.world_core.specs.RecordReady.{HasFound, IsGrantedAt, IsOpenedAs, IsRecordReady}
+use Rattle.ckpt_machine.specs.RecordReady.{HasFound, IsGrantedAt, IsOpenedAs, IsRecordReady}
 
 -- a step that is granted with a checkpoint is not refused, and is on that one
 pub granted_ok : (R : RecordState) (x : Driver) (step : RecordStep) (r : Result (Option ℕ) CallId) (k : Option ℕ) → r ≡ Ok k → IsGrantedAt R x step r → (event_refusal R step x ≡ None) × (k ≡ event_ckpt R x step)

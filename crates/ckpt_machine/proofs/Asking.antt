@@ -14,7 +14,7 @@ use Rattle.node_core.specs.Fitting.{ReplicaFits, RequestFits}
 use Rattle.node_core.specs.Lending.{HasLent}
 use Rattle.node_core.specs.Nodes.{NodeState, replica_key, seen_from, seen_for}
 use Rattle.node_core.specs.Seen.{is_complete}
-use Rattle.world_core.specs.Asking.{IsLentFor, ReplicaMayBeAsked, MayCome, KeepsToDeclared}
+use Rattle.ckpt_machine.specs.Asking.{IsLentFor, ReplicaMayBeAsked, MayCome, KeepsToDeclared}
 
 -- what is pulled keeps to what the snapshot was reserved for
 fits_pulled : (s : Option Snapshot) (x : Replica) → IsSomeAnd s (λ s. s.attributes ≡ x.attributes) → Fits x.attributes x.sections → IsSomeAnd s (λ s. Fits s.attributes x.sections)

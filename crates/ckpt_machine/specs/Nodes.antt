@@ -1,5 +1,5 @@
 -- The nodes of a world, each by its number.
-use Rattle.std.specs.Prelude.{◌≡◌, ℕ, List, length, map, Option, Some, None, slice_get, slice_set, if◌then◌else◌}
+use Rattle.std.specs.Prelude.{◌≡◌, ℕ, List, length, map, Option, Some, None, slice_get, slice_set, if◌then◌else◌, filter}
 use Rattle.ckpt_types.specs.Limits.{nodes_max}
 use Rattle.node_msgs.specs.declared.replies.Reply.{Reply}
 use Rattle.node_msgs.specs.declared.requests.Request.{Request}
@@ -9,7 +9,7 @@ use Rattle.cluster_record.specs.Places.{find_key, change_key, list_or}
 use Rattle.cluster_record.specs.RecordState.{RecordState}
 use Rattle.replica.specs.Replicas.{Replica}
 use Rattle.node_core.specs.Changing.{added_for}
-use Rattle.node_core.specs.Nodes.{NodeState, replica_key, replicas_after, seen_for}
+use Rattle.node_core.specs.Nodes.{NodeState, replica_key, replicas_after, seen_for, is_there}
 use Rattle.node_core.specs.Payloads.{Payload}
 use Rattle.node_core.specs.Seen.{entry_seen}
 
@@ -48,3 +48,9 @@ nodes_shown nodes = map (λ n. n.replicas) nodes
 pub record StandByNumber (nodes : List NodeState) : Type 0 where
   pub eight : length nodes ≡ nodes_max
   pub numbers : (r : ℕ) (n : NodeState) → slice_get nodes r ≡ Some n → n.number ≡ r
+
+-- ---- freed of what is gone
+
+-- on each node, those whose checkpoint has an entry
+abbrev pub freed : List Entry → List (List Replica) → List (List Replica)
+freed entries nodes = map (filter (is_there entries)) nodes

@@ -30,7 +30,7 @@ use Rattle.cluster_record.specs.RecordState.{RecordState, named, entry_of, home_
 use Rattle.cluster_record.specs.LookUps.{identity_in}
 use Rattle.cluster_record.specs.Makings.{IsMakingOf, making_call}
 use Rattle.replica.specs.Replicas.{Replica}
-use Rattle.world_core.specs.Nodes.{replica_in}
+use Rattle.ckpt_machine.specs.Nodes.{replica_in}
 
 -- an open can be asked of the record: by a client's call, as every open, and no number is at its end
 pub record CanAsk (call : CallId) (R : RecordState) (ask : OpenAsk) : Type 0 where

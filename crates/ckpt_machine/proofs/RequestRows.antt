@@ -32,11 +32,11 @@ use Rattle.node_msgs.specs.Steps.{verb_of, word_of}
 use Rattle.ckpt_machine.specs.Machine.{Machine, Effect, Applied, ReplicaState, Snapshot, CallState}
 use Rattle.ckpt_machine.specs.Steps.{changed, on_ok, change_replica, chosen_at, given_at, ids_asked, payload_due, seen_at, with_slot, with_committed, with_applied, with_marks, with_next_element, without_marks, with_installed, seen_snapshot, having_taken, with_tables, staged_moment}
 use Rattle.ckpt_machine.specs.Tables.{started, with_next, gone_on}
-use Rattle.world_core.specs.Shows.{shown_replica, shown_slot, FitsReplica, FitsSlot, FitsSnapshot}
+use Rattle.ckpt_machine.specs.Shown.{shown_replica, shown_slot, FitsReplica, FitsSlot, FitsSnapshot}
 use Rattle.ckpt_machine.proofs.Calls.{IsOwn}
 use Rattle.ckpt_machine.proofs.ByActor.{same_tables}
-use Rattle.world_core.proofs.Carrying.{GoesToReplica, Carries}
-use Rattle.world_core.proofs.Maps.{put2_same}
+use Rattle.ckpt_machine.proofs.Carried.{GoesToReplica, Carries}
+use Rattle.ckpt_machine.proofs.NodeMaps.{put2_same}
 
 -- the effects of the replica, and the origin of its slot, after a request of a call
 

@@ -11,7 +11,7 @@ use Rattle.ckpt_machine.specs.Drivers.{Driver}
 use Rattle.ckpt_machine.specs.Drivers as drivers
 use Rattle.ckpt_types.specs.declared.identities.CallId.{CallId}
 use Rattle.cluster_record.specs.RecordState.{RecordState, named}
-use Rattle.drive_open.specs.OpenStates.{found_in}
+use Rattle.cluster_record.specs.Opening.{found_in}
 
 -- how a label tells that reply
 abbrev pub refusal_word : Reply → StepReply

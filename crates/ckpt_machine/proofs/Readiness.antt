@@ -14,7 +14,7 @@ use Rattle.ckpt_machine.specs.Drivers as drivers
 use Rattle.cluster_record.specs.declared.entries.Entry.{Entry}
 use Rattle.cluster_record.specs.Placement.{adds}
 use Rattle.cluster_record.specs.RecordState.{RecordState, entry_of, named, home_of}
-use Rattle.world_core.specs.RecordReady.{CanAsk, IsRecordReady}
+use Rattle.ckpt_machine.specs.RecordReady.{CanAsk, IsRecordReady}
 use Rattle.cluster_record.specs.declared.opening.OpenAnswer.TheVariants.{Opened, Made, Refused}
 use Rattle.ckpt_machine.specs.Driving.{event_refusal, refusal_in}
 use Rattle.ckpt_machine.specs.Facts.{FitsOpen, IsEventReady}

@@ -15,22 +15,21 @@ use Rattle.cluster_record.specs.declared.calls.Making.{Making}
 use Rattle.cluster_record.specs.declared.entries.Entry.{Entry}
 use Rattle.replica.specs.Replicas.{Replica, opened_replica}
 use Rattle.ckpt_machine.specs.Steps.{reservation_under}
-use Rattle.world_core.specs.declared.world.World.{World}
 use Rattle.cluster_record.specs.Places.{change_key}
 use Rattle.ckpt_types.specs.declared.calls.OpenAsk.{OpenAsk}
 use Rattle.cluster_record.specs.Opening.{answer_named, open_answer}
 use Rattle.cluster_record.specs.Placement.{targets, is_collocated, adds}
 use Rattle.cluster_record.specs.RecordState.{RecordState, identity_of, entry_of, named, stays, referred, opened_with, home_of, made_with, new_entry, created_as, opened, finished, undone, swept}
-use Rattle.world_core.specs.Nodes.{replica_in, with_added, with_opened}
-use Rattle.world_core.specs.RecordAfter.{event_change, event_after, nodes_behind}
+use Rattle.ckpt_machine.specs.Nodes.{replica_in, with_added, with_opened}
+use Rattle.ckpt_machine.specs.RecordAfter.{event_change, event_after, nodes_behind}
 use Rattle.cluster_record.specs.DueOpen.{making_ckpt}
 use Rattle.cluster_record.specs.LookUps.{at_ckpt, identity_in}
 use Rattle.ckpt_machine.specs.Machine.{Machine, CallState}
 use Rattle.cluster_record.specs.Identities.{IdentitiesRise}
-use Rattle.world_core.specs.Holding.{replicas_on, HoldsOnlyWhatStands}
-use Rattle.world_core.specs.RecordReady.{CanAdd, HasNoneOf}
+use Rattle.ckpt_machine.specs.Holding.{replicas_on, HoldsOnlyWhatStands}
+use Rattle.ckpt_machine.specs.RecordReady.{CanAdd, HasNoneOf}
 use Rattle.ckpt_machine.specs.Facts.{Facts, FitsOpen, IsEventReady, AllReserved, NoneReservedElse, IsFinishable}
-use Rattle.world_core.specs.Shows.{History, machine_of, shown_reservation}
+use Rattle.ckpt_machine.specs.Shown.{shown_reservation, reserved_in}
 use Rattle.cluster_record.proofs.IdentityLaws.{IsLeft, KeepsIdentity, entry_of-beyond, IdentitiesRise-change_key, IdentitiesRise-push, filter_leaves}
 use Rattle.cluster_record.proofs.Places.{find_changed}
 use Rattle.ckpt_machine.specs.Driving.{event_refusal, refusal_in}
@@ -39,12 +38,12 @@ use Rattle.ckpt_machine.proofs.OptionLemmas.{IsSomeAnd-at}
 use Rattle.ckpt_machine.proofs.OnceByKey.{counted}
 use Rattle.node_core.specs.Nodes.{replica_key}
 use Rattle.cluster_record.proofs.NameLaws.{named-entry}
-use Rattle.world_core.proofs.Adding.{added_replica, added_here, added_once, opened_none, opened_adds}
-use Rattle.world_core.proofs.HoldingLaws.{held_at, none_gone, opening_there}
-use Rattle.world_core.proofs.KeptEntries.{IsKept, Sight, sight, Keeps, IsQuiet, created_there, kept_all, undone_stays, swept_stays, quiet_stays}
-use Rattle.world_core.proofs.Readiness.{made_as}
+use Rattle.ckpt_machine.proofs.Adding.{added_replica, added_here, added_once, opened_none, opened_adds}
+use Rattle.ckpt_machine.proofs.HoldingLaws.{held_at, none_gone, opening_there}
+use Rattle.ckpt_machine.proofs.KeptEntries.{IsKept, Sight, sight, Keeps, IsQuiet, created_there, kept_all, undone_stays, swept_stays, quiet_stays}
+use Rattle.ckpt_machine.proofs.Readiness.{made_as}
 use Rattle.ckpt_machine.proofs.Targets.{target-up}
-use Rattle.world_core.proofs.Recording.{IsUpIn, GoesAt, NodeGoes, zero_there}
+use Rattle.ckpt_machine.proofs.GoesAt.{IsUpIn, GoesAt, NodeGoes, zero_there}
 
 -- ---- a node that has reserved
 
@@ -124,33 +123,31 @@ length-behind (drivers.Open o) events.Open R nodes = opened_length (named o.ask.
 length-behind (drivers.Once x) step R nodes = refl
 length-behind x step R nodes = refl
 
-module _ (w : World) (h : History) (facts : Facts (machine_of w h)) (holds : HoldsOnlyWhatStands w.cluster w.nodes) where
-  abbrev m : Machine
-  m = machine_of w h
-
+-- m is shown by the nodes, as far as they have reserved
+module _ (m : Machine) (nodes : List (List Replica)) (reserved : (k r : ℕ) → reserved_in m.cluster nodes k r ≡ m.reserved k r) (facts : Facts m) (holds : HoldsOnlyWhatStands m.cluster nodes) where
   abbrev R : RecordState
-  R = w.cluster
+  R = m.cluster
 
   -- the entries after a step of the record, before the sweep: each goes on, and they rise
   abbrev Goes : RecordState → Type 0
-  Goes N = ((j r : ℕ) → GoesAt R.up j (entry_of j R.entries) (entry_of j N.entries) r (replica_in w.nodes j r) (replica_in w.nodes j r)) × IdentitiesRise N.entries
+  Goes N = ((j r : ℕ) → GoesAt R.up j (entry_of j R.entries) (entry_of j N.entries) r (replica_in nodes j r) (replica_in nodes j r)) × IdentitiesRise N.entries
 
   -- of a step of which a node sees nothing but what goes
   stays_go : (N : RecordState) → Keeps sight R.entries N.entries → Goes N
-  stays_go N keeps = (λ j r. goes_kept R.up j (entry_of j R.entries) (entry_of j N.entries) r (replica_in w.nodes j r) (replica_in w.nodes j r) refl (keeps.each j), keeps.rises)
+  stays_go N keeps = (λ j r. goes_kept R.up j (entry_of j R.entries) (entry_of j N.entries) r (replica_in nodes j r) (replica_in nodes j r) refl (keeps.each j), keeps.rises)
 
   created_go : (call : CallId) (name : List ℕ) (a : Option CreationAttributes) → Goes (created_as call name a R)
   created_go call name None = stays_go R (kept_all sight R.entries facts.rises)
   created_go call name (Some a) = (
-    λ j r. subst (λ (o : Option Entry). GoesAt R.up j (entry_of j R.entries) o r (replica_in w.nodes j r) (replica_in w.nodes j r)) (sym (created_there R facts.up_to call name a j)) (by_test j r (j == (R.last_identity + 1)) refl),
+    λ j r. subst (λ (o : Option Entry). GoesAt R.up j (entry_of j R.entries) o r (replica_in nodes j r) (replica_in nodes j r)) (sym (created_there R facts.up_to call name a j)) (by_test j r (j == (R.last_identity + 1)) refl),
     IdentitiesRise-push R.last_identity R.entries (new_entry call name a R) facts.rises facts.up_to (omega arith),
   )
     where
-      by_test : (j r : ℕ) (b : Bool) → (j == (R.last_identity + 1)) ≡ b → GoesAt R.up j (entry_of j R.entries) (cond b (Some (new_entry call name a R)) (entry_of j R.entries)) r (replica_in w.nodes j r) (replica_in w.nodes j r)
-      by_test j r false t = goes_kept R.up j (entry_of j R.entries) (entry_of j R.entries) r (replica_in w.nodes j r) (replica_in w.nodes j r) refl (inr refl)
+      by_test : (j r : ℕ) (b : Bool) → (j == (R.last_identity + 1)) ≡ b → GoesAt R.up j (entry_of j R.entries) (cond b (Some (new_entry call name a R)) (entry_of j R.entries)) r (replica_in nodes j r) (replica_in nodes j r)
+      by_test j r false t = goes_kept R.up j (entry_of j R.entries) (entry_of j R.entries) r (replica_in nodes j r) (replica_in nodes j r) refl (inr refl)
       by_test j r true t =
           let none : entry_of j R.entries ≡ None = entry_of-beyond R.last_identity j R.entries facts.up_to (let is : j ≡ R.last_identity + 1 = eqb-true j (R.last_identity + 1) t in omega (arith, is)) in
-          subst (λ (o : Option Entry). GoesAt R.up j o (Some (new_entry call name a R)) r (replica_in w.nodes j r) (replica_in w.nodes j r)) (sym none) (zero_there r, none_gone R w.nodes holds j r none)
+          subst (λ (o : Option Entry). GoesAt R.up j o (Some (new_entry call name a R)) r (replica_in nodes j r) (replica_in nodes j r)) (sym none) (zero_there r, none_gone R nodes holds j r none)
 
   finished_go : (c : ℕ) (s : CallState) (making : Option Making) → IsFinishable m c making → Goes (at_ckpt (making_ckpt making) R (λ k. finished k c R))
   finished_go c s None ready = absurd ready
@@ -159,26 +156,26 @@ module _ (w : World) (h : History) (facts : Facts (machine_of w h)) (holds : Hol
       let there = IsSomeAnd-at (entry_of k R.entries) (λ (e : Entry). AllReserved m c k e × NoneReservedElse m c k e × (e.generation ≡ 1) × ((r : ℕ) → slice_index e.complete r ≡ 0)) ready in
       let e : Entry = there.0 in
       let is : entry_of k R.entries ≡ Some e = there.1 in
-      let has : (r : ℕ) → (slice_index (targets e.attributes (home_of c R) R.up) r == 0) ≡ false → IsUpIn R.up r × (replica_in w.nodes k r ≡ Some (opened_replica k e.attributes e.made)) = λ r target.
-      let here : replica_in w.nodes k r ≡ Some (opened_replica k e.attributes e.made) = reserved_there k r (slice_index R.up r) (entry_of k R.entries) e (replica_in w.nodes k r) is (there.2.3 r) (there.2.0 r target) (λ x. opening_there R w.nodes holds k r e x is (there.2.3 r)) in
-      ((held_at R w.nodes holds k r (opened_replica k e.attributes e.made) here).0.up, here) in
-      let has_not = λ (r : ℕ) (none : (slice_index (targets e.attributes (home_of c R) R.up) r == 0) ≡ true). unreserved_there r (slice_index R.up r) (entry_of k R.entries) e (replica_in w.nodes k r) is (there.2.3 r) (there.2.1 r none) in (
-        λ j r. changed_goes R.up (made_with (home_of c R) R.up c) (λ e. refl) k j r R.entries e (replica_in w.nodes j r) (replica_in w.nodes j r) is
-            (λ s. subst (λ (j : ℕ). GoesAt R.up j (Some e) (Some (made_with (home_of c R) R.up c e)) r (replica_in w.nodes j r) (replica_in w.nodes j r)) (sym s) (made_goes R.up (home_of c R) c k r e (replica_in w.nodes k r) (there.2.3 r) (has r) (has_not r))) (λ other. refl),
+      let has : (r : ℕ) → (slice_index (targets e.attributes (home_of c R) R.up) r == 0) ≡ false → IsUpIn R.up r × (replica_in nodes k r ≡ Some (opened_replica k e.attributes e.made)) = λ r target.
+      let here : replica_in nodes k r ≡ Some (opened_replica k e.attributes e.made) = reserved_there k r (slice_index R.up r) (entry_of k R.entries) e (replica_in nodes k r) is (there.2.3 r) (reserved k r ∙ there.2.0 r target) (λ x. opening_there R nodes holds k r e x is (there.2.3 r)) in
+      ((held_at R nodes holds k r (opened_replica k e.attributes e.made) here).0.up, here) in
+      let has_not = λ (r : ℕ) (none : (slice_index (targets e.attributes (home_of c R) R.up) r == 0) ≡ true). unreserved_there r (slice_index R.up r) (entry_of k R.entries) e (replica_in nodes k r) is (there.2.3 r) (reserved k r ∙ there.2.1 r none) in (
+        λ j r. changed_goes R.up (made_with (home_of c R) R.up c) (λ e. refl) k j r R.entries e (replica_in nodes j r) (replica_in nodes j r) is
+            (λ s. subst (λ (j : ℕ). GoesAt R.up j (Some e) (Some (made_with (home_of c R) R.up c e)) r (replica_in nodes j r) (replica_in nodes j r)) (sym s) (made_goes R.up (home_of c R) c k r e (replica_in nodes k r) (there.2.3 r) (has r) (has_not r))) (λ other. refl),
         IdentitiesRise-change_key (made_with (home_of c R) R.up c) (λ e. refl) k R.entries facts.rises,
       )
 
   -- what a step does that the record does not refuse, with what the nodes have behind it
-  record GoesOn (N : RecordState) (nodes : List (List Replica)) : Type 0 where
-    goes : (j r : ℕ) → GoesAt R.up j (entry_of j R.entries) (entry_of j N.entries) r (replica_in w.nodes j r) (replica_in nodes j r)
+  record GoesOn (N : RecordState) (then : List (List Replica)) : Type 0 where
+    goes : (j r : ℕ) → GoesAt R.up j (entry_of j R.entries) (entry_of j N.entries) r (replica_in nodes j r) (replica_in then j r)
     rises : IdentitiesRise N.entries
-    once : (r k : ℕ) → counted replica_key k (replicas_on nodes r) ≤ 1
+    once : (r k : ℕ) → counted replica_key k (replicas_on then r) ≤ 1
 
   -- most add nothing
-  on : (N : RecordState) → Goes N → GoesOn N w.nodes
+  on : (N : RecordState) → Goes N → GoesOn N nodes
   on N go = record { goes = go.0; rises = go.1; once = holds.once }
 
-  quietly : (call : CallId) (x : Driver) (step : RecordStep) → IsQuiet x step → GoesOn (event_change call x step R) w.nodes
+  quietly : (call : CallId) (x : Driver) (step : RecordStep) → IsQuiet x step → GoesOn (event_change call x step R) nodes
   quietly call x step quiet = on (event_change call x step R) (stays_go (event_change call x step R) ((quiet_stays sight R (λ f q. q) call x step quiet).3 facts.rises))
 
   -- an open of a checkpoint that is there may
@@ -202,13 +199,13 @@ module _ (w : World) (h : History) (facts : Facts (machine_of w h)) (holds : Hol
     rises = IdentitiesRise-change_key (opened_with home R.up ask.client) (opened_with-identity home R.up ask.client) e.identity R.entries facts.rises
 
     -- no other entry changes
-    goes_as : (nodes : List (List Replica)) → ((r : ℕ) → GoesAt R.up e.identity (Some e) (Some f) r (replica_in w.nodes e.identity r) (replica_in nodes e.identity r)) → ((j r : ℕ) → (j == e.identity) ≡ false → replica_in nodes j r ≡ replica_in w.nodes j r) →
-        (j r : ℕ) → GoesAt R.up j (entry_of j R.entries) (entry_of j N.entries) r (replica_in w.nodes j r) (replica_in nodes j r)
-    goes_as nodes goes other j r = changed_goes R.up (opened_with home R.up ask.client) (opened_with-identity home R.up ask.client) e.identity j r R.entries e (replica_in w.nodes j r) (replica_in nodes j r) there
-        (λ same. subst (λ (j : ℕ). GoesAt R.up j (Some e) (Some f) r (replica_in w.nodes j r) (replica_in nodes j r)) (sym same) (goes r)) (other j r)
+    goes_as : (then : List (List Replica)) → ((r : ℕ) → GoesAt R.up e.identity (Some e) (Some f) r (replica_in nodes e.identity r) (replica_in then e.identity r)) → ((j r : ℕ) → (j == e.identity) ≡ false → replica_in then j r ≡ replica_in nodes j r) →
+        (j r : ℕ) → GoesAt R.up j (entry_of j R.entries) (entry_of j N.entries) r (replica_in nodes j r) (replica_in then j r)
+    goes_as then goes other j r = changed_goes R.up (opened_with home R.up ask.client) (opened_with-identity home R.up ask.client) e.identity j r R.entries e (replica_in nodes j r) (replica_in then j r) there
+        (λ same. subst (λ (j : ℕ). GoesAt R.up j (Some e) (Some f) r (replica_in nodes j r) (replica_in then j r)) (sym same) (goes r)) (other j r)
 
-    opened_without : adds e.attributes home e.complete ≡ false → GoesOn N w.nodes
-    opened_without none = on N (goes_as w.nodes (λ r. opened_as R.up home ask.client r e (replica_in w.nodes e.identity r) none) (λ j r other. refl), rises)
+    opened_without : adds e.attributes home e.complete ≡ false → GoesOn N nodes
+    opened_without none = on N (goes_as nodes (λ r. opened_as R.up home ask.client r e (replica_in nodes e.identity r) none) (λ j r other. refl), rises)
 
     -- where it adds a replica
     module _ (new : adds e.attributes home e.complete ≡ true) where
@@ -222,44 +219,44 @@ module _ (w : World) (h : History) (facts : Facts (machine_of w h)) (holds : Hol
       among = subst (λ n. home < n) (sym (fits made).1.nodes) on_node
 
       -- the node has none yet
-      none_yet : replica_in w.nodes e.identity home ≡ None
-      none_yet = unreserved_there home (slice_index R.up home) (entry_of e.identity R.entries) e (replica_in w.nodes e.identity home) there free (fits made).1.unreserved
+      none_yet : replica_in nodes e.identity home ≡ None
+      none_yet = unreserved_there home (slice_index R.up home) (entry_of e.identity R.entries) e (replica_in nodes e.identity home) there free (reserved e.identity home ∙ (fits made).1.unreserved)
 
-      opened_adding : length w.nodes ≡ 8 → GoesOn N (with_added e home w.nodes)
+      opened_adding : length nodes ≡ 8 → GoesOn N (with_added e home nodes)
       opened_adding eight =
-          let within : home < length w.nodes = subst (λ n. home < n) (sym eight) on_node in
-          let at = added_here w.nodes home e within none_yet in
+          let within : home < length nodes = subst (λ n. home < n) (sym eight) on_node in
+          let at = added_here nodes home e within none_yet in
           record {
-            goes = goes_as (with_added e home w.nodes)
-                (λ r. added_goes R.up home ask.client r e (replica_in w.nodes e.identity r) (replica_in (with_added e home w.nodes) e.identity r) new among free (fits made).1.up
-                (λ same. at e.identity r ∙ (λ i. cond (eq-eqb e.identity e.identity refl i && eq-eqb r home same i) (Some (added_replica e)) (replica_in w.nodes e.identity r)))
-                (λ other. at e.identity r ∙ (λ i. cond (eq-eqb e.identity e.identity refl i && other i) (Some (added_replica e)) (replica_in w.nodes e.identity r))))
-                (λ j r other. at j r ∙ (λ i. cond (other i && (r == home)) (Some (added_replica e)) (replica_in w.nodes j r)));
+            goes = goes_as (with_added e home nodes)
+                (λ r. added_goes R.up home ask.client r e (replica_in nodes e.identity r) (replica_in (with_added e home nodes) e.identity r) new among free (fits made).1.up
+                (λ same. at e.identity r ∙ (λ i. cond (eq-eqb e.identity e.identity refl i && eq-eqb r home same i) (Some (added_replica e)) (replica_in nodes e.identity r)))
+                (λ other. at e.identity r ∙ (λ i. cond (eq-eqb e.identity e.identity refl i && other i) (Some (added_replica e)) (replica_in nodes e.identity r))))
+                (λ j r other. at j r ∙ (λ i. cond (other i && (r == home)) (Some (added_replica e)) (replica_in nodes j r)));
             rises = rises;
-            once = added_once w.nodes home e within none_yet holds.once;
+            once = added_once nodes home e within none_yet holds.once;
           }
 
-    opened_on : length w.nodes ≡ 8 → GoesOn N (with_opened (Some e) home w.nodes)
+    opened_on : length nodes ≡ 8 → GoesOn N (with_opened (Some e) home nodes)
     opened_on eight = by_test (adds e.attributes home e.complete) refl where
-      by_test : (b : Bool) → adds e.attributes home e.complete ≡ b → GoesOn N (with_opened (Some e) home w.nodes)
-      by_test false none = subst (GoesOn N) (opened_none (Some e) e home w.nodes refl none) (opened_without none)
-      by_test true new = subst (GoesOn N) (opened_adds (Some e) e home w.nodes refl new) (opened_adding new eight)
+      by_test : (b : Bool) → adds e.attributes home e.complete ≡ b → GoesOn N (with_opened (Some e) home nodes)
+      by_test false none = subst (GoesOn N) (opened_none (Some e) e home nodes refl none) (opened_without none)
+      by_test true new = subst (GoesOn N) (opened_adds (Some e) e home nodes refl new) (opened_adding new eight)
 
-  opened_go : (ask : OpenAsk) (o : Option Entry) → named ask.name R.entries ≡ o → length w.nodes ≡ 8 → refusal_in (open_answer R ask) ≡ None → IsSomeAnd o (FitsOpen m ask) → GoesOn (at_ckpt (identity_in o) R (λ k. opened k ask.client R)) (with_opened o (home_of ask.client R) w.nodes)
+  opened_go : (ask : OpenAsk) (o : Option Entry) → named ask.name R.entries ≡ o → length nodes ≡ 8 → refusal_in (open_answer R ask) ≡ None → IsSomeAnd o (FitsOpen m ask) → GoesOn (at_ckpt (identity_in o) R (λ k. opened k ask.client R)) (with_opened o (home_of ask.client R) nodes)
   opened_go ask None found eight granted fits = absurd fits
   opened_go ask (Some e) found eight granted fits = opened_on ask e found granted fits eight
 
   -- what an open adds, the node does not have yet
-  opened_free : (ask : OpenAsk) (o : Option Entry) → named ask.name R.entries ≡ o → refusal_in (open_answer R ask) ≡ None → IsSomeAnd o (FitsOpen m ask) → HasNoneOf o (home_of ask.client R) w.nodes
+  opened_free : (ask : OpenAsk) (o : Option Entry) → named ask.name R.entries ≡ o → refusal_in (open_answer R ask) ≡ None → IsSomeAnd o (FitsOpen m ask) → HasNoneOf o (home_of ask.client R) nodes
   opened_free ask None found granted fits = tt
   opened_free ask (Some e) found granted fits = none_yet ask e found granted fits
 
-  pub event_free : (s : CallState) (x : Driver) (step : RecordStep) → event_refusal R step x ≡ None → IsEventReady m s x step → CanAdd x step R w.nodes
+  pub event_free : (s : CallState) (x : Driver) (step : RecordStep) → event_refusal R step x ≡ None → IsEventReady m s x step → CanAdd x step R nodes
   event_free s (drivers.Open o) events.Open granted ready = opened_free o.ask (named o.ask.name R.entries) refl granted ready.0
   event_free s (drivers.Once x) step granted ready = tt
   event_free s x step granted ready = tt
 
-  change_go : (call : CallId) (s : CallState) (x : Driver) (step : RecordStep) → length w.nodes ≡ 8 → event_refusal R step x ≡ None → IsEventReady m s x step → GoesOn (event_change call x step R) (nodes_behind x step R w.nodes)
+  change_go : (call : CallId) (s : CallState) (x : Driver) (step : RecordStep) → length nodes ≡ 8 → event_refusal R step x ≡ None → IsEventReady m s x step → GoesOn (event_change call x step R) (nodes_behind x step R nodes)
   change_go call s (drivers.Open o) events.Create eight granted ready = on (created_as call o.ask.name o.ask.attrs R) (created_go call o.ask.name o.ask.attrs)
   change_go call s (drivers.Open o) events.Open eight granted ready = opened_go o.ask (named o.ask.name R.entries) refl eight granted ready.0
   change_go call s (drivers.Open o) events.Finish eight granted ready = on _ (finished_go o.ask.client s o.making ready.0)
@@ -267,22 +264,22 @@ module _ (w : World) (h : History) (facts : Facts (machine_of w h)) (holds : Hol
   change_go call s x step eight granted ready = quietly call x step tt
 
   -- and after the sweep
-  module _ (call : CallId) (s : CallState) (x : Driver) (step : RecordStep) (eight : length w.nodes ≡ 8) (granted : event_refusal R step x ≡ None) (ready : IsEventReady m s x step) where
-    abbrev nodes : List (List Replica)
-    nodes = nodes_behind x step R w.nodes
+  module _ (call : CallId) (s : CallState) (x : Driver) (step : RecordStep) (eight : length nodes ≡ 8) (granted : event_refusal R step x ≡ None) (ready : IsEventReady m s x step) where
+    abbrev then : List (List Replica)
+    then = nodes_behind x step R nodes
 
     abbrev between : RecordState
     between = event_change call x step R
 
-    on_going : GoesOn between nodes
+    on_going : GoesOn between then
     on_going = change_go call s x step eight granted ready
 
-    pub event_goes : (j r : ℕ) → GoesAt R.up j (entry_of j R.entries) (entry_of j (event_after call x step R).entries) r (replica_in w.nodes j r) (replica_in nodes j r)
-    event_goes j r = goes_left R.up j (entry_of j R.entries) (entry_of j between.entries) (entry_of j (filter (stays between.moment) between.entries)) r (replica_in w.nodes j r) (replica_in nodes j r) (on_going.goes j r) (filter_leaves (stays between.moment) between.entries on_going.rises j)
+    pub event_goes : (j r : ℕ) → GoesAt R.up j (entry_of j R.entries) (entry_of j (event_after call x step R).entries) r (replica_in nodes j r) (replica_in then j r)
+    event_goes j r = goes_left R.up j (entry_of j R.entries) (entry_of j between.entries) (entry_of j (filter (stays between.moment) between.entries)) r (replica_in nodes j r) (replica_in then j r) (on_going.goes j r) (filter_leaves (stays between.moment) between.entries on_going.rises j)
 
-    pub event_once : (r k : ℕ) → counted replica_key k (replicas_on nodes r) ≤ 1
+    pub event_once : (r k : ℕ) → counted replica_key k (replicas_on then r) ≤ 1
     event_once = on_going.once
 
   -- and where a making is undone in between
-  pub unmade_goes : (k j r : ℕ) → GoesAt R.up j (entry_of j R.entries) (entry_of j (swept (undone k R)).entries) r (replica_in w.nodes j r) (replica_in w.nodes j r)
+  pub unmade_goes : (k j r : ℕ) → GoesAt R.up j (entry_of j R.entries) (entry_of j (swept (undone k R)).entries) r (replica_in nodes j r) (replica_in nodes j r)
   unmade_goes k = (stays_go (swept (undone k R)) ((swept_stays sight R R.clients (undone k R) (undone_stays sight R k)).3 facts.rises)).0

@@ -13,21 +13,21 @@ use Rattle.cluster_record.specs.declared.entries.Entry.{Entry}
 use Rattle.cluster_record.specs.Places.{find_key, change_key, list_or}
 use Rattle.cluster_record.specs.RecordState.{RecordState, entry_of, is_up}
 use Rattle.replica.specs.Replicas.{Replica, applied_by, committed, element_done, is_older, taken_from, opened_replica, outcome_on}
-use Rattle.world_core.specs.Holding.{replicas_on, IsReservation, IsHeld, HoldsOnlyWhatStands}
+use Rattle.ckpt_machine.specs.Holding.{replicas_on, IsReservation, IsHeld, HoldsOnlyWhatStands}
 use Rattle.node_core.specs.Nodes.{NodeState, replica_key, replicas_after, reserved_for, seen_for, with_reserved, replicas_reserved}
 use Rattle.node_core.specs.Payloads.{Payload}
 use Rattle.node_core.specs.Seen.{RecordSeen, record_seen, entry_seen, is_complete, is_complete_in}
 use Rattle.node_core.specs.Serving.{replica_after, generation_seen, installed_of}
 use Rattle.snap_copy.specs.Snapshots.{Snapshot}
 use Rattle.ckpt_machine.specs.Facts.{IsReservable}
-use Rattle.world_core.specs.Nodes.{nodes_after, replica_in, with_changed}
+use Rattle.ckpt_machine.specs.Nodes.{nodes_after, replica_in, with_changed}
 use Rattle.stage_slot.specs.Slots.{Slot}
 use Rattle.weak_marks.specs.Marks.{Marked}
 use Rattle.ckpt_types.specs.Sections.{Section}
 use Rattle.ckpt_types.specs.Updates.{Refusal}
 use Rattle.cluster_record.proofs.Places.{find_changed, find_pushed, get_set, not_changed, there_is}
 use Rattle.ckpt_machine.proofs.OnceByKey.{counted, counted-change_key, counted-push, found_in, found_once}
-use Rattle.world_core.proofs.Openings.{slice_get-replicate}
+use Rattle.ckpt_machine.proofs.NodeLists.{slice_get-replicate}
 
 -- under an entry a replica stands: the node is complete in its present incarnation, or has reserved in it
 abbrev pub StandsFor : RecordState → ℕ → Replica → Entry → Type 0
