@@ -32,18 +32,22 @@ use Rattle.ckpt_machine.specs.Acknowledged.{IsUpdateWord, Acknowledges, ckpt_nam
 use Rattle.ckpt_machine.specs.AllOrNone.{OneUpdate, IsOfOne}
 use Rattle.ckpt_types.specs.Asks.{asked, update_asked, update_of}
 use Rattle.ckpt_machine.specs.Complete.{with_replica, replicas_from, complete_replicas}
-use Rattle.ckpt_machine.specs.Guards.{OnEach, OnAll, CommitOk, ApplyOk, AreMarksOf, IsOnOwn, Row, Allowed, ends_update}
+use Rattle.ckpt_machine.specs.Guards.{IsOnOwn, Row, Allowed}
+use Rattle.ckpt_machine.specs.ActiveGuards.{ApplyOk, AreMarksOf}
+use Rattle.ckpt_machine.specs.UpdateGuards.{CommitOk, ends_update}
+use Rattle.ckpt_machine.specs.GuardTerms.{OnEach, OnAll}
 use Rattle.ckpt_machine.specs.Invariant.{Invariant}
 use Rattle.ckpt_machine.specs.Laws.{OfEachRun}
 use Rattle.ckpt_machine.specs.Listing.{is_active}
 use Rattle.ckpt_machine.specs.Machine.{Machine, Applied, Effect, ReplicaState, Snapshot, Staged, CallState, who}
-use Rattle.ckpt_machine.specs.Options.{is_all}
+use Rattle.cluster_record.specs.Placement.{is_all}
 use Rattle.ckpt_machine.specs.Owned.{OwnsNothing}
 use Rattle.ckpt_machine.specs.Propagation.{replica_from}
 use Rattle.ckpt_machine.specs.Runs.{last, IsRun}
 use Rattle.node_core.specs.Serving.{update_answer}
 use Rattle.ckpt_machine.specs.Shape.{IsCompleteOn}
-use Rattle.ckpt_machine.specs.Steps.{Told, IsDue, with_record, record_step, created_for, retained_for, change_replica, with_committed, committed_slot, with_applied, having_taken, with_marks, with_next_element, without_marks, marks_ended, with_slot, effect_of, with_lead, changed, on_ok, on_look, without_making, at_some, replica_under, opened_state, stepped, step_of, staged_moment, after}
+use Rattle.ckpt_machine.specs.After.{with_record, record_step, created_for, retained_for, change_replica, with_committed, committed_slot, with_applied, having_taken, with_marks, with_next_element, without_marks, marks_ended, with_slot, effect_of, with_lead, changed, on_ok, on_look, without_making, at_some, replica_under, opened_state, stepped, step_of, staged_moment, after}
+use Rattle.ckpt_machine.specs.Due.{Told, IsDue}
 use Rattle.ckpt_machine.proofs.Activating.{made_where_complete, led_by, LeadsFrom, Leads, leader, with_leader, leader-cases, found_led, led_made, led_entry, after_activate}
 use Rattle.ckpt_machine.proofs.ActiveNode.{active_complete}
 use Rattle.ckpt_machine.proofs.AllOrNone.{all_or_none}

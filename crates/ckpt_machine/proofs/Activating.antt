@@ -15,13 +15,15 @@ use Rattle.cluster_record.specs.Places.{put2}
 use Rattle.cluster_record.specs.RecordState.{RecordState, entry_of, identity_of, complete_of, stays, swept, can_lead, generation_under, with_active, active_set}
 use Rattle.cluster_record.specs.StepDone.{generation_in}
 use Rattle.cluster_record.proofs.IdentityLaws.{IdentitiesRise-change_key, IdentitiesRise-filter}
-use Rattle.ckpt_machine.specs.Guards.{MayLead, ActivateOk, IsOnOwn, Row}
+use Rattle.ckpt_machine.specs.Guards.{IsOnOwn, Row}
+use Rattle.ckpt_machine.specs.ActiveGuards.{MayLead, ActivateOk}
 use Rattle.ckpt_machine.specs.Invariant.{Invariant}
 use Rattle.ckpt_machine.specs.Listing.{is_active}
 use Rattle.ckpt_machine.specs.Machine.{Machine, ReplicaState, CallState, who}
 use Rattle.ckpt_machine.specs.Propagation.{copied}
 use Rattle.ckpt_machine.specs.Shape.{IsCompleteOn}
-use Rattle.ckpt_machine.specs.Steps.{Told, with_record, record_step, change_replica, with_lead, led_from, changed, replica_under, opened_state}
+use Rattle.ckpt_machine.specs.After.{with_record, record_step, change_replica, with_lead, led_from, changed, replica_under, opened_state}
+use Rattle.ckpt_machine.specs.Due.{Told}
 use Rattle.ckpt_machine.proofs.Copying.{put2-cases}
 use Rattle.ckpt_machine.proofs.Entries.{ComesOf-filter}
 use Rattle.ckpt_machine.proofs.EntryLists.{find_key-change_key}

@@ -38,8 +38,11 @@ use Rattle.weak_marks.specs.Marks.{Marked}
 use Rattle.ckpt_machine.specs.Machine.{Machine, CallState, who}
 use Rattle.node_core.specs.Serving.{read_details, reply_at, details_at, done_or_refused, next_reply, next_details}
 use Rattle.node_core.specs.Seen.{record_seen, entry_seen}
-use Rattle.ckpt_machine.specs.Steps.{Told, IsDone, IsServed, driver_of, seen, seen_at, rooms_of, ids_asked, payload_due, details_due, with_tables, given_at, chosen_at}
-use Rattle.ckpt_machine.specs.Guards.{IterOk, NextAnswer, LookRefused, ChangeLook, HasNoActive, NoActiveLook, OnHeldBy}
+use Rattle.ckpt_machine.specs.After.{with_tables, given_at, chosen_at}
+use Rattle.ckpt_machine.specs.Due.{Told, IsDone, IsServed, driver_of, rooms_of, ids_asked, payload_due, details_due}
+use Rattle.ckpt_machine.specs.Seen.{seen, seen_at}
+use Rattle.ckpt_machine.specs.LookGuards.{LookRefused, ChangeLook, HasNoActive, NoActiveLook, OnHeldBy}
+use Rattle.ckpt_machine.specs.ActiveGuards.{IterOk, NextAnswer}
 use Rattle.ckpt_machine.specs.Shape.{Shape, IsSpread}
 use Rattle.ckpt_machine.proofs.ActiveNode.{AsksOf, by_kind, ActiveOf, active_of, active_seen, on_its_replica, active_next-there}
 use Rattle.ckpt_machine.proofs.ActiveSteps.{gone_ends}

@@ -28,10 +28,11 @@ use Rattle.ckpt_machine.specs.Invariant.{IsGoodIn, IsOfGeneration, InvariantIn}
 use Rattle.ckpt_types.specs.declared.update.IoElement.{IoElement}
 use Rattle.ckpt_types.specs.declared.update.Update.{Update}
 use Rattle.ckpt_types.specs.declared.update.Update.TheVariants as updates
-use Rattle.ckpt_machine.specs.Options.{is_all, is_by_element}
+use Rattle.ckpt_machine.specs.Options.{is_by_element}
+use Rattle.cluster_record.specs.Placement.{is_all}
 use Rattle.ckpt_machine.specs.Machine.{Machine, ReplicaState}
-use Rattle.ckpt_machine.specs.Steps.{seen, seen_at, seen_by}
-use Rattle.ckpt_machine.specs.Guards.{OnReplica}
+use Rattle.ckpt_machine.specs.Seen.{seen, seen_at, seen_by}
+use Rattle.ckpt_machine.specs.GuardTerms.{OnReplica}
 use Rattle.ckpt_machine.specs.Shape.{Shape, IsCompleteOn, IsApart, IsShapedBy, IsSpread}
 use Rattle.ckpt_machine.proofs.ActiveBy.{active_by-complete}
 use Rattle.ckpt_machine.proofs.MarksAt.{marks_here}

@@ -32,14 +32,17 @@ use Rattle.ckpt_machine.specs.ActivesSet.{SetsActive, IsHoldOf, WasActiveWith, H
 use Rattle.ckpt_machine.specs.Beginning.{Standing}
 use Rattle.ckpt_machine.specs.BeginRows.{BeginRow}
 use Rattle.ckpt_machine.specs.Drivers as drivers
-use Rattle.ckpt_machine.specs.Guards.{HoldOk, HoldKeptOff, MayLead, ActivateOk, LookDone, LookRow, IsOnOwn, Row, Allowed}
+use Rattle.ckpt_machine.specs.Guards.{IsOnOwn, Row, Allowed}
+use Rattle.ckpt_machine.specs.LookGuards.{LookDone, LookRow}
+use Rattle.ckpt_machine.specs.ActiveGuards.{HoldOk, HoldKeptOff, MayLead, ActivateOk}
 use Rattle.ckpt_machine.specs.InHand.{is_enter, IsSettingIn}
 use Rattle.ckpt_machine.specs.Invariant.{Invariant}
 use Rattle.ckpt_machine.specs.Laws.{OfEachRun}
 use Rattle.ckpt_machine.specs.Machine.{Machine, ReplicaState, Snapshot, CallState, empty_cluster, who}
 use Rattle.ckpt_machine.specs.Runs.{last, IsRun}
 use Rattle.ckpt_machine.specs.Shape.{IsCompleteOn}
-use Rattle.ckpt_machine.specs.Steps.{Told, IsDue, driver_of, with_lead, led_from, change_replica, record_step, changed, kept_behind, stepped, step_of}
+use Rattle.ckpt_machine.specs.After.{with_lead, led_from, change_replica, record_step, changed, kept_behind, stepped, step_of}
+use Rattle.ckpt_machine.specs.Due.{Told, IsDue, driver_of}
 use Rattle.ckpt_machine.proofs.BegunBefore.{all_began}
 use Rattle.ckpt_machine.proofs.Copying.{put2-here}
 use Rattle.ckpt_machine.proofs.Dropped.{held_as}

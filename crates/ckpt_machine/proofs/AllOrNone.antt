@@ -9,7 +9,7 @@ use Rattle.ckpt_machine.specs.Shape.{Shape, IsCompleteOn, IsShaped, IsSpread, se
 use Rattle.ckpt_machine.specs.Invariant.{IsGoodIn, Invariant}
 use Rattle.ckpt_machine.specs.AllOrNone.{OneUpdate, IsOfOne, AreEqual, AreOfOne, AllOrNone, IsAllOrNoneThroughout}
 use Rattle.ckpt_machine.specs.Laws.{OfEachRun}
-use Rattle.ckpt_machine.specs.Options.{is_all}
+use Rattle.cluster_record.specs.Placement.{is_all}
 use Rattle.ckpt_machine.specs.Runs.{last}
 use Rattle.ckpt_machine.proofs.RunLaws.{run_has}
 use Rattle.ckpt_machine.proofs.Runs.{run_front}

@@ -25,7 +25,8 @@ use Rattle.ckpt_machine.specs.InHand.{is_marked_by}
 use Rattle.ckpt_machine.specs.Invariant.{InvariantIn, Invariant}
 use Rattle.ckpt_machine.specs.Machine.{Machine, ReplicaState, CallState, who}
 use Rattle.ckpt_machine.specs.Shape.{Shape}
-use Rattle.ckpt_machine.specs.Steps.{Told, IsServed, ended_details, driver_of, payload_due, details_due, change_replica, with_applied, having_taken}
+use Rattle.ckpt_machine.specs.After.{change_replica, with_applied, having_taken}
+use Rattle.ckpt_machine.specs.Due.{Told, IsServed, ended_details, driver_of, payload_due, details_due}
 use Rattle.ckpt_machine.proofs.ActiveNode.{ActiveOf, active_seen}
 use Rattle.ckpt_machine.proofs.ActiveSteps.{active_keeps}
 use Rattle.ckpt_machine.proofs.DueStep.{Goes}

@@ -18,7 +18,7 @@ use Rattle.ckpt_machine.specs.Drivers.{Driver}
 use Rattle.ckpt_machine.specs.Drivers as drivers
 use Rattle.ckpt_machine.specs.Driving.{Kept, on_kept, driver_start, driver_state, driver_taken, kind_of_change, change_start}
 use Rattle.ckpt_machine.specs.Machine.{CallState}
-use Rattle.ckpt_machine.specs.Steps.{IsDriven, driver_of}
+use Rattle.ckpt_machine.specs.Due.{IsDriven, driver_of}
 
 -- an open is of this call and its client, and of the name and the attributes that are asked for
 pub record IsOpenFor (call : CallId) (ask : Ask) (o : OpenState) : Type 0 where

@@ -30,7 +30,8 @@ use Rattle.ckpt_types.specs.Asks.{Ask, asked, is_async_ask, IsBuiltAsk}
 use Rattle.ckpt_types.specs.Asks as asks
 use Rattle.ckpt_machine.specs.BeginRows.{has_bad_version, has_bad_handle, lacks_callback, has_bad_flags, has_bad_arguments, was_not_opened_for, lacks_access, forbidden_by, has_bad_operation, ends_at_once, goes_on_behind, IsGivenBy, MeetsNoRefusal, IsFullOfCalls, HasPlaceFor, BeginRow, IsAllowedBegin, IsAllowedWord}
 use Rattle.ckpt_machine.specs.Machine.{Machine, CallState}
-use Rattle.ckpt_machine.specs.Steps.{IsBegun, IsBeginEnd, is_unrefused, IsWord, standing_of}
+use Rattle.ckpt_machine.specs.Due.{IsBegun, IsBeginEnd, is_unrefused, standing_of}
+use Rattle.ckpt_machine.specs.Words.{IsWord}
 
 -- ---- the code's chain of refusals, by the causes
 

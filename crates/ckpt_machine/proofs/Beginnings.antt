@@ -51,7 +51,8 @@ use Rattle.ckpt_machine.specs.InHand.{AreGoodAttributes, active_kind, is_enter, 
 use Rattle.weak_marks.specs.Marks.{Marked}
 use Rattle.ckpt_machine.specs.Invariant.{IsGoodClient, IsGoodHandle, IsGoodIn, InvariantIn, Invariant}
 use Rattle.ckpt_machine.specs.Machine.{Machine, CallState, who}
-use Rattle.ckpt_machine.specs.Steps.{IsBegun, MayBegin, asked_handle, standing_of, kept_at_beginning, room_in, goes_on, after_beginning, begun_call, call_begun, started_call}
+use Rattle.ckpt_machine.specs.After.{goes_on, after_beginning, begun_call, call_begun, started_call}
+use Rattle.ckpt_machine.specs.Due.{IsBegun, MayBegin, asked_handle, standing_of, kept_at_beginning, room_in}
 use Rattle.ckpt_machine.specs.Tables.{handle_asked, ckpt_of_handle, choice_of, ended_at_once}
 use Rattle.ckpt_machine.specs.Shape.{Shape, IsCompleteOn, IsSpread}
 use Rattle.ckpt_machine.proofs.Actors.{same_call-true}
@@ -66,7 +67,8 @@ use Rattle.ckpt_machine.proofs.Starting.{live_client, handle_there, HasPassed, b
 use Rattle.ckpt_machine.proofs.Whose.{put_who-here, put_who-other, stepped_as-plain, stepped_as-async}
 use Rattle.ckpt_machine.specs.Whose.{same_who, put_who}
 use Rattle.node_msgs.specs.declared.details.Details.{Details}
-use Rattle.ckpt_machine.specs.Options.{is_all, is_weak, if_declared}
+use Rattle.ckpt_machine.specs.Options.{is_weak, if_declared}
+use Rattle.cluster_record.specs.Placement.{is_all}
 
 -- ---- what a beginning that goes on has passed
 

@@ -29,9 +29,11 @@ use Rattle.ckpt_machine.specs.Entries.{WasMade}
 use Rattle.ckpt_machine.specs.InHand.{is_enter, IsInPlace, IsInHand, IsUpdateIn}
 use Rattle.ckpt_machine.specs.Invariant.{AreCalls, IsGoodClient, IsGoodIn, InvariantIn}
 use Rattle.ckpt_machine.specs.Machine.{Machine, CallState, who}
-use Rattle.ckpt_machine.specs.Options.{is_all, if_declared}
+use Rattle.ckpt_machine.specs.Options.{if_declared}
+use Rattle.cluster_record.specs.Placement.{is_all}
 use Rattle.ckpt_machine.specs.Shape.{Shape, is_owner, IsSpread}
-use Rattle.ckpt_machine.specs.Steps.{driver_of, IsDriven, started_call, kept_at_beginning, declares_at}
+use Rattle.ckpt_machine.specs.After.{started_call}
+use Rattle.ckpt_machine.specs.Due.{driver_of, IsDriven, kept_at_beginning, declares_at}
 use Rattle.ckpt_machine.specs.Whose.{put_who}
 use Rattle.ckpt_machine.proofs.Actors.{same_actor-true}
 use Rattle.ckpt_machine.proofs.NodeLists.{has-none, slice_index-replicate}

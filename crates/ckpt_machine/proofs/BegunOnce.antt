@@ -18,7 +18,8 @@ use Rattle.ckpt_machine.specs.Guards.{Allowed, Row}
 use Rattle.ckpt_machine.specs.Invariant.{Invariant}
 use Rattle.ckpt_machine.specs.Machine.{Machine, who}
 use Rattle.ckpt_machine.specs.Runs.{last, IsRun}
-use Rattle.ckpt_machine.specs.Steps.{IsDue, asked_handle, step_of, after}
+use Rattle.ckpt_machine.specs.After.{step_of, after}
+use Rattle.ckpt_machine.specs.Due.{IsDue, asked_handle}
 use Rattle.ckpt_machine.specs.Tables.{ckpt_of_handle}
 use Rattle.ckpt_machine.proofs.Actors.{same_actor-true}
 use Rattle.ckpt_machine.proofs.BegunBefore.{all_began, begun_more}

@@ -22,13 +22,16 @@ use Rattle.cluster_record.specs.declared.entries.Entry.{Entry}
 use Rattle.cluster_record.specs.RecordState.{entry_of}
 use Rattle.cluster_record.specs.StepDone.{StepDone, done_of, counting}
 use Rattle.ckpt_machine.specs.Driving.{Kept}
-use Rattle.ckpt_machine.specs.Guards.{PullOk, InstallOk, OnReplica, IsOnOwn, Row, is_service, serves}
+use Rattle.ckpt_machine.specs.Guards.{IsOnOwn, Row}
+use Rattle.ckpt_machine.specs.ActiveGuards.{PullOk, InstallOk, is_service, serves}
+use Rattle.ckpt_machine.specs.GuardTerms.{OnReplica}
 use Rattle.ckpt_machine.specs.Invariant.{Invariant}
 use Rattle.ckpt_machine.specs.Machine.{Machine, ReplicaState, Snapshot, CallState, who}
 use Rattle.ckpt_machine.specs.Propagation.{copied, is_behind, replica_from}
 use Rattle.ckpt_machine.specs.Replays.{IsPrefix}
 use Rattle.ckpt_machine.specs.Runs.{last}
-use Rattle.ckpt_machine.specs.Steps.{Told, IsDone, due, change_replica, with_installed, changed, counted_at, pulled_by, kept_behind}
+use Rattle.ckpt_machine.specs.After.{change_replica, with_installed, changed, pulled_by, kept_behind}
+use Rattle.ckpt_machine.specs.Due.{Told, IsDone, due, counted_at}
 use Rattle.ckpt_machine.specs.Synchronized.{IsPullOf}
 use Rattle.ckpt_machine.proofs.EachReplica.{Each, PulledInHand}
 use Rattle.ckpt_machine.proofs.Copying.{IsOfSource, put2-here}

@@ -4,7 +4,7 @@ use Rattle.ckpt_types.specs.declared.identities.ActorName.{ActorName}
 use Rattle.client_handles.specs.ClientState.{ClientState}
 use Rattle.cluster_record.specs.Calls.{same_actor, put_actor}
 use Rattle.ckpt_machine.specs.Machine.{Machine}
-use Rattle.ckpt_machine.specs.Steps.{with_tables}
+use Rattle.ckpt_machine.specs.After.{with_tables}
 use Rattle.ckpt_machine.proofs.Actors.{same_actor-refl, same_actor-true}
 
 -- what an actor has after one actor's was changed

@@ -25,7 +25,7 @@ use Rattle.cluster_record.specs.DueUpdate.{update_taken_by}
 use Rattle.cluster_record.specs.DueActive.{weak_request, request_by, active_request}
 use Rattle.cluster_record.specs.declared.calls.MarksMade.{MarksMade}
 use Rattle.ckpt_machine.specs.Machine.{CallState}
-use Rattle.ckpt_machine.specs.Steps.{IsDriven, driver_of}
+use Rattle.ckpt_machine.specs.Due.{IsDriven, driver_of}
 use Rattle.ckpt_machine.proofs.NextOf.{OfAsked, next_of}
 
 -- a request that a call makes in its own name

@@ -11,7 +11,7 @@ use Rattle.call_dispatch.specs.PendingCalls.{PendingCalls, find_async}
 use Rattle.cluster_record.specs.Calls.{left}
 use Rattle.ckpt_machine.specs.Invariant.{AreCalls, IsKeptOf}
 use Rattle.ckpt_machine.specs.Machine.{CallState, who}
-use Rattle.ckpt_machine.specs.Steps.{kind_of}
+use Rattle.ckpt_machine.specs.After.{kind_of}
 use Rattle.ckpt_machine.specs.Whose.{put_who, same_who}
 use Rattle.ckpt_machine.proofs.OptionLemmas.{IsSomeAnd-at, IsSomeAnd-from}
 use Rattle.ckpt_machine.proofs.Whose.{put_who-cases, same_who-refl}

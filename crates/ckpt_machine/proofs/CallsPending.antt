@@ -25,7 +25,7 @@ use Rattle.ckpt_machine.specs.Drivers.{Driver}
 use Rattle.ckpt_machine.specs.Driving.{Kept, driver_start}
 use Rattle.ckpt_machine.specs.Invariant.{AreCalls, IsBegunBy, IsKeptOf, calls_of}
 use Rattle.ckpt_machine.specs.Machine.{CallState, who}
-use Rattle.ckpt_machine.specs.Steps.{kind_of, async_call, pending_begun, call_begun, started_call, goes_on, is_over, goes_with, left_over}
+use Rattle.ckpt_machine.specs.After.{kind_of, async_call, pending_begun, call_begun, started_call, goes_on, is_over, goes_with, left_over}
 use Rattle.ckpt_machine.specs.Whose.{put_who, same_who, is_of}
 use Rattle.ckpt_machine.proofs.Actors.{same_actor-refl, same_actor-true}
 use Rattle.ckpt_machine.proofs.KeptLists.{among_filtered, among_dropped, among_mapped, among_none, found_among, none_found, found_filtered, found_front, found_last}

@@ -15,7 +15,7 @@ use Rattle.cluster_record.specs.Makings.{makings_of}
 use Rattle.ckpt_machine.specs.InHand.{IsInHand}
 use Rattle.ckpt_machine.specs.Invariant.{IsGoodHandle, InvariantIn}
 use Rattle.ckpt_machine.specs.Machine.{Machine, CallState, who}
-use Rattle.ckpt_machine.specs.Steps.{with_tables}
+use Rattle.ckpt_machine.specs.After.{with_tables}
 use Rattle.ckpt_machine.specs.Tables.{handle_asked}
 use Rattle.ckpt_machine.specs.Shape.{Shape}
 use Rattle.ckpt_machine.proofs.Actors.{same_actor-true}

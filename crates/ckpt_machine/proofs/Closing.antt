@@ -25,7 +25,8 @@ use Rattle.ckpt_machine.specs.InHand.{active_kind, IsSyncBy, IsInPlace}
 use Rattle.ckpt_machine.specs.Invariant.{IsKeptOf, AreCalls, InvariantIn}
 use Rattle.ckpt_machine.specs.Machine.{Machine, ReplicaState, Snapshot, CallState, who}
 use Rattle.ckpt_machine.specs.Shape.{Shape}
-use Rattle.ckpt_machine.specs.Steps.{kind_of, driver_of, is_over, goes_with, left_over, with_closed}
+use Rattle.ckpt_machine.specs.After.{kind_of, is_over, goes_with, left_over, with_closed}
+use Rattle.ckpt_machine.specs.Due.{driver_of}
 use Rattle.ckpt_machine.specs.Tables.{handle_closed}
 use Rattle.ckpt_machine.proofs.Actors.{same_actor-true}
 use Rattle.ckpt_machine.proofs.AsyncCalls.{ended_idle}

@@ -24,9 +24,11 @@ use Rattle.node_core.specs.Serving.{update_answer, told_id}
 use Rattle.replica.specs.Replicas.{or_same}
 use Rattle.ckpt_machine.specs.Driving.{driver_taken}
 use Rattle.ckpt_machine.specs.Machine.{Machine, Applied, Staged, ReplicaState, CallState, who}
-use Rattle.ckpt_machine.specs.Steps.{driver_of, left_in_hand, kept_behind, created_by, ended_details, committed_slot, with_committed}
+use Rattle.ckpt_machine.specs.After.{left_in_hand, kept_behind, created_by, committed_slot, with_committed}
+use Rattle.ckpt_machine.specs.Due.{driver_of, ended_details}
 use Rattle.ckpt_machine.specs.Complete.{complete_replicas, replicas_from}
-use Rattle.ckpt_machine.specs.Guards.{HasSlotOrEffect, CommitOk, CommitRow, owns_slot, owned_elsewhere, ends_update}
+use Rattle.ckpt_machine.specs.UpdateGuards.{HasSlotOrEffect, CommitOk, CommitRow, ends_update}
+use Rattle.ckpt_machine.specs.GuardTerms.{owns_slot, owned_elsewhere}
 use Rattle.ckpt_machine.specs.Shape.{Shape, IsCompleteOn, IsShaped, is_owner, IsOwner, IsSpread, slot_by}
 use Rattle.ckpt_machine.specs.InHand.{is_enter, IsInPlace, IsUpdateIn, IsDoneIn, IsInHand, OwnsIn, HasSome}
 use Rattle.ckpt_machine.specs.Invariant.{IsCompleteAt, InvariantIn, Invariant}

@@ -28,7 +28,9 @@ use Rattle.node_core.specs.Seen.{RecordSeen}
 use Rattle.node_core.specs.Serving.{reply_of, reply_unless, done_or_refused, update_answer, commit_answer, next_reply, pull_reply, install_reply, older_reply, generation_seen, snapshot_after, snapshot_behind}
 use Rattle.ckpt_machine.specs.Machine.{Machine, Effect, ReplicaState, Snapshot, CallState}
 use Rattle.ckpt_machine.specs.Propagation.{copied}
-use Rattle.ckpt_machine.specs.Steps.{counted_at, count_in, pulled_by, seen_snapshot}
+use Rattle.ckpt_machine.specs.After.{pulled_by}
+use Rattle.ckpt_machine.specs.Due.{counted_at, count_in}
+use Rattle.ckpt_machine.specs.Seen.{seen_snapshot}
 use Rattle.ckpt_machine.specs.Shown.{shown_replica, shown_copy, FitsReplica, FitsSnapshot, FitsCopy, IsRoomToCopy}
 use Rattle.ckpt_machine.proofs.Carried.{GoesToReplica}
 use Rattle.ckpt_machine.proofs.RequestRows.{effects_in}

@@ -15,7 +15,7 @@ use Rattle.cluster_record.specs.RecordState.{entry_of}
 use Rattle.cluster_record.specs.StepDone.{generation_in}
 use Rattle.ckpt_machine.specs.Listing.{is_active}
 use Rattle.ckpt_machine.specs.Machine.{Machine, ReplicaState, Snapshot}
-use Rattle.ckpt_machine.specs.Options.{is_all}
+use Rattle.cluster_record.specs.Placement.{is_all}
 use Rattle.ckpt_machine.specs.Propagation.{source_of, source_at, on_node, target_of, target_at, is_behind, pull_unless, pull_reply, pull_answer, copied, with_pulled, put_onto, put_reply, put_answer, replica_from, with_put}
 
 -- ---- where

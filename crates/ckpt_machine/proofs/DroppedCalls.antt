@@ -10,7 +10,7 @@ use Rattle.ckpt_machine.specs.InHand.{IsInHand}
 use Rattle.ckpt_machine.specs.Invariant.{IsMaker, AreCalls, InvariantIn}
 use Rattle.ckpt_machine.specs.Machine.{Machine, CallState, who}
 use Rattle.ckpt_machine.specs.Shape.{Shape, IsOwner, IsMarker, IsHolder}
-use Rattle.ckpt_machine.specs.Steps.{driver_of}
+use Rattle.ckpt_machine.specs.Due.{driver_of}
 use Rattle.ckpt_machine.proofs.FewerCalls.{calls_fewer}
 use Rattle.ckpt_machine.proofs.Lives.{lives_on-fewer}
 use Rattle.ckpt_machine.proofs.OtherCalls.{IsIn-apart, IsGoodIn-apart}

@@ -4,7 +4,8 @@ use Rattle.ckpt_machine.specs.Drivers.{Driver}
 use Rattle.cluster_record.specs.StepDone.{done_of, counting}
 use Rattle.ckpt_machine.specs.Driving.{driver_taken}
 use Rattle.ckpt_machine.specs.Machine.{Machine, CallState}
-use Rattle.ckpt_machine.specs.Steps.{Told, counted_at, changed, kept_behind, left_in_hand}
+use Rattle.ckpt_machine.specs.After.{changed, kept_behind, left_in_hand}
+use Rattle.ckpt_machine.specs.Due.{Told, counted_at}
 use Rattle.ckpt_machine.specs.Guards.{Row}
 use Rattle.ckpt_machine.specs.Left.{steps_left}
 use Rattle.ckpt_machine.specs.Invariant.{Invariant}

@@ -29,15 +29,20 @@ use Rattle.cluster_record.proofs.IdentityLaws.{IdentitiesRise-filter}
 use Rattle.ckpt_machine.specs.Beginning.{update_is_bad}
 use Rattle.ckpt_machine.specs.BeginRows.{has_bad_arguments}
 use Rattle.ckpt_machine.specs.Driving.{Kept}
-use Rattle.ckpt_machine.specs.Guards.{CommitOk, ApplyOk, MarkOk, AreMarksOf, PullOk, HoldOk, OnAll, OnActive, IsOnOwn, Row, Allowed}
+use Rattle.ckpt_machine.specs.Guards.{IsOnOwn, Row, Allowed}
+use Rattle.ckpt_machine.specs.ActiveGuards.{ApplyOk, MarkOk, AreMarksOf, PullOk, HoldOk}
+use Rattle.ckpt_machine.specs.UpdateGuards.{CommitOk}
+use Rattle.ckpt_machine.specs.GuardTerms.{OnAll, OnActive}
 use Rattle.ckpt_machine.specs.Invariant.{Invariant}
 use Rattle.ckpt_machine.specs.Machine.{Machine, Effect, Applied, ReplicaState, Snapshot, CallState, who}
-use Rattle.ckpt_machine.specs.Options.{is_all, is_weak, is_by_element}
+use Rattle.ckpt_machine.specs.Options.{is_weak, is_by_element}
+use Rattle.cluster_record.specs.Placement.{is_all}
 use Rattle.ckpt_machine.specs.Propagation.{copied, replica_from}
 use Rattle.ckpt_machine.specs.Replays.{IsPrefix}
 use Rattle.ckpt_machine.specs.Runs.{last, IsRun}
 use Rattle.ckpt_machine.specs.Shape.{IsCompleteOn, IsApart, IsShapedBy}
-use Rattle.ckpt_machine.specs.Steps.{Told, IsDone, IsDue, due, with_record, record_step, created_for, retained_for, change_replica, having_taken, committed_slot, with_committed, with_applied, with_slot, with_marks, next_element_written, with_next_element, marks_ended, without_marks, with_lead, changed, on_ok, on_look, without_making, at_some, replica_under, snapshot_under, opened_state, pulled_by, kept_behind, step_of, call_begun, after_beginning, staged_moment, after}
+use Rattle.ckpt_machine.specs.After.{with_record, record_step, created_for, retained_for, change_replica, having_taken, committed_slot, with_committed, with_applied, with_slot, with_marks, next_element_written, with_next_element, marks_ended, without_marks, with_lead, changed, on_ok, on_look, without_making, at_some, replica_under, snapshot_under, opened_state, pulled_by, kept_behind, step_of, call_begun, after_beginning, staged_moment, after}
+use Rattle.ckpt_machine.specs.Due.{Told, IsDone, IsDue, due}
 use Rattle.ckpt_machine.proofs.Activating.{Leads, leader, with_leader, made_where_complete, led_by, led_goes, found_led, led_made, led_entry, leader-cases, after_activate}
 use Rattle.ckpt_machine.proofs.ActiveNode.{active_complete}
 use Rattle.ckpt_machine.specs.Acknowledged.{HasBegun}
@@ -62,7 +67,7 @@ use Rattle.ckpt_machine.proofs.Sync.{left_is}
 use Rattle.ckpt_machine.specs.Whose.{put_who}
 use Rattle.ckpt_types.specs.declared.identities.Who.{Who}
 use Rattle.ckpt_types.specs.OpWord.{stepped_as, word_of_op}
-use Rattle.ckpt_machine.specs.Steps.{with_closed}
+use Rattle.ckpt_machine.specs.After.{with_closed}
 use Rattle.ckpt_machine.proofs.Whose.{put_who-cases}
 use Rattle.ckpt_machine.proofs.StaysMade.{StaysMade, StaysMade-same, StaysMade-kept, GoesOnMade, StaysMade-goes, held_made, held-identity, released_made, opened_made, MadeOn, MadeOn-swept, changed_on, filter_on, departed_on, created_for_on, retained_for_on, finished_on}
 

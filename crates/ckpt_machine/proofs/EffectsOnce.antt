@@ -17,12 +17,13 @@ use Rattle.ckpt_machine.specs.Drivers as drivers
 use Rattle.ckpt_machine.specs.Driving.{driver_next}
 use Rattle.ckpt_machine.specs.Invariant.{Invariant}
 use Rattle.ckpt_machine.specs.Machine.{Machine, Effect, Applied, Broken, Staged, ReplicaState, Snapshot, CallState}
-use Rattle.ckpt_machine.specs.Options.{is_all}
+use Rattle.cluster_record.specs.Placement.{is_all}
 use Rattle.ckpt_machine.specs.Owned.{IsEffectOf, HasEffect}
 use Rattle.ckpt_machine.specs.Replays.{call_of_effect, EachCallOnce}
 use Rattle.ckpt_machine.specs.Runs.{last, IsRun}
 use Rattle.ckpt_machine.specs.Shape.{IsShapedBy}
-use Rattle.ckpt_machine.specs.Steps.{Told, IsDone, due, driver_of, rooms_of, having_taken, committed_slot, marks_ended, with_lead, effect_of, staged_moment}
+use Rattle.ckpt_machine.specs.After.{having_taken, committed_slot, marks_ended, with_lead, effect_of, staged_moment}
+use Rattle.ckpt_machine.specs.Due.{Told, IsDone, due, driver_of, rooms_of}
 use Rattle.ckpt_machine.proofs.EachReplica.{IsKept, run_each}
 use Rattle.ckpt_machine.proofs.Follows.{IsBare, effect_more}
 use Rattle.ckpt_machine.proofs.Histories.{IsCommittingAt, shaped_there}

@@ -16,7 +16,8 @@ use Rattle.node_msgs.specs.declared.steps.Verb.TheVariants as verbs
 use Rattle.ckpt_machine.specs.Invariant.{AreCalls, InvariantIn, Invariant}
 use Rattle.ckpt_machine.specs.Machine.{Machine, ReplicaState, CallState, who}
 use Rattle.ckpt_machine.specs.Shape.{Shape}
-use Rattle.ckpt_machine.specs.Steps.{Told, changed, change_replica, record_step, on_ok, on_look, at_some, with_closed, without_making, goes_with, kept_behind, step_of, ended_calls, handle_opened}
+use Rattle.ckpt_machine.specs.After.{changed, change_replica, record_step, on_ok, on_look, at_some, with_closed, without_making, goes_with, kept_behind, step_of, ended_calls, handle_opened}
+use Rattle.ckpt_machine.specs.Due.{Told}
 use Rattle.ckpt_machine.specs.Tables.{handle_closed}
 use Rattle.ckpt_machine.specs.Whose.{is_of, put_who}
 use Rattle.ckpt_machine.proofs.CallsPending.{calls_over, calls_ended}

@@ -38,7 +38,7 @@ use Rattle.ckpt_machine.specs.Invariant.{InvariantIn}
 use Rattle.ckpt_machine.specs.Machine.{Machine, CallState}
 use Rattle.ckpt_machine.specs.Whose.{put_who}
 use Rattle.cluster_record.specs.Makings.{makings_of}
-use Rattle.ckpt_machine.specs.Steps.{with_tables}
+use Rattle.ckpt_machine.specs.After.{with_tables}
 use Rattle.ckpt_machine.specs.Tables.{handle_asked, flags_or_none, handle_given, with_iteration, started, with_next, gone_on, closing, registering, place_set, places_set, ended_at_once}
 use Rattle.ckpt_machine.specs.Shape.{Shape}
 use Rattle.ckpt_machine.proofs.AtRest.{NoneLent-given, NoneLent-started, NoneLent-gone_on, NoneLent-closing, NoneLent-registering, NoneLent-ended_at_once}

@@ -32,11 +32,15 @@ use Rattle.ckpt_machine.specs.BeginRows.{BeginRow}
 use Rattle.ckpt_machine.specs.Complete.{complete_replicas}
 use Rattle.ckpt_machine.specs.Driving.{refused_cause}
 use Rattle.ckpt_machine.specs.Endings.{may_lack_memory, IsEndOf}
-use Rattle.ckpt_machine.specs.Guards.{HoldRow, HoldOk, HoldKeptOff, ActivateRow, ActivateOk, all_served, steps_with, PullOk, PullHeld, PullRow, InstallOk, InstallRow, AsksToOpen, StageRefused, StageHeld, StageRow, CommitOk, CommitRow, ends_update, ApplyOk, ApplyRow, MarkOk, MarkRow, ElementRow, UnmarkRow, ReadRow, StatusOk, StatusRow, IterOk, IterRow, NextOk, NextAnswer, EnterRow, CreateRow, ReserveRow, FinishRow, UndoRow, OpenHeld, OpenRow, LeaveRow, CloseRow, UnlinkRow, RetainRow, LookRow, Row}
+use Rattle.ckpt_machine.specs.Guards.{AsksToOpen, Row}
+use Rattle.ckpt_machine.specs.LookGuards.{LookRow}
+use Rattle.ckpt_machine.specs.OpenGuards.{EnterRow, CreateRow, ReserveRow, FinishRow, UndoRow, OpenHeld, OpenRow, LeaveRow, CloseRow, UnlinkRow, RetainRow}
+use Rattle.ckpt_machine.specs.ActiveGuards.{HoldRow, HoldOk, HoldKeptOff, ActivateRow, ActivateOk, all_served, steps_with, PullOk, PullHeld, PullRow, InstallOk, InstallRow, ApplyOk, ApplyRow, MarkOk, MarkRow, ElementRow, UnmarkRow, ReadRow, StatusOk, StatusRow, IterOk, IterRow, NextOk, NextAnswer}
+use Rattle.ckpt_machine.specs.UpdateGuards.{StageRefused, StageHeld, StageRow, CommitOk, CommitRow, ends_update}
 use Rattle.ckpt_machine.specs.Laws.{EndsAsItMay}
 use Rattle.ckpt_machine.specs.Machine.{Machine, CallState}
 use Rattle.node_core.specs.Serving.{update_answer}
-use Rattle.ckpt_machine.specs.Steps.{Told, ids_asked}
+use Rattle.ckpt_machine.specs.Due.{Told, ids_asked}
 use Rattle.ckpt_machine.proofs.Refusing.{none_of_some, row_at_ckpt, at_node, at_none, at_node_alone, on_replica, on_all, begins_on_active}
 
 -- ---- which calls take memory

@@ -29,8 +29,10 @@ use Rattle.ckpt_machine.proofs.Whose.{stepped_as-plain, same_who-refl}
 use Rattle.ckpt_machine.specs.InHand.{is_enter, IsEnterAt, IsInPlace, IsInHand}
 use Rattle.ckpt_machine.specs.Invariant.{IsGoodClient, InvariantIn, Invariant}
 use Rattle.ckpt_machine.specs.Machine.{Machine, CallState, who}
-use Rattle.ckpt_machine.specs.Steps.{Told, IsDone, IsEvent, driver_of, with_tables, record_step}
-use Rattle.ckpt_machine.specs.Guards.{LookRefused, MayEnter}
+use Rattle.ckpt_machine.specs.After.{with_tables, record_step}
+use Rattle.ckpt_machine.specs.Due.{Told, IsDone, IsEvent, driver_of}
+use Rattle.ckpt_machine.specs.LookGuards.{LookRefused}
+use Rattle.ckpt_machine.specs.OpenGuards.{MayEnter}
 use Rattle.ckpt_machine.specs.Shape.{Shape}
 use Rattle.ckpt_machine.proofs.EndedTables.{live_alike, client_by_number, other_number, registering_keeps}
 use Rattle.ckpt_machine.proofs.Moment.{IsLaterEntry-refl}

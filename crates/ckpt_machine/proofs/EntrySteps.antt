@@ -23,7 +23,8 @@ use Rattle.ckpt_machine.specs.InHand.{attributes_asked, IsMakingIn, IsInHand}
 use Rattle.ckpt_machine.specs.Invariant.{IsMaker, IsGoodIn, IsOfGeneration, IsCompleteAt, HasPlaces, InvariantIn}
 use Rattle.ckpt_machine.specs.Machine.{Machine, ReplicaState, Snapshot, CallState, who}
 use Rattle.ckpt_machine.specs.Shape.{Shape, IsCompleteOn, IsOwner, IsMarker, IsHolder, IsSpread}
-use Rattle.ckpt_machine.specs.Steps.{driver_of, with_record, opened_state, replica_under, reservation_under, snapshot_under}
+use Rattle.ckpt_machine.specs.After.{with_record, opened_state, replica_under, reservation_under, snapshot_under}
+use Rattle.ckpt_machine.specs.Due.{driver_of}
 use Rattle.ckpt_machine.proofs.CallsKept.{IsSameCall, same_call-None, apart_from, calls_left}
 use Rattle.ckpt_machine.proofs.EntryLists.{find_key-change_key, AllStay-change_key, swept-all}
 use Rattle.ckpt_machine.proofs.Handles.{IsGoodHandle-later}

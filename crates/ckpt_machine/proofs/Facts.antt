@@ -35,12 +35,13 @@ use Rattle.ckpt_machine.specs.Drivers as drivers
 use Rattle.ckpt_machine.specs.Driving.{driver_next}
 use Rattle.ckpt_machine.specs.Machine.{Machine, CallState, who}
 use Rattle.node_core.specs.Fitting.{IsReadyFor}
-use Rattle.ckpt_machine.specs.Options.{is_all}
-use Rattle.ckpt_machine.specs.Steps.{due, driver_of, room_in, room_at, rooms_of, seen_at, seen, seen_slot}
+use Rattle.cluster_record.specs.Placement.{is_all}
+use Rattle.ckpt_machine.specs.Due.{due, driver_of, room_in, room_at, rooms_of}
+use Rattle.ckpt_machine.specs.Seen.{seen_at, seen, seen_slot}
 use Rattle.ckpt_machine.specs.Facts.{IsActive, IsAtRest, IsLeadable, IsServable, IsEventReady, IsStarting, IsGoingOn, HasCopyRoom, HasLiveMarker, Facts}
 use Rattle.ckpt_machine.specs.InHand.{MarksFit, IsEnterAt, IsOnceAt, IsInPlace, IsActiveIn, is_held_by, IsSynchronizeIn, IsSettingIn}
 use Rattle.ckpt_machine.specs.Invariant.{InvariantIn, Invariant}
-use Rattle.ckpt_machine.specs.Guards.{deadline_of}
+use Rattle.ckpt_machine.specs.GuardTerms.{deadline_of}
 use Rattle.ckpt_machine.specs.Shape.{Shape, marks_at, IsSpread}
 use Rattle.ckpt_machine.specs.Tables.{takes_copy}
 use Rattle.section_iter.specs.Room.{room_declared}

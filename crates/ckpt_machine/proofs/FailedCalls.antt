@@ -18,7 +18,7 @@ use Rattle.ckpt_machine.specs.Invariant.{InvariantUnder}
 use Rattle.ckpt_machine.specs.Machine.{Machine, CallState}
 use Rattle.ckpt_machine.specs.Shape.{Shape}
 use Rattle.ckpt_machine.specs.Failing.{is_of_node, enters_on, is_abandoned, unless_abandoned, failed_at}
-use Rattle.ckpt_machine.specs.Steps.{driver_of, count_in}
+use Rattle.ckpt_machine.specs.Due.{driver_of, count_in}
 use Rattle.ckpt_machine.proofs.OpenReady.{client_live}
 use Rattle.ckpt_machine.proofs.FailedClients.{live_gone, dead_then}
 

@@ -41,7 +41,8 @@ use Rattle.ckpt_machine.specs.Tables.{handle_asked}
 use Rattle.client_handles.specs.ClientState.{emptied}
 use Rattle.ckpt_machine.specs.Shape.{Shape, IsCompleteOn, is_owner}
 use Rattle.ckpt_machine.specs.Failing.{is_of_node, enters_on, failed_at}
-use Rattle.ckpt_machine.specs.Steps.{driver_of, count_in, reservation_under, asked_handle}
+use Rattle.ckpt_machine.specs.After.{reservation_under}
+use Rattle.ckpt_machine.specs.Due.{driver_of, count_in, asked_handle}
 use Rattle.ckpt_machine.proofs.Actors.{same_call-true}
 use Rattle.ckpt_machine.proofs.OptionLemmas.{IsSomeAnd-at, IsSomeAnd-from, IfSome-from, IfSome-at}
 use Rattle.ckpt_machine.proofs.NodeLists.{index-other}

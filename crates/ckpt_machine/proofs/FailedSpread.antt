@@ -21,7 +21,8 @@ use Rattle.ckpt_machine.specs.Machine.{Machine, ReplicaState, who}
 use Rattle.ckpt_machine.specs.Propagation.{on_node, copied}
 use Rattle.ckpt_machine.specs.Shape.{Shape, IsCompleteOn, IsShapedBy, IsOwner, IsLeft, IsMarker, IsHolder, IsOnHoldUnder, IsSpreadUnder, IsActiveBy, PhaseFits, marks_at}
 use Rattle.ckpt_machine.specs.Failing.{is_of_node, enters_on, failed_at, replica_left}
-use Rattle.ckpt_machine.specs.Steps.{driver_of, replica_under, replicas_under, opened_state}
+use Rattle.ckpt_machine.specs.After.{replica_under, replicas_under, opened_state}
+use Rattle.ckpt_machine.specs.Due.{driver_of}
 use Rattle.ckpt_machine.proofs.OptionLemmas.{IsSomeAnd-at, IsSomeAnd-from}
 use Rattle.ckpt_machine.proofs.NodeLists.{index-other, length-slice_set}
 use Rattle.ckpt_machine.proofs.MarksAt.{none_marked}

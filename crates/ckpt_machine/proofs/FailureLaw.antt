@@ -28,7 +28,8 @@ use Rattle.ckpt_machine.specs.Machine.{Machine, ReplicaState, who}
 use Rattle.ckpt_machine.specs.Shape.{Shape, IsCompleteOn, IsSpreadUnder}
 use Rattle.ckpt_machine.specs.Failing.{is_of_node, enters_on, failed_at, replica_left}
 use Rattle.ckpt_machine.specs.Laws.{FailuresKeep}
-use Rattle.ckpt_machine.specs.Steps.{count_in, replica_under, replicas_under, reservation_under, opened_state}
+use Rattle.ckpt_machine.specs.After.{replica_under, replicas_under, reservation_under, opened_state}
+use Rattle.ckpt_machine.specs.Due.{count_in}
 use Rattle.ckpt_machine.proofs.OptionLemmas.{IsSomeAnd-from, IfSome-from, IfSome-at}
 use Rattle.ckpt_machine.proofs.NodeLists.{length-slice_set, is_up-none}
 use Rattle.ckpt_machine.proofs.EntryLists.{AllStay-swept}

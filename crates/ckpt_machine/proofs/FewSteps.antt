@@ -22,7 +22,7 @@ use Rattle.ckpt_machine.specs.Laws.{StepsAreFew}
 use Rattle.ckpt_machine.specs.Left.{lacking, having, making_left, active_left, kind_left, setting_left, steps_left, sync_left, update_left}
 use Rattle.ckpt_machine.specs.Machine.{Machine, CallState}
 use Rattle.ckpt_machine.specs.Shape.{Shape}
-use Rattle.ckpt_machine.specs.Steps.{driver_of}
+use Rattle.ckpt_machine.specs.Due.{driver_of}
 use Rattle.ckpt_machine.proofs.Served.{unserved-few}
 
 -- ---- some are left

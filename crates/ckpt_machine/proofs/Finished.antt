@@ -20,7 +20,8 @@ use Rattle.ckpt_types.specs.Asks.{asked}
 use Rattle.weak_marks.specs.Marks.{Marked}
 use Rattle.ckpt_machine.specs.Invariant.{IsMaker, IsGoodIn, IsOfGeneration, InvariantIn}
 use Rattle.ckpt_machine.specs.Machine.{Machine, ReplicaState, CallState, who}
-use Rattle.ckpt_machine.specs.Steps.{driver_of, with_record, replica_under, reservation_under, opened_state}
+use Rattle.ckpt_machine.specs.After.{with_record, replica_under, reservation_under, opened_state}
+use Rattle.ckpt_machine.specs.Due.{driver_of}
 use Rattle.ckpt_machine.specs.Shape.{Shape, IsCompleteOn, IsShapedBy, is_owner, IsOwner, IsMarker, IsActiveBy, IsHolder, IsSpread}
 use Rattle.ckpt_machine.proofs.Handles.{IsGoodHandle-later}
 use Rattle.ckpt_machine.proofs.ActiveBy.{lowest_complete}
@@ -42,7 +43,7 @@ use Rattle.ckpt_machine.proofs.ReservedUnder.{was_reserved}
 use Rattle.ckpt_machine.proofs.NodeLists.{slice_index-replicate}
 use Rattle.ckpt_machine.specs.Whose.{put_who}
 use Rattle.ckpt_machine.proofs.Whose.{same_who-false, put_who-cases, put_who-other}
-use Rattle.ckpt_machine.specs.Options.{is_all}
+use Rattle.cluster_record.specs.Placement.{is_all}
 
 -- the first active is one by the complete nodes
 first_active_by : (collocated all : Bool) (cs : List ℕ) → IsSome (first_complete 0 cs) → IsActiveBy collocated all cs (cond collocated None (first_complete 0 cs))

@@ -14,7 +14,7 @@ use Rattle.ckpt_machine.specs.Drivers as drivers
 use Rattle.cluster_record.specs.declared.calls.Making.{Making}
 use Rattle.cluster_record.specs.declared.entries.Entry.{Entry}
 use Rattle.replica.specs.Replicas.{Replica, opened_replica}
-use Rattle.ckpt_machine.specs.Steps.{reservation_under}
+use Rattle.ckpt_machine.specs.After.{reservation_under}
 use Rattle.cluster_record.specs.Places.{change_key}
 use Rattle.ckpt_types.specs.declared.calls.OpenAsk.{OpenAsk}
 use Rattle.cluster_record.specs.Opening.{answer_named, open_answer}

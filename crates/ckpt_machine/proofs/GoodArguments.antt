@@ -6,7 +6,7 @@ use Rattle.ckpt_types.specs.Asks.{asked}
 use Rattle.ckpt_machine.specs.BeginRows.{has_bad_arguments}
 use Rattle.ckpt_machine.specs.Machine.{Machine, CallState, empty_cluster, who}
 use Rattle.ckpt_machine.specs.Runs.{last, IsRun}
-use Rattle.ckpt_machine.specs.Steps.{standing_of}
+use Rattle.ckpt_machine.specs.Due.{standing_of}
 use Rattle.ckpt_machine.proofs.BegunBefore.{all_began}
 use Rattle.ckpt_machine.proofs.Runs.{IsRunFrom-back}
 use Rattle.ckpt_machine.proofs.Starting.{row_passed}

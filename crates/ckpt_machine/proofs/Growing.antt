@@ -27,7 +27,8 @@ use Rattle.ckpt_machine.specs.Machine.{Machine, Applied, ReplicaState, Snapshot,
 use Rattle.ckpt_machine.specs.Propagation.{is_behind, replica_from}
 use Rattle.ckpt_machine.specs.Replays.{IsPrefix}
 use Rattle.ckpt_machine.specs.Shape.{IsCompleteOn}
-use Rattle.ckpt_machine.specs.Steps.{Told, with_record, record_step, created_for, retained_for, change_replica, with_committed, with_applied, with_slot, with_marks, with_next_element, without_marks, marks_ended, changed, on_ok, on_look, without_making, at_some, replica_under, opened_state, step_of, staged_moment, after}
+use Rattle.ckpt_machine.specs.After.{with_record, record_step, created_for, retained_for, change_replica, with_committed, with_applied, with_slot, with_marks, with_next_element, without_marks, marks_ended, changed, on_ok, on_look, without_making, at_some, replica_under, opened_state, step_of, staged_moment, after}
+use Rattle.ckpt_machine.specs.Due.{Told}
 use Rattle.ckpt_machine.proofs.Activating.{Leads, with_leader, made_where_complete, found_led, led_made, others_stay, after_activate}
 use Rattle.ckpt_machine.proofs.ActiveNode.{active_complete}
 use Rattle.ckpt_machine.proofs.Copying.{IsSource, IsOfSource, TakesOver, after_pull, after_put_over}

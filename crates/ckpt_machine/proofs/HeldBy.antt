@@ -4,12 +4,12 @@ use Rattle.ckpt_types.specs.declared.identities.CallId.{CallId}
 use Rattle.cluster_record.specs.declared.entries.Entry.{Entry}
 use Rattle.cluster_record.specs.Calls.{same_call}
 use Rattle.cluster_record.specs.RecordState.{entry_of, is_live}
-use Rattle.ckpt_machine.specs.Guards.{OnHeldBy}
+use Rattle.ckpt_machine.specs.LookGuards.{OnHeldBy}
 use Rattle.ckpt_machine.specs.InHand.{is_enter}
 use Rattle.ckpt_machine.specs.Invariant.{IsGoodIn, InvariantIn}
 use Rattle.ckpt_machine.specs.Machine.{Machine, CallState, who}
 use Rattle.ckpt_machine.specs.Shape.{Shape, IsOnHold, IsSpread}
-use Rattle.ckpt_machine.specs.Steps.{driver_of}
+use Rattle.ckpt_machine.specs.Due.{driver_of}
 use Rattle.ckpt_machine.proofs.OptionLemmas.{IsSomeAnd-from}
 use Rattle.ckpt_machine.proofs.PlainCalls.{is_plain, holder_apart}
 use Rattle.ckpt_machine.proofs.Whose.{other_call}

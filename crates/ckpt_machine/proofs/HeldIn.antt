@@ -8,13 +8,13 @@ use Rattle.ckpt_types.specs.Asks.{asked}
 use Rattle.ckpt_types.specs.Asks as asks
 use Rattle.cluster_record.specs.declared.entries.Entry.{Entry}
 use Rattle.cluster_record.specs.RecordState.{entry_of}
-use Rattle.ckpt_machine.specs.Guards.{MayLead}
+use Rattle.ckpt_machine.specs.ActiveGuards.{MayLead}
 use Rattle.ckpt_machine.specs.InHand.{is_held_by}
 use Rattle.ckpt_machine.specs.Invariant.{IsGoodIn, Invariant}
 use Rattle.ckpt_machine.specs.Machine.{Machine, ReplicaState, Snapshot, CallState, who}
 use Rattle.ckpt_machine.specs.Propagation.{on_node, copied}
 use Rattle.ckpt_machine.specs.Shape.{IsSpread}
-use Rattle.ckpt_machine.specs.Steps.{driver_of}
+use Rattle.ckpt_machine.specs.Due.{driver_of}
 use Rattle.ckpt_machine.proofs.OptionLemmas.{IfSome-at}
 use Rattle.ckpt_machine.proofs.SyncSteps.{drives_setting}
 use Rattle.ckpt_machine.proofs.Whose.{same_state}

@@ -30,15 +30,21 @@ use Rattle.ckpt_machine.specs.Drivers.{Driver}
 use Rattle.ckpt_machine.specs.Drivers as drivers
 use Rattle.ckpt_machine.specs.Driving.{driver_next, driver_taken}
 use Rattle.node_core.specs.Serving.{update_answer}
-use Rattle.ckpt_machine.specs.Guards.{HoldOk, IsMadeBy, OnReplica, OnAll, OnActive, CommitOk, ApplyOk, AreMarksOf, UnmarkRow, PullOk, Row, Allowed}
+use Rattle.ckpt_machine.specs.Guards.{Row, Allowed}
+use Rattle.ckpt_machine.specs.OpenGuards.{IsMadeBy}
+use Rattle.ckpt_machine.specs.ActiveGuards.{HoldOk, ApplyOk, AreMarksOf, UnmarkRow, PullOk}
+use Rattle.ckpt_machine.specs.UpdateGuards.{CommitOk}
+use Rattle.ckpt_machine.specs.GuardTerms.{OnReplica, OnAll, OnActive}
 use Rattle.ckpt_machine.specs.InHand.{IsInPlace, IsUpdateIn}
 use Rattle.ckpt_machine.specs.Invariant.{IsGoodIn, InvariantIn, Invariant}
 use Rattle.ckpt_machine.specs.Machine.{Machine, Staged, ReplicaState, Snapshot, CallState, empty_cluster, who}
-use Rattle.ckpt_machine.specs.Options.{is_all, is_weak, is_by_element}
+use Rattle.ckpt_machine.specs.Options.{is_weak, is_by_element}
+use Rattle.cluster_record.specs.Placement.{is_all}
 use Rattle.ckpt_machine.specs.Owned.{HasEffect}
 use Rattle.ckpt_machine.specs.Propagation.{copied, replica_from}
 use Rattle.ckpt_machine.specs.Shape.{Shape, IsCompleteOn, IsShapedBy, IsOwner, IsMarker, IsSpread, slot_by, marks_at}
-use Rattle.ckpt_machine.specs.Steps.{Told, IsDone, IsDue, driver_of, due, rooms_of, after_beginning, with_record, call_begun, changed, kept_behind, counted_at, pulled_by, stepped, step_of, after}
+use Rattle.ckpt_machine.specs.After.{after_beginning, with_record, call_begun, changed, kept_behind, pulled_by, stepped, step_of, after}
+use Rattle.ckpt_machine.specs.Due.{Told, IsDone, IsDue, driver_of, due, rooms_of, counted_at}
 use Rattle.ckpt_machine.proofs.Runs.{along}
 use Rattle.ckpt_machine.proofs.Copying.{IsPulledFrom, after_pull, after_put, put-cases}
 use Rattle.ckpt_machine.proofs.OwnMaking.{making_there}

@@ -5,10 +5,12 @@ use Rattle.node_msgs.specs.declared.steps.StepReply.{StepReply}
 use Rattle.node_msgs.specs.declared.steps.StepReply.TheVariants as words
 use Rattle.node_msgs.specs.declared.steps.Verb.TheVariants as verbs
 use Rattle.cluster_record.specs.Places.{put2}
-use Rattle.ckpt_machine.specs.Guards.{InstallOk, InstallRow, Row}
+use Rattle.ckpt_machine.specs.Guards.{Row}
+use Rattle.ckpt_machine.specs.ActiveGuards.{InstallOk, InstallRow}
 use Rattle.ckpt_machine.specs.Machine.{Machine, ReplicaState, Snapshot, CallState}
 use Rattle.ckpt_machine.specs.Propagation.{replica_from}
-use Rattle.ckpt_machine.specs.Steps.{Told, change_replica, with_installed, changed}
+use Rattle.ckpt_machine.specs.After.{change_replica, with_installed, changed}
+use Rattle.ckpt_machine.specs.Due.{Told}
 use Rattle.ckpt_machine.proofs.Copying.{TakesOver}
 use Rattle.ckpt_machine.proofs.Histories.{on_replica-there}
 

@@ -31,16 +31,20 @@ use Rattle.cluster_record.specs.RecordState.{entry_of, complete_of}
 use Rattle.cluster_record.specs.StepDone.{StepDone, done_of, counting}
 use Rattle.ckpt_machine.specs.Drivers as drivers
 use Rattle.ckpt_machine.specs.Driving.{driver_taken}
-use Rattle.ckpt_machine.specs.Guards.{deadline_of, IsInTime, HasNoActive, OnReplica, InstallOk, steps_with, serves, unless_unserved}
+use Rattle.ckpt_machine.specs.LookGuards.{HasNoActive}
+use Rattle.ckpt_machine.specs.ActiveGuards.{InstallOk, steps_with, serves, unless_unserved}
+use Rattle.ckpt_machine.specs.GuardTerms.{deadline_of, IsInTime, OnReplica}
 use Rattle.ckpt_machine.specs.InHand.{IsInHand, IsSynchronizeIn, HasServedActive}
 use Rattle.ckpt_machine.specs.Invariant.{InvariantIn, Invariant}
 use Rattle.ckpt_machine.specs.Left.{unserved, sync_left, kind_left, steps_left}
 use Rattle.ckpt_machine.specs.Listing.{is_active}
 use Rattle.ckpt_machine.specs.Machine.{Machine, ReplicaState, Snapshot, CallState, who}
-use Rattle.ckpt_machine.specs.Options.{is_all}
+use Rattle.cluster_record.specs.Placement.{is_all}
 use Rattle.ckpt_machine.specs.Propagation.{is_behind, replica_from}
 use Rattle.ckpt_machine.specs.Shape.{Shape, IsCompleteOn, IsShapedBy, IsSpread}
-use Rattle.ckpt_machine.specs.Steps.{Told, IsDone, IsServed, driver_of, payload_due, details_due, seen, seen_at, seen_by, seen_slot, seen_snapshot, change_replica, with_installed, kept_behind, left_in_hand}
+use Rattle.ckpt_machine.specs.After.{change_replica, with_installed, kept_behind, left_in_hand}
+use Rattle.ckpt_machine.specs.Due.{Told, IsDone, IsServed, driver_of, payload_due, details_due}
+use Rattle.ckpt_machine.specs.Seen.{seen, seen_at, seen_by, seen_slot, seen_snapshot}
 use Rattle.ckpt_machine.proofs.ActiveNode.{ActiveOf, active_of}
 use Rattle.ckpt_machine.proofs.Deadlines.{in_time-cases}
 use Rattle.ckpt_machine.proofs.DueStep.{Goes}

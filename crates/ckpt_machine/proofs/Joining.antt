@@ -11,7 +11,7 @@ use Rattle.cluster_record.specs.Placement.{is_collocated, adds}
 use Rattle.cluster_record.specs.RecordState.{joined, opened_with}
 use Rattle.cluster_record.proofs.IdentityLaws.{KeepsIdentity}
 use Rattle.ckpt_machine.specs.Later.{IsLaterEntry}
-use Rattle.ckpt_machine.specs.Options.{is_all}
+use Rattle.cluster_record.specs.Placement.{is_all}
 use Rattle.ckpt_machine.specs.Shape.{NodesAreUp, IsCompleteOn}
 use Rattle.ckpt_machine.proofs.NodeLists.{index-within, index-set, index-other, length-slice_set}
 

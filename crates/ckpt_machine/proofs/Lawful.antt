@@ -6,7 +6,8 @@ use Rattle.ckpt_machine.specs.Drivers as drivers
 use Rattle.ckpt_machine.specs.Driving.{driver_next}
 use Rattle.ckpt_machine.specs.Machine.{Machine, CallState, who}
 use Rattle.ckpt_machine.specs.Propagation.{source_at, target_at}
-use Rattle.ckpt_machine.specs.Steps.{Told, IsDone, driver_of, rooms_of, step_of}
+use Rattle.ckpt_machine.specs.After.{step_of}
+use Rattle.ckpt_machine.specs.Due.{Told, IsDone, driver_of, rooms_of}
 use Rattle.ckpt_machine.specs.Invariant.{Invariant}
 use Rattle.ckpt_machine.specs.Laws.{IsLawful}
 use Rattle.ckpt_machine.proofs.Active.{active_goes}

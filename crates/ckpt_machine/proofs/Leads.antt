@@ -7,7 +7,7 @@ use Rattle.node_core.specs.Nodes.{replica_key}
 use Rattle.replica.specs.Replicas.{Replica}
 use Rattle.snap_copy.specs.Snapshots as copies
 use Rattle.ckpt_machine.specs.Machine.{Effect, ReplicaState, Snapshot}
-use Rattle.ckpt_machine.specs.Steps.{with_lead}
+use Rattle.ckpt_machine.specs.After.{with_lead}
 use Rattle.ckpt_machine.specs.Leading.{copy_held, leading, CanLead}
 use Rattle.ckpt_machine.specs.Shown.{FitsCopy, FitsReplica, FitsSlot, FitsSnapshot, shown_copy, shown_replica, shown_slot, shown_snapshot}
 

@@ -30,7 +30,8 @@ use Rattle.ckpt_machine.specs.Invariant.{IsMaker, IsGoodClient, AreCalls, Invari
 use Rattle.ckpt_machine.specs.Later.{IsLaterEntry, IsLaterRecord}
 use Rattle.ckpt_machine.specs.Machine.{Machine, CallState, who}
 use Rattle.ckpt_machine.specs.Shape.{Shape, IsOwner, IsMarker, IsHolder}
-use Rattle.ckpt_machine.specs.Steps.{Told, IsDone, driver_of, with_tables, without_calls, record_step}
+use Rattle.ckpt_machine.specs.After.{with_tables, without_calls, record_step}
+use Rattle.ckpt_machine.specs.Due.{Told, IsDone, driver_of}
 use Rattle.ckpt_machine.specs.Tables.{handle_asked}
 use Rattle.ckpt_machine.specs.Whose.{is_of, same_who}
 use Rattle.ckpt_machine.proofs.Actors.{same_actor-true}

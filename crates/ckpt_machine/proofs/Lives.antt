@@ -16,7 +16,7 @@ use Rattle.ckpt_machine.specs.InHand.{IsInHand}
 use Rattle.ckpt_machine.specs.Invariant.{InvariantIn}
 use Rattle.ckpt_machine.specs.Machine.{Machine, CallState, who}
 use Rattle.ckpt_machine.specs.Shape.{Shape, IsOwner, IsLeft}
-use Rattle.ckpt_machine.specs.Steps.{IsDriven, driver_of}
+use Rattle.ckpt_machine.specs.Due.{IsDriven, driver_of}
 use Rattle.ckpt_machine.specs.Whose.{put_who}
 use Rattle.ckpt_machine.proofs.CallsKept.{IsSameCall}
 use Rattle.ckpt_machine.proofs.Whose.{put_who-cases}

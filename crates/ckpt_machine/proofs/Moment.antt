@@ -5,7 +5,7 @@ use Rattle.cluster_record.specs.declared.entries.Entry.{Entry}
 use Rattle.cluster_record.specs.RecordState.{entry_of, stays, moved, has_references, retained_until}
 use Rattle.cluster_record.proofs.IdentityLaws.{filter_leaves, IdentitiesRise-filter, AllUpTo-filter}
 use Rattle.ckpt_machine.specs.Machine.{Machine}
-use Rattle.ckpt_machine.specs.Steps.{with_record}
+use Rattle.ckpt_machine.specs.After.{with_record}
 use Rattle.ckpt_machine.specs.Shape.{Shape}
 use Rattle.moment_rules.specs.Times.{is_reached}
 use Rattle.std.proofs.lemmas.Option.{same_Some}

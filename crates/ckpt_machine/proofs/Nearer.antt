@@ -6,7 +6,8 @@ use Rattle.ckpt_machine.specs.Driving.{driver_taken}
 use Rattle.ckpt_machine.specs.Left.{steps_left}
 use Rattle.ckpt_machine.specs.Machine.{CallState, who}
 use Rattle.ckpt_machine.specs.Laws.{BringsNearer}
-use Rattle.ckpt_machine.specs.Steps.{counted_at, driver_of, step_of}
+use Rattle.ckpt_machine.specs.After.{step_of}
+use Rattle.ckpt_machine.specs.Due.{counted_at, driver_of}
 use Rattle.ckpt_machine.proofs.Lawful.{driver_goes}
 use Rattle.ckpt_machine.proofs.Dropped.{held_as}
 

@@ -10,7 +10,7 @@ use Rattle.replica.specs.Replicas.{Replica}
 use Rattle.cluster_record.specs.Places.{find_key, change_key, list_or, put2}
 use Rattle.cluster_record.specs.RecordState.{RecordState, entry_of, complete_of}
 use Rattle.node_core.specs.Nodes.{replica_key}
-use Rattle.ckpt_machine.specs.Steps.{reservation_under}
+use Rattle.ckpt_machine.specs.After.{reservation_under}
 use Rattle.ckpt_machine.specs.Nodes.{replica_in, with_changed}
 use Rattle.ckpt_machine.specs.Machine.{Effect}
 use Rattle.ckpt_machine.specs.Shown.{shown_replica, shown_reservation, where_complete, complete_replica, reserved_in, FitsReplica}

@@ -10,7 +10,7 @@ use Rattle.ckpt_machine.specs.Invariant.{IsOfGeneration, IsCompleteAt}
 use Rattle.ckpt_machine.specs.Later.{IsLaterEntry}
 use Rattle.ckpt_machine.specs.Machine.{ReplicaState}
 use Rattle.ckpt_machine.specs.Shape.{IsCompleteOn}
-use Rattle.ckpt_machine.specs.Steps.{opened_state, replica_under}
+use Rattle.ckpt_machine.specs.After.{opened_state, replica_under}
 
 -- the generation of its checkpoint is one that each replica may have
 pub present_generation : (e : Entry) (r generation : ℕ) → generation ≡ e.generation → IsOfGeneration e r generation

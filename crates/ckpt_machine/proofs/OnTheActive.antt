@@ -19,13 +19,15 @@ use Rattle.cluster_record.specs.Calls.{same_call}
 use Rattle.cluster_record.specs.RecordState.{entry_of, is_live}
 use Rattle.ckpt_machine.specs.Drivers as drivers
 use Rattle.ckpt_machine.specs.Driving.{refused_cause}
-use Rattle.ckpt_machine.specs.Guards.{OnActive, ActiveRefused, ActiveHeld}
+use Rattle.ckpt_machine.specs.ActiveGuards.{ActiveRefused, ActiveHeld}
+use Rattle.ckpt_machine.specs.GuardTerms.{OnActive}
 use Rattle.ckpt_machine.specs.InHand.{is_enter, is_marked_by, are_present, IsInPlace, IsActiveIn}
 use Rattle.ckpt_machine.specs.Invariant.{IsGoodIn, InvariantIn, Invariant}
 use Rattle.ckpt_machine.specs.Machine.{Machine, ReplicaState, CallState, who}
-use Rattle.ckpt_machine.specs.Options.{is_all, is_weak, is_by_element}
+use Rattle.ckpt_machine.specs.Options.{is_weak, is_by_element}
+use Rattle.cluster_record.specs.Placement.{is_all}
 use Rattle.ckpt_machine.specs.Shape.{Shape, IsApart, IsMarker, IsSpread}
-use Rattle.ckpt_machine.specs.Steps.{Told, driver_of}
+use Rattle.ckpt_machine.specs.Due.{Told, driver_of}
 use Rattle.ckpt_machine.proofs.ActiveNode.{AsksOf, by_kind, is_change, none_all, ActiveOf}
 use Rattle.ckpt_machine.proofs.OptionLemmas.{IsSomeAnd-from}
 use Rattle.ckpt_machine.specs.Whose.{put_who}

@@ -18,14 +18,16 @@ use Rattle.ckpt_machine.specs.WasAsked.{WasAsked}
 use Rattle.cluster_record.specs.declared.entries.Entry.{Entry}
 use Rattle.cluster_record.specs.RecordState.{entry_of}
 use Rattle.ckpt_machine.specs.Beginning.{update_is_bad}
-use Rattle.ckpt_machine.specs.Guards.{AreMarksOf}
+use Rattle.ckpt_machine.specs.ActiveGuards.{AreMarksOf}
 use Rattle.ckpt_machine.specs.Invariant.{Invariant}
 use Rattle.ckpt_machine.specs.Listing.{is_active}
 use Rattle.ckpt_machine.specs.Machine.{Machine, Staged, ReplicaState, CallState, who}
-use Rattle.ckpt_machine.specs.Options.{is_all, is_weak, is_by_element}
+use Rattle.ckpt_machine.specs.Options.{is_weak, is_by_element}
+use Rattle.cluster_record.specs.Placement.{is_all}
 use Rattle.ckpt_machine.specs.Replays.{IsPrefix}
 use Rattle.ckpt_machine.specs.Shape.{marks_at}
-use Rattle.ckpt_machine.specs.Steps.{Told, IsDone, due, committed_slot, with_committed, next_element_written, with_next_element, effect_of}
+use Rattle.ckpt_machine.specs.After.{committed_slot, with_committed, next_element_written, with_next_element, effect_of}
+use Rattle.ckpt_machine.specs.Due.{Told, IsDone, due}
 use Rattle.ckpt_machine.proofs.Copying.{not_active}
 use Rattle.ckpt_machine.proofs.Histories.{HasHistory}
 use Rattle.ckpt_machine.proofs.Prefixes.{prefix_same, prefix_of_same}

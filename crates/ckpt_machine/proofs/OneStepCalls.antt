@@ -25,8 +25,10 @@ use Rattle.ckpt_machine.specs.Drivers as drivers
 use Rattle.ckpt_machine.specs.InHand.{IsCloseAt, IsRetainAt, is_enter, IsInPlace}
 use Rattle.ckpt_machine.specs.Invariant.{IsMaker, IsGoodIn, InvariantIn, Invariant}
 use Rattle.ckpt_machine.specs.Machine.{Machine, CallState, who}
-use Rattle.ckpt_machine.specs.Steps.{Told, IsDone, IsEvent, driver_of, with_closed, record_step, retained_for}
-use Rattle.ckpt_machine.specs.Guards.{LookRefused, LookDone, UnlinkLook, RetainLook, CanUnlink}
+use Rattle.ckpt_machine.specs.After.{with_closed, record_step, retained_for}
+use Rattle.ckpt_machine.specs.Due.{Told, IsDone, IsEvent, driver_of}
+use Rattle.ckpt_machine.specs.LookGuards.{LookRefused, LookDone, UnlinkLook, RetainLook}
+use Rattle.ckpt_machine.specs.OpenGuards.{CanUnlink}
 use Rattle.ckpt_machine.specs.Shape.{Shape}
 use Rattle.ckpt_machine.specs.Later.{IsLaterEntry}
 use Rattle.ckpt_machine.proofs.Enter.{enter_goes}

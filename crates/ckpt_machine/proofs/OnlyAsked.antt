@@ -13,7 +13,7 @@ use Rattle.ckpt_machine.specs.Machine.{Machine, Effect, Applied, Staged, Replica
 use Rattle.ckpt_machine.specs.Runs.{last, IsRun}
 use Rattle.ckpt_machine.specs.Shape.{IsCompleteOn}
 use Rattle.ckpt_machine.specs.Propagation.{replica_from}
-use Rattle.ckpt_machine.specs.Steps.{opened_state, having_taken, committed_slot, next_element_written, marks_ended, with_lead, with_marks, effect_of, staged_moment}
+use Rattle.ckpt_machine.specs.After.{opened_state, having_taken, committed_slot, next_element_written, marks_ended, with_lead, with_marks, effect_of, staged_moment}
 use Rattle.ckpt_machine.specs.WasAsked.{WasAsked, EffectWasAsked, EachWasAsked, HasOnlyAsked, OnlyAskedThroughout}
 use Rattle.ckpt_machine.proofs.Copying.{IsOfSource}
 use Rattle.ckpt_machine.proofs.EachReplica.{IsKept, Each, run_each}

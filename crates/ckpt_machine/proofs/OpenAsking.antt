@@ -34,12 +34,15 @@ use Rattle.cluster_record.specs.Makings.{makings_of}
 use Rattle.ckpt_machine.proofs.Whose.{other_call}
 use Rattle.ckpt_machine.specs.Drivers as drivers
 use Rattle.ckpt_machine.specs.Driving.{driver_taken, event_ckpt, event_node, event_refusal, refusal_in, opened_end}
-use Rattle.ckpt_machine.specs.Guards.{IsInTime, MayCreate, IsOpenable, MayOpen, OpenRow, MayExist, IsAccepted, OpenLook}
+use Rattle.ckpt_machine.specs.LookGuards.{MayExist, IsAccepted, OpenLook}
+use Rattle.ckpt_machine.specs.OpenGuards.{MayCreate, IsOpenable, MayOpen, OpenRow}
+use Rattle.ckpt_machine.specs.GuardTerms.{IsInTime}
 use Rattle.ckpt_machine.specs.InHand.{attributes_asked, AreGoodAttributes, is_enter, IsInPlace, IsInHand, IsOpenIn}
 use Rattle.ckpt_machine.specs.Invariant.{IsMaker, IsGoodIn, InvariantIn, Invariant}
 use Rattle.ckpt_machine.specs.Left.{steps_left}
 use Rattle.ckpt_machine.specs.Machine.{Machine, CallState, who}
-use Rattle.ckpt_machine.specs.Steps.{reservation_under, Told, IsDone, IsEvent, IsRecordAnswer, IsEventAnswer, driver_of, rooms_of, with_record, created_for}
+use Rattle.ckpt_machine.specs.After.{reservation_under, with_record, created_for}
+use Rattle.ckpt_machine.specs.Due.{Told, IsDone, IsEvent, IsRecordAnswer, IsEventAnswer, driver_of, rooms_of}
 use Rattle.ckpt_machine.specs.Shape.{Shape}
 use Rattle.ckpt_machine.proofs.Created.{entry_new, created_keeps}
 use Rattle.ckpt_machine.proofs.Deadlines.{in_time-cases}

@@ -13,8 +13,9 @@ use Rattle.cluster_record.specs.Makings.{makings_of}
 use Rattle.cluster_record.specs.RecordState.{entry_of}
 use Rattle.ckpt_machine.specs.Invariant.{InvariantIn}
 use Rattle.ckpt_machine.specs.Machine.{Machine, CallState}
-use Rattle.ckpt_machine.specs.Steps.{with_given}
-use Rattle.ckpt_machine.specs.Guards.{AsksToOpen, MayExist, OpenLook, LookRefused}
+use Rattle.ckpt_machine.specs.After.{with_given}
+use Rattle.ckpt_machine.specs.Guards.{AsksToOpen}
+use Rattle.ckpt_machine.specs.LookGuards.{MayExist, OpenLook, LookRefused}
 use Rattle.ckpt_machine.specs.Shape.{Shape}
 use Rattle.ckpt_machine.proofs.EndedTables.{given_keeps, given_stays}
 use Rattle.ckpt_machine.proofs.Handles.{IsGivable}

@@ -40,7 +40,7 @@ use Rattle.ckpt_machine.specs.Entries.{IsMakingEntry}
 use Rattle.ckpt_machine.specs.InHand.{AreGoodAttributes, attributes_asked, is_enter, IsMakingIn, IsOpenIn}
 use Rattle.ckpt_machine.specs.Invariant.{IsGoodIn, IsGoodClient, IsMaker, InvariantIn}
 use Rattle.ckpt_machine.specs.Machine.{Machine, CallState, who}
-use Rattle.ckpt_machine.specs.Steps.{due, driver_of, rooms_of}
+use Rattle.ckpt_machine.specs.Due.{due, driver_of, rooms_of}
 use Rattle.ckpt_machine.specs.Shape.{Shape}
 use Rattle.ckpt_machine.proofs.Deadlines.{in_time-either}
 use Rattle.ckpt_machine.proofs.OptionLemmas.{IsSomeAnd-from}

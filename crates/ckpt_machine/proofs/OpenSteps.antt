@@ -4,7 +4,7 @@ use Rattle.cluster_record.specs.declared.calls.Making.{Making}
 use Rattle.cluster_record.specs.DueOpen.{OpenState, by_making}
 use Rattle.ckpt_machine.specs.Drivers as drivers
 use Rattle.ckpt_machine.specs.Machine.{Machine, CallState, who}
-use Rattle.ckpt_machine.specs.Steps.{Told, IsDone, due, driver_of, rooms_of}
+use Rattle.ckpt_machine.specs.Due.{Told, IsDone, due, driver_of, rooms_of}
 use Rattle.ckpt_machine.specs.Driving.{driver_next}
 use Rattle.ckpt_machine.specs.Shape.{Shape}
 use Rattle.ckpt_machine.specs.Invariant.{InvariantIn}

@@ -14,7 +14,8 @@ use Rattle.cluster_record.proofs.IdentityLaws.{KeepsIdentity, IdentitiesRise-cha
 use Rattle.ckpt_machine.specs.Entries.{WasMade}
 use Rattle.ckpt_machine.specs.Invariant.{IsGoodIn, InvariantIn, Invariant}
 use Rattle.ckpt_machine.specs.Machine.{Machine, CallState, who}
-use Rattle.ckpt_machine.specs.Steps.{driver_of, with_given, record_step}
+use Rattle.ckpt_machine.specs.After.{with_given, record_step}
+use Rattle.ckpt_machine.specs.Due.{driver_of}
 use Rattle.ckpt_machine.specs.Shape.{Shape, IsCompleteOn, IsSpread}
 use Rattle.ckpt_machine.specs.Later.{IsLaterEntry}
 use Rattle.ckpt_machine.proofs.Entries.{ComesOf, ComesOf-change_found, ComesOf-filter, ComesOf-then}

@@ -37,11 +37,13 @@ use Rattle.ckpt_machine.specs.Drivers as drivers
 use Rattle.ckpt_machine.specs.Entries.{WasMade}
 use Rattle.ckpt_types.specs.declared.attributes.CreationAttributes.{CreationAttributes}
 use Rattle.ckpt_machine.specs.Machine.{Machine, ReplicaState, Snapshot, CallState, who}
-use Rattle.ckpt_machine.specs.Options.{is_all, is_weak}
+use Rattle.ckpt_machine.specs.Options.{is_weak}
+use Rattle.cluster_record.specs.Placement.{is_all}
 use Rattle.ckpt_machine.specs.Propagation.{on_node, copied}
 use Rattle.weak_marks.specs.Marks.{Marked}
 use Rattle.ckpt_machine.specs.Shape.{Shape, IsCompleteOn, marks_at, IsShapedBy, is_owner, PhaseFits, IsOwner, IsLeft, IsMarker, IsActiveBy, IsHolder}
-use Rattle.ckpt_machine.specs.Steps.{opened_state, driver_of, asked_handle}
+use Rattle.ckpt_machine.specs.After.{opened_state}
+use Rattle.ckpt_machine.specs.Due.{driver_of, asked_handle}
 use Rattle.ckpt_machine.specs.InHand.{active_kind, is_marked_by, are_present, is_held_by, IsMakingIn, IsOpenIn, IsUpdateIn, IsDoneIn, PhaseKeeps, HasSome, HasServedActive, IsSettingIn, IsSyncBy, IsOnceAt, IsInPlace, IsInHand}
 use Rattle.ckpt_machine.specs.Invariant.{IsMaker, IsGoodIn}
 use Rattle.ckpt_machine.specs.Later.{IsLaterEntry}

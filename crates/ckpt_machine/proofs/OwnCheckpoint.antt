@@ -17,7 +17,7 @@ use Rattle.cluster_record.specs.declared.calls.ActiveKind.TheVariants as kinds
 use Rattle.cluster_record.specs.DueActive.{weak_request, active_request, request_by}
 use Rattle.ckpt_machine.specs.Guards.{IsOnOwn}
 use Rattle.ckpt_machine.specs.Machine.{Machine, CallState}
-use Rattle.ckpt_machine.specs.Steps.{Told, IsDone, driver_of}
+use Rattle.ckpt_machine.specs.Due.{Told, IsDone, driver_of}
 use Rattle.ckpt_types.specs.declared.identities.CallId.{CallId}
 use Rattle.ckpt_machine.specs.Drivers.{Driver, Rooms}
 use Rattle.ckpt_machine.specs.Drivers as drivers

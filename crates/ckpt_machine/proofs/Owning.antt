@@ -12,9 +12,10 @@ use Rattle.cluster_record.specs.StepDone.{has}
 use Rattle.ckpt_machine.specs.Drivers as drivers
 use Rattle.ckpt_machine.specs.Machine.{Machine, ReplicaState, CallState, who}
 use Rattle.ckpt_types.specs.Asks.{update_of}
-use Rattle.ckpt_machine.specs.Steps.{driver_of, seen, seen_at, seen_by}
-use Rattle.ckpt_machine.specs.Guards.{OnReplica, OnAll}
-use Rattle.ckpt_machine.specs.Options.{is_all}
+use Rattle.ckpt_machine.specs.Due.{driver_of}
+use Rattle.ckpt_machine.specs.Seen.{seen, seen_at, seen_by}
+use Rattle.ckpt_machine.specs.GuardTerms.{OnReplica, OnAll}
+use Rattle.cluster_record.specs.Placement.{is_all}
 use Rattle.ckpt_machine.proofs.OnAll.{shaped_replicas}
 use Rattle.ckpt_machine.specs.Shape.{Shape, IsActiveBy, IsCompleteOn, IsShaped, is_owner, IsOwner, IsSpread, PhaseFits}
 use Rattle.ckpt_machine.specs.InHand.{IsInPlace, IsUpdateIn}

@@ -28,8 +28,9 @@ use Rattle.ckpt_machine.specs.Drivers as drivers
 use Rattle.ckpt_machine.specs.Driving.{making_in}
 use Rattle.ckpt_machine.specs.Machine.{Machine, Snapshot, CallState, who}
 use Rattle.ckpt_types.specs.Asks.{asked}
-use Rattle.ckpt_machine.specs.Steps.{Told, IsDone, driver_of, with_record, without_making, kept_behind, left_in_hand}
-use Rattle.ckpt_machine.specs.Guards.{LookRefused}
+use Rattle.ckpt_machine.specs.After.{with_record, without_making, kept_behind, left_in_hand}
+use Rattle.ckpt_machine.specs.Due.{Told, IsDone, driver_of}
+use Rattle.ckpt_machine.specs.LookGuards.{LookRefused}
 use Rattle.ckpt_machine.specs.Shape.{Shape, IsOwner, IsMarker, IsHolder}
 use Rattle.weak_marks.specs.Marks.{Marked}
 use Rattle.ckpt_machine.specs.InHand.{IsInHand}

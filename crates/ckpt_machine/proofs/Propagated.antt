@@ -15,7 +15,7 @@ use Rattle.cluster_record.specs.StepDone.{generation_in}
 use Rattle.ckpt_machine.specs.Invariant.{IsGoodIn, IsOfGeneration, IsCompleteAt, InvariantIn}
 use Rattle.ckpt_machine.specs.Listing.{is_active}
 use Rattle.ckpt_machine.specs.Machine.{Machine, ReplicaState, Snapshot, CallState}
-use Rattle.ckpt_machine.specs.Options.{is_all}
+use Rattle.cluster_record.specs.Placement.{is_all}
 use Rattle.ckpt_machine.specs.Propagation.{source_of, on_node, source_at, copied, with_pulled, target_of, target_at, is_behind, put_onto, put_reply, replica_from, with_put}
 use Rattle.ckpt_machine.specs.Shape.{Shape, IsCompleteOn, marks_at, IsApart, IsShapedBy, IsSpread}
 use Rattle.ckpt_machine.proofs.MarksAt.{none_elsewhere}

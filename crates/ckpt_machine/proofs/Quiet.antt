@@ -3,7 +3,8 @@ use Rattle.std.proofs.Common.{◌≡◌, refl}
 use Rattle.run_labels.specs.declared.labels.Label.{Label}
 use Rattle.run_labels.specs.declared.labels.Label.TheVariants as labels
 use Rattle.ckpt_machine.specs.Machine.{Machine}
-use Rattle.ckpt_machine.specs.Steps.{IsDue, after}
+use Rattle.ckpt_machine.specs.After.{after}
+use Rattle.ckpt_machine.specs.Due.{IsDue}
 use Rattle.ckpt_machine.proofs.Copying.{after_pull, after_put}
 
 -- no call begins or takes a step by it

@@ -13,7 +13,7 @@ use Rattle.ckpt_types.specs.Asks.{asked}
 use Rattle.ckpt_machine.specs.InHand.{attributes_asked, is_enter, IsMakingIn}
 use Rattle.ckpt_machine.specs.Invariant.{IsGoodIn, IsOfGeneration, InvariantIn}
 use Rattle.ckpt_machine.specs.Machine.{Machine, CallState, who}
-use Rattle.ckpt_machine.specs.Steps.{opened_state, with_record, replica_under, reservation_under}
+use Rattle.ckpt_machine.specs.After.{opened_state, with_record, replica_under, reservation_under}
 use Rattle.ckpt_machine.specs.Shape.{Shape, IsCompleteOn}
 use Rattle.ckpt_machine.specs.Later.{IsLaterEntry, IsLaterRecord}
 use Rattle.ckpt_machine.proofs.OtherCalls.{LooksAlike, LooksLater-later, making_still, IsInHand-alike, IsGoodIn-later}

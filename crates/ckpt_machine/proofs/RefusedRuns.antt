@@ -16,14 +16,17 @@ use Rattle.cluster_record.specs.declared.entries.Entry.{Entry}
 use Rattle.cluster_record.specs.RecordState.{RecordState, identity_of, entry_of, complete_of, swept, undone}
 use Rattle.cluster_record.specs.Places.{put}
 use Rattle.std.proofs.lemmas.Bool.{eqb-true}
-use Rattle.ckpt_machine.specs.Guards.{IsMadeBy, CommitRow, Row, Allowed}
+use Rattle.ckpt_machine.specs.Guards.{Row, Allowed}
+use Rattle.ckpt_machine.specs.OpenGuards.{IsMadeBy}
+use Rattle.ckpt_machine.specs.UpdateGuards.{CommitRow}
 use Rattle.ckpt_machine.specs.Invariant.{IsGoodIn, Invariant}
 use Rattle.ckpt_machine.specs.Machine.{Machine, ReplicaState, Snapshot, CallState, who}
 use Rattle.ckpt_machine.specs.Owned.{OwnsNothing, HasNoEffect, HasNothing}
 use Rattle.ckpt_machine.specs.Refusals.{IsRefused, IsRefusal, LeavesAll, UndoesOwn, LeavesBy, end_kept, unmade, unmade_swept, Refuses, call_told, EachRefusalLeaves}
 use Rattle.ckpt_machine.specs.Runs.{last}
 use Rattle.ckpt_machine.specs.Shape.{IsCompleteOn, IsSpread}
-use Rattle.ckpt_machine.specs.Steps.{Told, IsDone, IsDue, due, after_beginning, call_begun, changed, kept_behind, step_of, after, replica_under, replicas_under, reservation_under, snapshot_under, opened_state}
+use Rattle.ckpt_machine.specs.After.{after_beginning, call_begun, changed, kept_behind, step_of, after, replica_under, replicas_under, reservation_under, snapshot_under, opened_state}
+use Rattle.ckpt_machine.specs.Due.{Told, IsDone, IsDue, due}
 use Rattle.ckpt_machine.proofs.Copying.{IsSource}
 use Rattle.ckpt_machine.proofs.EachReplica.{run_copies}
 use Rattle.ckpt_machine.proofs.OwnMaking.{making_there}

@@ -31,12 +31,19 @@ use Rattle.cluster_record.specs.RecordState.{entry_of}
 use Rattle.ckpt_types.specs.Asks.{Ask, asked}
 use Rattle.node_core.specs.Serving.{update_answer}
 use Rattle.ckpt_machine.specs.Machine.{Machine, ReplicaState, CallState, who}
-use Rattle.ckpt_machine.specs.Steps.{asked_handle, changed, call_begun, pending_begun, handle_opened, with_pending, stepped, step_of, after, ids_asked, Told, without_making, kept_behind}
+use Rattle.ckpt_machine.specs.After.{changed, call_begun, pending_begun, handle_opened, with_pending, stepped, step_of, after, without_making, kept_behind}
+use Rattle.ckpt_machine.specs.Due.{asked_handle, ids_asked, Told}
 use Rattle.ckpt_machine.specs.Tables.{ended_at_once}
 use Rattle.ckpt_machine.specs.Complete.{complete_replicas}
-use Rattle.ckpt_machine.specs.Options.{is_all, is_weak, is_by_element}
+use Rattle.ckpt_machine.specs.Options.{is_weak, is_by_element}
+use Rattle.cluster_record.specs.Placement.{is_all}
 use Rattle.cluster_record.specs.StepDone.{StepDone}
-use Rattle.ckpt_machine.specs.Guards.{HoldOk, ActivateOk, AtCkpt, AtNode, AtNodeAlone, AtNone, OnReplica, OnAll, OnActive, CommitOk, ActiveRefused, ActiveHeld, BeginsOnActive, ApplyOk, MarkOk, Row, Allowed, ends_update, IterOk, NextOk, NextAnswer, InstallOk, steps_with, all_served, unless_unserved, LookRow, UndoRow, AsksToOpen}
+use Rattle.ckpt_machine.specs.Guards.{AtCkpt, AtNode, AtNodeAlone, AtNone, Row, Allowed, AsksToOpen}
+use Rattle.ckpt_machine.specs.LookGuards.{LookRow}
+use Rattle.ckpt_machine.specs.OpenGuards.{UndoRow}
+use Rattle.ckpt_machine.specs.ActiveGuards.{HoldOk, ActivateOk, ActiveRefused, ActiveHeld, BeginsOnActive, ApplyOk, MarkOk, IterOk, NextOk, NextAnswer, InstallOk, steps_with, all_served, unless_unserved}
+use Rattle.ckpt_machine.specs.UpdateGuards.{CommitOk, ends_update}
+use Rattle.ckpt_machine.specs.GuardTerms.{OnReplica, OnAll, OnActive}
 use Rattle.ckpt_machine.specs.Refusals.{IsRefused, IsRefusal, LeavesAll, UndoesOwn, LeavesBy, end_kept, unmade_swept}
 use Rattle.ckpt_machine.proofs.Actors.{same_actor-true}
 use Rattle.std.specs.Prelude.{if◌then◌else◌}

@@ -20,12 +20,13 @@ use Rattle.cluster_record.specs.RecordState.{entry_of}
 use Rattle.ckpt_machine.specs.Beginning.{update_is_bad}
 use Rattle.ckpt_machine.specs.Invariant.{Invariant}
 use Rattle.ckpt_machine.specs.Machine.{Machine, Effect, Applied, Staged, ReplicaState, Snapshot}
-use Rattle.ckpt_machine.specs.Options.{is_all, is_by_element}
+use Rattle.ckpt_machine.specs.Options.{is_by_element}
+use Rattle.cluster_record.specs.Placement.{is_all}
 use Rattle.ckpt_machine.specs.Propagation.{replica_from}
 use Rattle.ckpt_machine.specs.Replays.{each_done, effect_done, effects_done, replay, with_marked, IsReplay}
 use Rattle.ckpt_machine.specs.Runs.{last, IsRun}
 use Rattle.ckpt_machine.specs.Shape.{IsShapedBy}
-use Rattle.ckpt_machine.specs.Steps.{opened_state, having_taken, committed_slot, with_marks, next_element_written, marks_ended, with_lead}
+use Rattle.ckpt_machine.specs.After.{opened_state, having_taken, committed_slot, with_marks, next_element_written, marks_ended, with_lead}
 use Rattle.ckpt_machine.proofs.EachReplica.{IsKept, run_each}
 use Rattle.ckpt_machine.proofs.ElementsDone.{each_done-next, each_done-write}
 use Rattle.ckpt_machine.proofs.Follows.{IsBare}

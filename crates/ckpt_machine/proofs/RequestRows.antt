@@ -30,7 +30,9 @@ use Rattle.node_core.specs.Serving.{reply_of, replica_after, stage_reply, apply_
 use Rattle.node_core.specs.Fitting.{IsReadyFor}
 use Rattle.node_msgs.specs.Steps.{verb_of, word_of}
 use Rattle.ckpt_machine.specs.Machine.{Machine, Effect, Applied, ReplicaState, Snapshot, CallState}
-use Rattle.ckpt_machine.specs.Steps.{changed, on_ok, change_replica, chosen_at, given_at, ids_asked, payload_due, seen_at, with_slot, with_committed, with_applied, with_marks, with_next_element, without_marks, with_installed, seen_snapshot, having_taken, with_tables, staged_moment}
+use Rattle.ckpt_machine.specs.After.{changed, on_ok, change_replica, chosen_at, given_at, with_slot, with_committed, with_applied, with_marks, with_next_element, without_marks, with_installed, having_taken, with_tables, staged_moment}
+use Rattle.ckpt_machine.specs.Due.{ids_asked, payload_due}
+use Rattle.ckpt_machine.specs.Seen.{seen_at, seen_snapshot}
 use Rattle.ckpt_machine.specs.Tables.{started, with_next, gone_on}
 use Rattle.ckpt_machine.specs.Shown.{shown_replica, shown_slot, FitsReplica, FitsSlot, FitsSnapshot}
 use Rattle.ckpt_machine.proofs.Calls.{IsOwn}

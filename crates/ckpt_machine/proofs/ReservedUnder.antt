@@ -2,7 +2,7 @@
 use Rattle.std.proofs.Common.{◌≡◌, ℕ, Option, Some, None, true, false, cond, ◌==◌, refl}
 use Rattle.std.specs.Prelude.{IsSomeAnd, slice_index}
 use Rattle.cluster_record.specs.declared.entries.Entry.{Entry}
-use Rattle.ckpt_machine.specs.Steps.{reservation_under}
+use Rattle.ckpt_machine.specs.After.{reservation_under}
 
 -- what follows of its entry
 pub was_reserved : (o : Option Entry) (r n : ℕ) (old : Option ℕ) (P : Entry → Type 0) → ((e : Entry) → o ≡ Some e → (slice_index e.complete r == 0) ≡ true → old ≡ Some n → P e) → reservation_under o r old ≡ Some n → IsSomeAnd o P

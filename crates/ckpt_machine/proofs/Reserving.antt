@@ -18,7 +18,7 @@ use Rattle.node_core.specs.Nodes.{replica_key, with_reserved, MayReserve}
 use Rattle.ckpt_machine.specs.Nodes.{replica_in}
 use Rattle.node_core.specs.Serving.{details_at, snapshot_after, snapshot_behind}
 use Rattle.snap_copy.specs.Snapshots as copies
-use Rattle.ckpt_machine.specs.Steps.{reservation_under}
+use Rattle.ckpt_machine.specs.After.{reservation_under}
 use Rattle.ckpt_machine.specs.Facts.{IsReservable}
 use Rattle.ckpt_machine.specs.Shown.{where_complete, complete_replica, shown_reservation, reserved_in}
 use Rattle.ckpt_machine.proofs.NodeMaps.{both_true, same_there, node_case}

@@ -50,7 +50,9 @@ use Rattle.ckpt_machine.specs.Runs.{IsRun, last}
 use Rattle.node_core.specs.Payloads.{no_payload, update_alone}
 use Rattle.node_core.specs.Seen.{record_seen}
 use Rattle.node_core.specs.Serving.{reply_at, details_at, replica_after}
-use Rattle.ckpt_machine.specs.Steps.{Told, IsDue, after, driver_of, due, kept_at_beginning, asked_handle, seen_at, with_tables}
+use Rattle.ckpt_machine.specs.After.{after, with_tables}
+use Rattle.ckpt_machine.specs.Due.{Told, IsDue, driver_of, due, kept_at_beginning, asked_handle}
+use Rattle.ckpt_machine.specs.Seen.{seen_at}
 use Rattle.std.proofs.lemmas.Option.{same_Some}
 
 -- ---- the words of the examples

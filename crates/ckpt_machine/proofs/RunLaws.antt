@@ -4,7 +4,8 @@ use Rattle.run_labels.specs.declared.labels.Label.{Label}
 use Rattle.ckpt_machine.specs.Invariant.{Invariant}
 use Rattle.ckpt_machine.specs.Laws.{EachRunHas}
 use Rattle.ckpt_machine.specs.Runs.{last, IsRun, Counts}
-use Rattle.ckpt_machine.specs.Steps.{IsDue, after}
+use Rattle.ckpt_machine.specs.After.{after}
+use Rattle.ckpt_machine.specs.Due.{IsDue}
 use Rattle.ckpt_machine.proofs.Counting.{counts_empty, counts_up}
 use Rattle.ckpt_machine.proofs.Lawful.{lawful}
 use Rattle.ckpt_machine.specs.Guards.{Allowed}

@@ -3,7 +3,8 @@ use Rattle.std.proofs.Common.{◌≡◌, List, [], ◌∷◌, ◌++◌, refl, sy
 use Rattle.std.proofs.lemmas.List.{append-nil}
 use Rattle.run_labels.specs.declared.labels.Label.{Label}
 use Rattle.ckpt_machine.specs.Machine.{Machine, empty_cluster}
-use Rattle.ckpt_machine.specs.Steps.{IsDue, after}
+use Rattle.ckpt_machine.specs.After.{after}
+use Rattle.ckpt_machine.specs.Due.{IsDue}
 use Rattle.ckpt_machine.specs.Guards.{Allowed}
 use Rattle.ckpt_machine.specs.Runs.{last_from, last, IsRunFrom, IsRun}
 

@@ -20,7 +20,8 @@ use Rattle.cluster_record.specs.RecordState.{client_key}
 use Rattle.ckpt_machine.specs.Guards.{AtNone, Row}
 use Rattle.ckpt_machine.specs.Invariant.{Invariant}
 use Rattle.ckpt_machine.specs.Machine.{Machine, ReplicaState, CallState, who}
-use Rattle.ckpt_machine.specs.Steps.{Told, created_for, retained_for, without_making, change_replica, changed, on_ok, on_look, at_some}
+use Rattle.ckpt_machine.specs.After.{created_for, retained_for, without_making, change_replica, changed, on_ok, on_look, at_some}
+use Rattle.ckpt_machine.specs.Due.{Told}
 use Rattle.ckpt_machine.proofs.AsyncNames.{own_name}
 use Rattle.ckpt_machine.proofs.EndedTables.{client_by_number}
 use Rattle.ckpt_machine.proofs.EntryLists.{find_key-push, find_key-without}

@@ -8,7 +8,7 @@ use Rattle.ckpt_types.specs.declared.answers.Answer.TheVariants.{Pulled}
 use Rattle.ckpt_types.specs.declared.answers.Outcome.TheVariants.{Done}
 use Rattle.cluster_record.specs.DueSync.{is_unserved, first_unserved, ended_by}
 use Rattle.cluster_record.specs.StepDone.{StepDone}
-use Rattle.ckpt_machine.specs.Guards.{serves, all_served}
+use Rattle.ckpt_machine.specs.ActiveGuards.{serves, all_served}
 use Rattle.ckpt_machine.specs.Left.{unserved}
 
 -- ---- lists of what is so by node

@@ -15,7 +15,8 @@ use Rattle.node_core.specs.Seen.{record_seen, is_complete}
 use Rattle.node_core.specs.Serving.{reply_at, replica_after}
 use Rattle.ckpt_machine.specs.Nodes.{node_at, nodes_after, replica_in}
 use Rattle.ckpt_machine.specs.Machine.{Machine, CallState}
-use Rattle.ckpt_machine.specs.Steps.{payload_due, MayAnswer, seen_at}
+use Rattle.ckpt_machine.specs.Due.{payload_due, MayAnswer}
+use Rattle.ckpt_machine.specs.Seen.{seen_at}
 use Rattle.ckpt_machine.proofs.Carried.{GoesToReplica, reserves_none}
 use Rattle.ckpt_machine.proofs.HoldingLaws.{after_key, replicas_served}
 use Rattle.ckpt_machine.proofs.NodeMaps.{changed_here, slice_there}

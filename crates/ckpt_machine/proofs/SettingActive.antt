@@ -26,15 +26,17 @@ use Rattle.cluster_record.specs.RecordState.{RecordState, entry_of, stays, swept
 use Rattle.cluster_record.specs.StepDone.{StepDone, done_of, counting, generation_in}
 use Rattle.ckpt_machine.specs.Drivers as drivers
 use Rattle.ckpt_machine.specs.Driving.{event_ckpt, event_node, event_refusal, making_in, driver_taken}
-use Rattle.ckpt_machine.specs.Guards.{HoldOk, HoldKeptOff, MayLead, ActivateOk, GoneLook, LookRefused}
+use Rattle.ckpt_machine.specs.LookGuards.{GoneLook, LookRefused}
+use Rattle.ckpt_machine.specs.ActiveGuards.{HoldOk, HoldKeptOff, MayLead, ActivateOk}
 use Rattle.ckpt_machine.specs.InHand.{is_marked_by, is_held_by, is_enter, IsInPlace, IsInHand, IsSettingIn, IsSyncBy}
 use Rattle.ckpt_machine.specs.Invariant.{IsGoodIn, IsOfGeneration, IsCompleteAt, InvariantIn, Invariant}
 use Rattle.ckpt_machine.specs.Left.{setting_left, kind_left, steps_left}
 use Rattle.ckpt_machine.specs.Machine.{Machine, ReplicaState, Snapshot, CallState, who}
-use Rattle.ckpt_machine.specs.Options.{is_all}
+use Rattle.cluster_record.specs.Placement.{is_all}
 use Rattle.ckpt_machine.specs.Propagation.{on_node, copied}
 use Rattle.ckpt_machine.specs.Shape.{Shape, IsCompleteOn, marks_at, IsApart, IsShapedBy, IsActiveBy, IsHolder, IsSpread}
-use Rattle.ckpt_machine.specs.Steps.{Told, IsDone, IsEvent, IsEventAnswer, marks_on, kept_off, driver_of, with_record, with_lead, change_replica, led_from, counted_at, kept_behind, left_in_hand}
+use Rattle.ckpt_machine.specs.After.{with_record, with_lead, change_replica, led_from, kept_behind, left_in_hand}
+use Rattle.ckpt_machine.specs.Due.{Told, IsDone, IsEvent, IsEventAnswer, marks_on, kept_off, driver_of, counted_at}
 use Rattle.ckpt_machine.proofs.ActiveBy.{active_by-complete}
 use Rattle.ckpt_machine.proofs.Actors.{same_call-true, same_call-refl, same_call-false}
 use Rattle.ckpt_machine.proofs.CallsKept.{same_call-None, same_call-Some, apart_from}

@@ -21,12 +21,14 @@ use Rattle.cluster_record.specs.Places.{find_key}
 use Rattle.cluster_record.specs.RecordState.{RecordState, entry_of, client_key, home_of, node_of_client}
 use Rattle.ckpt_machine.specs.ActivesSet.{IsHoldOf, WasActiveWith, HasHeld}
 use Rattle.ckpt_machine.specs.Driving.{Kept}
-use Rattle.ckpt_machine.specs.Guards.{HoldOk, MayLead, IsOnOwn, Row, Allowed}
+use Rattle.ckpt_machine.specs.Guards.{IsOnOwn, Row, Allowed}
+use Rattle.ckpt_machine.specs.ActiveGuards.{HoldOk, MayLead}
 use Rattle.ckpt_machine.specs.Invariant.{Invariant}
 use Rattle.ckpt_machine.specs.Machine.{Machine, Effect, Snapshot, CallState, who}
 use Rattle.ckpt_machine.specs.Propagation.{copied}
 use Rattle.ckpt_machine.specs.Runs.{last, IsRun}
-use Rattle.ckpt_machine.specs.Steps.{Told, IsDue, call_begun, changed, pulled_by, kept_behind, step_of, after}
+use Rattle.ckpt_machine.specs.After.{call_begun, changed, pulled_by, kept_behind, step_of, after}
+use Rattle.ckpt_machine.specs.Due.{Told, IsDue}
 use Rattle.ckpt_machine.specs.Whose.{same_who}
 use Rattle.ckpt_machine.proofs.BegunOnce.{step_below}
 use Rattle.ckpt_machine.proofs.Quiet.{quiet}

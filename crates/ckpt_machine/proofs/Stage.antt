@@ -17,9 +17,11 @@ use Rattle.ckpt_machine.specs.Drivers as drivers
 use Rattle.ckpt_types.specs.Asks.{update_of}
 use Rattle.ckpt_machine.specs.Driving.{driver_taken}
 use Rattle.ckpt_machine.specs.Machine.{Machine, Applied, ReplicaState, CallState, who}
-use Rattle.ckpt_machine.specs.Steps.{driver_of, staged_moment, with_slot, left_in_hand, kept_behind}
+use Rattle.ckpt_machine.specs.After.{staged_moment, with_slot, left_in_hand, kept_behind}
+use Rattle.ckpt_machine.specs.Due.{driver_of}
 use Rattle.ckpt_machine.specs.Complete.{complete_replicas, replicas_from}
-use Rattle.ckpt_machine.specs.Guards.{OnEach, IfSlot, StageOk, StageRow}
+use Rattle.ckpt_machine.specs.UpdateGuards.{StageOk, StageRow}
+use Rattle.ckpt_machine.specs.GuardTerms.{OnEach, IfSlot}
 use Rattle.ckpt_machine.specs.Shape.{Shape, IsCompleteOn, IsShaped, is_owner, IsOwner, IsSpread, slot_by, sections_by, effects_by}
 use Rattle.ckpt_machine.specs.InHand.{is_enter, IsUpdateIn, IsDoneIn, IsInPlace, IsInHand, OwnsIn}
 use Rattle.ckpt_machine.specs.Owned.{HasUpdate}

@@ -9,7 +9,8 @@ use Rattle.cluster_record.specs.RecordState.{entry_of, complete_of}
 use Rattle.cluster_record.specs.StepDone.{has, lacks, last_having}
 use Rattle.ckpt_machine.specs.Drivers as drivers
 use Rattle.ckpt_machine.specs.Machine.{Machine, ReplicaState, CallState, who}
-use Rattle.ckpt_machine.specs.Steps.{driver_of, staged_moment, moment_from, moment_of_slot}
+use Rattle.ckpt_machine.specs.After.{staged_moment, moment_from, moment_of_slot}
+use Rattle.ckpt_machine.specs.Due.{driver_of}
 use Rattle.ckpt_machine.specs.Shape.{Shape, IsCompleteOn, IsShaped, IsSpread, IsStaging, PhaseFits, slot_by}
 use Rattle.ckpt_machine.specs.Invariant.{InvariantIn}
 use Rattle.ckpt_machine.proofs.NodeLists.{trichotomy, last_having-None, moment-none, moment-some, not-lacked, had-there}

@@ -21,7 +21,8 @@ use Rattle.ckpt_machine.specs.BeginRows.{goes_on_behind, MeetsNoRefusal, BeginRo
 use Rattle.ckpt_machine.specs.Drivers.{Driver}
 use Rattle.ckpt_machine.specs.Driving.{Kept, on_kept, driver_start, change_start, kind_of_change}
 use Rattle.ckpt_machine.specs.Machine.{Machine, CallState}
-use Rattle.ckpt_machine.specs.Steps.{asked_handle, kept_at_beginning, IsBegun, standing_of, goes_on, started_call, call_begun, after_beginning}
+use Rattle.ckpt_machine.specs.After.{goes_on, started_call, call_begun, after_beginning}
+use Rattle.ckpt_machine.specs.Due.{asked_handle, kept_at_beginning, IsBegun, standing_of}
 use Rattle.ckpt_machine.specs.Tables.{ckpt_of_handle}
 use Rattle.ckpt_machine.proofs.BeginRows.{row_of}
 use Rattle.ckpt_machine.proofs.Whose.{put_who-here}

@@ -23,7 +23,8 @@ use Rattle.ckpt_machine.specs.Drivers as drivers
 use Rattle.ckpt_machine.specs.Driving.{event_ckpt, event_node}
 use Rattle.ckpt_machine.specs.Facts.{IsEventReady, IsFinishable}
 use Rattle.ckpt_machine.specs.Machine.{Machine, CallState}
-use Rattle.ckpt_machine.specs.Steps.{IsRecordAnswer, at_some, changed, led_from, created_for, retained_for, record_step, with_closed, with_given, with_record, with_tables, without_calls}
+use Rattle.ckpt_machine.specs.After.{at_some, changed, led_from, created_for, retained_for, record_step, with_closed, with_given, with_record, with_tables, without_calls}
+use Rattle.ckpt_machine.specs.Due.{IsRecordAnswer}
 use Rattle.ckpt_machine.specs.Tables.{registering, has_place}
 use Rattle.ckpt_machine.proofs.AskedFor.{DrivesFor}
 use Rattle.ckpt_machine.specs.RecordAfter.{event_after}

@@ -35,15 +35,18 @@ use Rattle.cluster_record.specs.RecordState.{entry_of, complete_of}
 use Rattle.cluster_record.specs.StepDone.{StepDone, done_of, counting, generation_in}
 use Rattle.ckpt_machine.specs.Drivers as drivers
 use Rattle.ckpt_machine.specs.Driving.{driver_taken}
-use Rattle.ckpt_machine.specs.Guards.{deadline_of, IsInTime, OnLed, HasNoActive, NoActiveLook, SyncLook, SyncDone, LookRefused, LookDone, PullOk, PullHeld, serves, all_served, unless_unserved}
+use Rattle.ckpt_machine.specs.LookGuards.{OnLed, HasNoActive, NoActiveLook, SyncLook, SyncDone, LookRefused, LookDone}
+use Rattle.ckpt_machine.specs.ActiveGuards.{PullOk, PullHeld, serves, all_served, unless_unserved}
+use Rattle.ckpt_machine.specs.GuardTerms.{deadline_of, IsInTime}
 use Rattle.ckpt_machine.specs.InHand.{is_enter, IsInPlace, IsInHand, IsSyncBy, IsSynchronizeIn, HasServedActive, pulled_as}
 use Rattle.ckpt_machine.specs.Invariant.{IsGoodIn, InvariantIn, Invariant}
 use Rattle.ckpt_machine.specs.Left.{sync_left, kind_left, steps_left}
 use Rattle.ckpt_machine.specs.Machine.{Machine, ReplicaState, Snapshot, CallState, who}
-use Rattle.ckpt_machine.specs.Options.{is_all}
+use Rattle.cluster_record.specs.Placement.{is_all}
 use Rattle.ckpt_machine.specs.Propagation.{copied}
 use Rattle.ckpt_machine.specs.Shape.{Shape, IsApart, IsSpread}
-use Rattle.ckpt_machine.specs.Steps.{Told, IsDone, IsServed, ended_details, driver_of, payload_due, details_due, count_in, with_tables, without_syncs}
+use Rattle.ckpt_machine.specs.After.{with_tables, without_syncs}
+use Rattle.ckpt_machine.specs.Due.{Told, IsDone, IsServed, ended_details, driver_of, payload_due, details_due, count_in}
 use Rattle.ckpt_machine.specs.Tables.{handle_closed, closing}
 use Rattle.ckpt_machine.proofs.ActiveNode.{ActiveOf, active_seen, on_its_replica}
 use Rattle.ckpt_machine.proofs.DueStep.{Goes}

@@ -27,13 +27,14 @@ use Rattle.cluster_record.specs.RecordState.{entry_of}
 use Rattle.cluster_record.specs.StepDone.{StepDone}
 use Rattle.ckpt_machine.specs.Drivers.{Driver}
 use Rattle.ckpt_machine.specs.Drivers as drivers
-use Rattle.ckpt_machine.specs.Guards.{deadline_of, is_service, serves, all_served}
+use Rattle.ckpt_machine.specs.ActiveGuards.{is_service, serves, all_served}
+use Rattle.ckpt_machine.specs.GuardTerms.{deadline_of}
 use Rattle.ckpt_machine.specs.InHand.{active_kind, pulled_as, IsSynchronizeIn, IsSettingIn, IsSyncBy, IsOnceAt, IsInPlace}
 use Rattle.ckpt_machine.specs.Invariant.{Invariant}
 use Rattle.ckpt_machine.specs.Listing.{is_active}
 use Rattle.ckpt_machine.specs.Machine.{Machine, Snapshot, CallState, who}
 use Rattle.ckpt_machine.specs.Shape.{Shape}
-use Rattle.ckpt_machine.specs.Steps.{Told, IsDone, due, driver_of, rooms_of}
+use Rattle.ckpt_machine.specs.Due.{Told, IsDone, due, driver_of, rooms_of}
 use Rattle.ckpt_machine.specs.Driving.{driver_next}
 
 -- ---- which steps serve a node

@@ -29,7 +29,9 @@ use Rattle.cluster_record.specs.RecordState.{entry_of}
 use Rattle.cluster_record.specs.StepDone.{done_of, counting}
 use Rattle.ckpt_machine.specs.Acknowledged.{HasBegun}
 use Rattle.ckpt_machine.specs.Driving.{Kept}
-use Rattle.ckpt_machine.specs.Guards.{PullOk, PullHeld, InstallOk, SyncDone, OnLed, LookDone, LookRow, IsOnOwn, Row, Allowed, serves, all_served, steps_with}
+use Rattle.ckpt_machine.specs.Guards.{IsOnOwn, Row, Allowed}
+use Rattle.ckpt_machine.specs.LookGuards.{SyncDone, OnLed, LookDone, LookRow}
+use Rattle.ckpt_machine.specs.ActiveGuards.{PullOk, PullHeld, InstallOk, serves, all_served, steps_with}
 use Rattle.ckpt_machine.specs.Invariant.{Invariant}
 use Rattle.ckpt_machine.specs.Laws.{OfEachRun}
 use Rattle.ckpt_machine.specs.Machine.{Machine, Effect, ReplicaState, Snapshot, CallState, empty_cluster, who}
@@ -37,7 +39,8 @@ use Rattle.ckpt_machine.specs.Propagation.{copied}
 use Rattle.ckpt_machine.specs.Replays.{IsPrefix}
 use Rattle.ckpt_machine.specs.Runs.{last, IsRun}
 use Rattle.ckpt_machine.specs.Shape.{IsCompleteOn}
-use Rattle.ckpt_machine.specs.Steps.{Told, IsDue, due, change_replica, with_installed, changed, counted_at, kept_behind, stepped, step_of, call_begun, after}
+use Rattle.ckpt_machine.specs.After.{change_replica, with_installed, changed, kept_behind, stepped, step_of, call_begun, after}
+use Rattle.ckpt_machine.specs.Due.{Told, IsDue, due, counted_at}
 use Rattle.ckpt_machine.specs.Synchronized.{Synchronizes, IsPullOf, HaveFirst, IsSynchronized, SynchronizedTell}
 use Rattle.ckpt_machine.proofs.BegunBefore.{begun_longer, all_began}
 use Rattle.ckpt_machine.proofs.BegunOnce.{step_begun}

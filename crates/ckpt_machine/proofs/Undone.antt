@@ -10,7 +10,8 @@ use Rattle.cluster_record.specs.RecordState.{RecordState, entry_of, identity_of,
 use Rattle.cluster_record.proofs.IdentityLaws.{IdentitiesRise-filter, AllUpTo-filter}
 use Rattle.ckpt_machine.specs.Drivers as drivers
 use Rattle.ckpt_machine.specs.Machine.{Machine, CallState, who}
-use Rattle.ckpt_machine.specs.Steps.{driver_of, record_step}
+use Rattle.ckpt_machine.specs.After.{record_step}
+use Rattle.ckpt_machine.specs.Due.{driver_of}
 use Rattle.ckpt_machine.specs.Shape.{Shape}
 use Rattle.ckpt_machine.specs.Invariant.{IsMaker, InvariantIn, Invariant}
 use Rattle.ckpt_machine.specs.Later.{IsLaterEntry, IsLaterRecord}

@@ -34,8 +34,12 @@ use Rattle.node_core.specs.Serving.{update_answer, commit_answer, told_id, stage
 use Rattle.node_core.specs.Seen.{record_seen}
 use Rattle.ckpt_machine.specs.Driving.{making_in, refused_cause, driver_taken}
 use Rattle.ckpt_machine.specs.Machine.{Machine, Staged, ReplicaState, CallState, who}
-use Rattle.ckpt_machine.specs.Steps.{Told, IsDone, IsServed, driver_of, payload_due, left_in_hand, kept_behind, staged_moment, ended_details, with_committed, with_slot, seen_at, seen_slot, change_replica, without_making}
-use Rattle.ckpt_machine.specs.Guards.{StageRefused, StageHeld, owns_slot, LookRefused, GoneLook, NoActiveLook, ChangeLook, HasNoActive}
+use Rattle.ckpt_machine.specs.After.{left_in_hand, kept_behind, staged_moment, with_committed, with_slot, change_replica, without_making}
+use Rattle.ckpt_machine.specs.Due.{Told, IsDone, IsServed, driver_of, payload_due, ended_details}
+use Rattle.ckpt_machine.specs.Seen.{seen_at, seen_slot}
+use Rattle.ckpt_machine.specs.LookGuards.{LookRefused, GoneLook, NoActiveLook, ChangeLook, HasNoActive}
+use Rattle.ckpt_machine.specs.UpdateGuards.{StageRefused, StageHeld}
+use Rattle.ckpt_machine.specs.GuardTerms.{owns_slot}
 use Rattle.ckpt_machine.specs.Left.{update_left, steps_left}
 use Rattle.ckpt_machine.proofs.StepsLeft.{update_nearer}
 use Rattle.ckpt_machine.specs.Shape.{Shape, IsCompleteOn, IsShaped, is_owner, IsOwner, IsSpread, IsStaging, IsCommitting, PhaseFits, slot_by, sections_by, effects_by}

@@ -24,9 +24,12 @@ use Rattle.ckpt_types.specs.Asks as asks
 use Rattle.ckpt_machine.specs.BeginRows.{ends_at_once, IsGivenBy, BeginRow}
 use Rattle.ckpt_machine.specs.Beginning.{Standing}
 use Rattle.ckpt_machine.specs.Driving.{refused_cause}
-use Rattle.ckpt_machine.specs.Guards.{AtNode, StageRefused, StageHeld, StageRow, CommitRow, ApplyOk, MarkOk, MarkRow, ElementRow, LookDone, LookRow, Row}
+use Rattle.ckpt_machine.specs.Guards.{AtNode, Row}
+use Rattle.ckpt_machine.specs.LookGuards.{LookDone, LookRow}
+use Rattle.ckpt_machine.specs.ActiveGuards.{ApplyOk, MarkOk, MarkRow, ElementRow}
+use Rattle.ckpt_machine.specs.UpdateGuards.{StageRefused, StageHeld, StageRow, CommitRow}
 use Rattle.ckpt_machine.specs.Machine.{Machine, CallState}
-use Rattle.ckpt_machine.specs.Steps.{Told}
+use Rattle.ckpt_machine.specs.Due.{Told}
 use Rattle.ckpt_machine.proofs.Refusing.{row_at_ckpt, at_node, at_none, at_node_alone, on_all, begins_on_active}
 
 -- ---- an update asks for no other thing

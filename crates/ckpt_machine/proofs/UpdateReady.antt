@@ -19,7 +19,9 @@ use Rattle.ckpt_types.specs.Asks.{update_of}
 use Rattle.stage_slot.specs.Slots.{IsOwnedBy}
 use Rattle.node_core.specs.Fitting.{IsReadyFor}
 use Rattle.ckpt_machine.specs.Facts.{IsServable, HasNoSlot}
-use Rattle.ckpt_machine.specs.Steps.{driver_of, seen, seen_at, seen_slot, staged_moment}
+use Rattle.ckpt_machine.specs.After.{staged_moment}
+use Rattle.ckpt_machine.specs.Due.{driver_of}
+use Rattle.ckpt_machine.specs.Seen.{seen, seen_at, seen_slot}
 use Rattle.ckpt_machine.specs.Shape.{Shape, IsCompleteOn, IsShaped, IsSpread, PhaseFits, slot_by}
 use Rattle.ckpt_machine.specs.Invariant.{InvariantIn}
 use Rattle.ckpt_machine.proofs.NodeLists.{first_lacking-is, last_having-is, lacked-has, had-there, index-within}

@@ -32,13 +32,14 @@ use Rattle.node_core.specs.Seen.{record_seen}
 use Rattle.node_core.specs.Serving.{reply_at, reply_unless, details_at}
 use Rattle.ckpt_machine.specs.Drivers as drivers
 use Rattle.ckpt_machine.specs.Driving.{driver_taken}
-use Rattle.ckpt_machine.specs.Guards.{AreMarksOf}
+use Rattle.ckpt_machine.specs.ActiveGuards.{AreMarksOf}
 use Rattle.ckpt_machine.specs.InHand.{are_present, is_enter, is_marked_by, MarksFit, IsInPlace, IsActiveIn, IsInHand}
 use Rattle.ckpt_machine.specs.Invariant.{InvariantIn, Invariant}
 use Rattle.ckpt_machine.specs.Left.{steps_left}
 use Rattle.ckpt_machine.specs.Machine.{Machine, ReplicaState, CallState, who}
 use Rattle.ckpt_machine.specs.Shape.{Shape, IsMarker}
-use Rattle.ckpt_machine.specs.Steps.{Told, IsDone, IsServed, ended_details, driver_of, payload_due, details_due, change_replica, with_marks, with_next_element, next_element_written, without_marks, marks_ended, kept_behind, left_in_hand}
+use Rattle.ckpt_machine.specs.After.{change_replica, with_marks, with_next_element, next_element_written, without_marks, marks_ended, kept_behind, left_in_hand}
+use Rattle.ckpt_machine.specs.Due.{Told, IsDone, IsServed, ended_details, driver_of, payload_due, details_due}
 use Rattle.ckpt_machine.proofs.Actors.{same_call-refl, same_call-true}
 use Rattle.ckpt_machine.proofs.CallsKept.{same_call-None, same_call-Some}
 use Rattle.ckpt_machine.proofs.ActiveNode.{ActiveOf, active_seen}

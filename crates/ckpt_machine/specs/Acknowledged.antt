@@ -14,11 +14,12 @@ use Rattle.ckpt_types.specs.OpWord.{word_of_op}
 use Rattle.cluster_record.specs.declared.entries.Entry.{Entry}
 use Rattle.cluster_record.specs.RecordState.{entry_of}
 use Rattle.ckpt_machine.specs.Machine.{Machine, ReplicaState}
-use Rattle.ckpt_machine.specs.Options.{is_all}
+use Rattle.cluster_record.specs.Placement.{is_all}
 pub use Rattle.ckpt_machine.specs.Owned.{IsUpdateBy, HasUpdate}
 use Rattle.ckpt_machine.specs.Runs.{last}
 use Rattle.ckpt_types.specs.Asks.{update_of}
-use Rattle.ckpt_machine.specs.Steps.{asked_handle, goes_on}
+use Rattle.ckpt_machine.specs.After.{goes_on}
+use Rattle.ckpt_machine.specs.Due.{asked_handle}
 use Rattle.ckpt_machine.specs.Tables.{ckpt_of_handle}
 
 -- ---- the answer, as a user sees it

@@ -1,6 +1,6 @@
 -- Of a checkpoint with updates on all replicas: none has an update staged and all are equal, or all are of one update.
 use Rattle.std.specs.Prelude.{◌≡◌, ◌⊎◌, ℕ, List, [], ◌∷◌, ◌++◌, Option, Some, None, Ok, Bool, true, false, ℤ}
-use Rattle.ckpt_machine.specs.Options.{is_all}
+use Rattle.cluster_record.specs.Placement.{is_all}
 use Rattle.ckpt_types.specs.declared.attributes.CreationAttributes.{CreationAttributes}
 use Rattle.ckpt_types.specs.declared.identities.CallId.{CallId}
 use Rattle.ckpt_types.specs.declared.update.Update.{Update}
@@ -11,7 +11,7 @@ use Rattle.cluster_record.specs.declared.entries.Entry.{Entry}
 use Rattle.cluster_record.specs.RecordState.{entry_of}
 use Rattle.ckpt_machine.specs.Machine.{Machine, Effect, Applied, Staged, ReplicaState}
 use Rattle.ckpt_machine.specs.Complete.{complete_replicas}
-use Rattle.ckpt_machine.specs.Guards.{OnEach}
+use Rattle.ckpt_machine.specs.GuardTerms.{OnEach}
 use Rattle.ckpt_machine.specs.Runs.{last}
 
 -- no complete replica has a slot, and all have equal sections and effects

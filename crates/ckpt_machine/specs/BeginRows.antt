@@ -31,7 +31,7 @@ use Rattle.ckpt_machine.specs.Beginning.{version_is_bad, name_is_bad, attributes
 use Rattle.ckpt_types.specs.Asks.{Ask, asked, is_async_ask, IsBuilt}
 use Rattle.ckpt_types.specs.Asks as asks
 use Rattle.ckpt_machine.specs.Machine.{Machine}
-use Rattle.ckpt_machine.specs.Steps.{MayBegin, standing_of}
+use Rattle.ckpt_machine.specs.Due.{MayBegin, standing_of}
 
 -- ---- the causes
 

@@ -8,7 +8,7 @@ use Rattle.cluster_record.specs.RecordState.{is_live}
 use Rattle.ckpt_machine.specs.Drivers.{Driver}
 use Rattle.ckpt_machine.specs.Drivers as drivers
 use Rattle.ckpt_machine.specs.Machine.{Machine, CallState}
-use Rattle.ckpt_machine.specs.Steps.{driver_of}
+use Rattle.ckpt_machine.specs.Due.{driver_of}
 
 -- an Initialize becomes live, and all other calls of one step are of a client that is
 abbrev pub enters : OneStep → Bool

@@ -39,7 +39,9 @@ use Rattle.ckpt_machine.specs.Tables.{choice_of, takes_copy}
 use Rattle.ckpt_machine.specs.Machine.{Machine, ReplicaState, CallState, who}
 use Rattle.ckpt_machine.specs.Invariant.{AreCalls}
 use Rattle.ckpt_machine.specs.Propagation.{target_at}
-use Rattle.ckpt_machine.specs.Steps.{due, driver_of, IsDriven, room_at, seen_at, staged_moment, asked_handle}
+use Rattle.ckpt_machine.specs.After.{staged_moment}
+use Rattle.ckpt_machine.specs.Due.{due, driver_of, IsDriven, room_at, asked_handle}
+use Rattle.ckpt_machine.specs.Seen.{seen_at}
 
 -- a replica can be reserved: the node is up, the checkpoint is in the making, the node is not complete, and the attributes passed their check
 pub record IsReservable (R : RecordState) (r : ℕ) (e : Entry) : Type 0 where

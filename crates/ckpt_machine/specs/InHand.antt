@@ -33,11 +33,14 @@ use Rattle.cluster_record.specs.DueOnce as once
 use Rattle.ckpt_types.specs.Asks.{Ask, asked, update_of, IsBuilt}
 use Rattle.ckpt_types.specs.Asks as asking
 use Rattle.ckpt_machine.specs.Beginning.{name_is_bad}
-use Rattle.ckpt_machine.specs.Guards.{AsksToOpen, deadline_of, serves}
+use Rattle.ckpt_machine.specs.Guards.{AsksToOpen}
+use Rattle.ckpt_machine.specs.ActiveGuards.{serves}
+use Rattle.ckpt_machine.specs.GuardTerms.{deadline_of}
 use Rattle.ckpt_machine.specs.Tables.{choice_of}
 use Rattle.ckpt_machine.specs.Machine.{Machine, Snapshot, CallState, who}
-use Rattle.ckpt_machine.specs.Options.{is_all, is_weak}
-use Rattle.ckpt_machine.specs.Steps.{driver_of, IsDriven, asked_handle}
+use Rattle.ckpt_machine.specs.Options.{is_weak}
+use Rattle.cluster_record.specs.Placement.{is_all}
+use Rattle.ckpt_machine.specs.Due.{driver_of, IsDriven, asked_handle}
 use Rattle.section_iter.specs.Room.{room_declared}
 use Rattle.cluster_record.specs.declared.calls.UpdatePhase.{UpdatePhase}
 use Rattle.cluster_record.specs.StepDone.{has, last_having}

@@ -18,7 +18,8 @@ use Rattle.cluster_record.specs.declared.clients.LiveClient.{LiveClient}
 use Rattle.cluster_record.specs.declared.entries.Entry.{Entry}
 use Rattle.cluster_record.specs.RecordState.{RecordState, entry_of, no_nodes, is_up, is_live_client, home_of, client_key}
 use Rattle.ckpt_machine.specs.Machine.{Machine, ReplicaState, CallState, who}
-use Rattle.ckpt_machine.specs.Steps.{driver_of, kind_of}
+use Rattle.ckpt_machine.specs.After.{kind_of}
+use Rattle.ckpt_machine.specs.Due.{driver_of}
 use Rattle.cluster_record.specs.Calls.{IsClient, number_of}
 use Rattle.cluster_record.specs.Placement.{is_collocated}
 use Rattle.cluster_record.specs.Identities.{IdentitiesRise, AllUpTo}

@@ -23,7 +23,8 @@ use Rattle.ckpt_machine.specs.Promises.{KeepsPromises}
 use Rattle.ckpt_machine.specs.Refusals.{IsRefusal, LeavesBy, unmade_swept}
 use Rattle.ckpt_machine.specs.Runs.{last, IsRun, Counts}
 use Rattle.ckpt_machine.specs.Shape.{Shape}
-use Rattle.ckpt_machine.specs.Steps.{IsDue, after, driver_of, counted_at}
+use Rattle.ckpt_machine.specs.After.{after}
+use Rattle.ckpt_machine.specs.Due.{IsDue, driver_of, counted_at}
 
 -- the empty cluster has the invariant, and counts nothing
 abbrev pub Starts : Type 0

@@ -8,7 +8,6 @@ pub mod Options
 pub mod Complete
 pub mod Listing
 pub mod Propagation
-pub mod Steps
 pub mod Failing
 pub mod Dead
 pub mod BeginRows
@@ -45,3 +44,12 @@ pub mod Leading
 pub mod Taking
 pub mod Granting
 pub mod NodeListing
+pub mod Seen
+pub mod Words
+pub mod Due
+pub mod After
+pub mod GuardTerms
+pub mod UpdateGuards
+pub mod ActiveGuards
+pub mod OpenGuards
+pub mod LookGuards

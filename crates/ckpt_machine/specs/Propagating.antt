@@ -11,7 +11,7 @@ use Rattle.snap_copy.specs.Snapshots.{Snapshot}
 use Rattle.replica.specs.declared.replica.Older.{Older}
 use Rattle.replica.specs.Replicas.{Replica, install_answer, installed}
 use Rattle.ckpt_machine.specs.Listing.{is_active}
-use Rattle.ckpt_machine.specs.Options.{is_all}
+use Rattle.cluster_record.specs.Placement.{is_all}
 use Rattle.ckpt_machine.specs.Propagation.{on_node, source_of, pull_unless}
 use Rattle.ckpt_machine.specs.Nodes.{with_changed}
 use Rattle.ckpt_machine.specs.Shown.{complete_replica}

@@ -17,8 +17,8 @@ use Rattle.ckpt_machine.specs.Whose.{same_who}
 use Rattle.cluster_record.specs.Places.{put}
 use Rattle.cluster_record.specs.RecordState.{undone}
 use Rattle.ckpt_machine.specs.Owned.{HasNothing}
-use Rattle.ckpt_machine.specs.Steps.{record_step, with_pending}
-use Rattle.ckpt_machine.specs.Guards.{IsMadeBy}
+use Rattle.ckpt_machine.specs.After.{record_step, with_pending}
+use Rattle.ckpt_machine.specs.OpenGuards.{IsMadeBy}
 use Rattle.ckpt_machine.specs.Runs.{last}
 
 -- a call ends so that was refused, or was refused its own memory

@@ -6,7 +6,8 @@ use Rattle.run_labels.specs.declared.labels.Label.{Label}
 use Rattle.cluster_record.specs.declared.entries.Entry.{Entry}
 use Rattle.cluster_record.specs.RecordState.{entry_of}
 use Rattle.ckpt_machine.specs.Machine.{Machine, ReplicaState, Snapshot, CallState, empty_cluster}
-use Rattle.ckpt_machine.specs.Steps.{IsDue, after}
+use Rattle.ckpt_machine.specs.After.{after}
+use Rattle.ckpt_machine.specs.Due.{IsDue}
 use Rattle.ckpt_machine.specs.Guards.{Allowed}
 
 -- the state after a list of labels

@@ -21,9 +21,9 @@ use Rattle.cluster_record.specs.RecordState.{first_complete, is_live}
 use Rattle.ckpt_machine.specs.Drivers as drivers
 use Rattle.ckpt_types.specs.Asks.{update_of}
 use Rattle.ckpt_machine.specs.Machine.{Machine, Effect, Applied, Staged, ReplicaState, CallState, who}
-use Rattle.ckpt_machine.specs.Options.{is_all}
+use Rattle.cluster_record.specs.Placement.{is_all}
 use Rattle.ckpt_machine.specs.Propagation.{on_node, copied}
-use Rattle.ckpt_machine.specs.Steps.{driver_of}
+use Rattle.ckpt_machine.specs.Due.{driver_of}
 use Rattle.ckpt_machine.specs.Dead.{IsDead}
 
 -- the slots by node, each with its owner; the update that is staged; the contents under it, and those after it, which the replicas without a slot have where it is done; and where updates go to the active alone, the marks that stand there

@@ -13,7 +13,7 @@ use Rattle.ckpt_types.specs.Asks.{Ask}
 use Rattle.ckpt_machine.specs.Tables.{takes_copy}
 use Rattle.ckpt_machine.specs.Machine.{Effect, Staged, ReplicaState}
 use Rattle.ckpt_machine.specs.Machine as snapshots
-use Rattle.ckpt_machine.specs.Steps.{reservation_under}
+use Rattle.ckpt_machine.specs.After.{reservation_under}
 
 -- ---- the replicas
 

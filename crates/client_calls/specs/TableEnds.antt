@@ -2,7 +2,7 @@
 use Rattle.ckpt_types.specs.declared.answers.Outcome.{Outcome}
 use Rattle.ckpt_types.specs.declared.identities.CallId.{CallId}
 use Rattle.call_dispatch.specs.PendingCalls.{ended_in}
-use Rattle.ckpt_machine.specs.Steps.{handle_opened}
+use Rattle.ckpt_machine.specs.After.{handle_opened}
 use Rattle.client_calls.specs.TableState.{TableState}
 
 -- it stands among its client's, till its callback is given

@@ -11,7 +11,7 @@ use Rattle.ckpt_types.specs.Limits.{pending_max}
 use Rattle.ckpt_types.specs.OpWord.{is_async, word_of_op}
 use Rattle.call_dispatch.specs.PendingCalls.{PendingCalls, is_pending, no_pending, pending_count}
 use Rattle.client_handles.specs.declared.handle_view.HandleView.{HandleView}
-use Rattle.ckpt_machine.specs.Steps.{pending_begun}
+use Rattle.ckpt_machine.specs.After.{pending_begun}
 use Rattle.ckpt_machine.specs.Machine.{no_tables}
 use Rattle.ckpt_machine.specs.Tables.{ended_at_once}
 

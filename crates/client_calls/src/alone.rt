@@ -5,7 +5,7 @@ ghost use Rattle.cluster_record.specs.Calls.{same_actor};
 ghost use Rattle.client_calls.specs.AloneLending.{LendsAlone};
 ghost use Rattle.ckpt_types.specs.declared.identities.ActorName.TheVariants.{Client};
 ghost use Rattle.call_dispatch.specs.PendingCalls.{find_async};
-ghost use Rattle.ckpt_machine.specs.Steps.{goes_with, is_over};
+ghost use Rattle.ckpt_machine.specs.After.{goes_with, is_over};
 ghost use Rattle.client_calls.specs.AlonePlaces.{found_alone, has_call, has_other, meets, without_met, IsPlaceOf};
 
 use crate::in_hand::InHand;

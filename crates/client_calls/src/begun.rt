@@ -3,7 +3,7 @@ ghost use Rattle.std.specs.Prelude.{◌≡◌, None, Some, IfOk, IsSome};
 ghost use Rattle.ckpt_types.specs.Asks.{asked};
 ghost use Rattle.cluster_record.specs.Calls.{client_of};
 ghost use Rattle.ckpt_machine.specs.Driving.{driver_start};
-ghost use Rattle.ckpt_machine.specs.Steps.{IsBeginEnd, kept_at_beginning, declared_at, room_at};
+ghost use Rattle.ckpt_machine.specs.Due.{IsBeginEnd, kept_at_beginning, declared_at, room_at};
 ghost use Rattle.ckpt_machine.specs.Tables.{ckpt_of_handle};
 ghost use Rattle.client_calls.specs.HandRooms.{room_for, copy_room_for};
 

@@ -1,6 +1,6 @@
 //! What the label of a step tells beside the end of its call.
 ghost use Rattle.std.specs.Prelude.{◌≡◌};
-ghost use Rattle.ckpt_machine.specs.Steps.{ended_details};
+ghost use Rattle.ckpt_machine.specs.Due.{ended_details};
 ghost use Rattle.node_core.specs.Details.{details_told};
 ghost use Rattle.client_calls.specs.ReadTold.{read_told};
 

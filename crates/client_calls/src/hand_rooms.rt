@@ -2,7 +2,7 @@
 ghost use Rattle.std.specs.Prelude.{◌≡◌, None, IfOk};
 ghost use Rattle.ckpt_types.specs.Asks.{asked};
 ghost use Rattle.section_iter.specs.Room.{room_declared};
-ghost use Rattle.ckpt_machine.specs.Steps.{declared_at, room_at};
+ghost use Rattle.ckpt_machine.specs.Due.{declared_at, room_at};
 ghost use Rattle.client_calls.specs.HandRooms.{room_for, copy_room, copy_room_for};
 
 use ckpt_types::{CkptId, CreationAttributes, Op};

@@ -1,7 +1,7 @@
 //! What becomes of the asynchronous calls of one client that are not dispatched.
 ghost use Rattle.std.specs.Prelude.{◌≡◌, IfOk, map};
 ghost use Rattle.call_dispatch.specs.PendingCalls.{callback_of, dispatched, given_answer, given_by, given_number, no_pending};
-ghost use Rattle.ckpt_machine.specs.Steps.{async_call};
+ghost use Rattle.ckpt_machine.specs.After.{async_call};
 ghost use Rattle.ckpt_machine.specs.Tables.{places_set};
 
 use call_dispatch::{AsyncCall, EndedCall, Pending};

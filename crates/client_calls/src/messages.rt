@@ -12,7 +12,7 @@ ghost use Rattle.node_msgs.specs.declared.details.Details.TheVariants as beside;
 ghost use Rattle.node_msgs.specs.Requests.{ckpt_of};
 ghost use Rattle.node_msgs.specs.Steps.{verb_of, word_of};
 ghost use Rattle.run_labels.specs.declared.labels.Label.TheVariants as labels;
-ghost use Rattle.ckpt_machine.specs.Steps.{look_word};
+ghost use Rattle.ckpt_machine.specs.Due.{look_word};
 ghost use Rattle.ckpt_machine.specs.Granting.{refusal_word};
 
 use ckpt_types::{ActorName, Answer, CallId, CkptId, NodeId, Outcome, Who};

@@ -1,6 +1,7 @@
 //! What the attributes of a checkpoint say of its updates.
 ghost use Rattle.std.specs.Prelude.{◌≡◌};
-ghost use Rattle.ckpt_machine.specs.Options.{is_all, is_weak};
+ghost use Rattle.ckpt_machine.specs.Options.{is_weak};
+ghost use Rattle.cluster_record.specs.Placement.{is_all};
 
 use ckpt_types::{
     CHECKPOINT_COLLOCATED, CreationAttributes, WR_ACTIVE_REPLICA_WEAK, WR_ALL_REPLICAS,

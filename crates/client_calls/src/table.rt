@@ -6,7 +6,7 @@ ghost use Rattle.ckpt_types.specs.Attributes.{open_flags_of};
 ghost use Rattle.ckpt_types.specs.Limits.{checkpoints_max};
 ghost use Rattle.client_handles.specs.ClientState.{handle_at, handle_numbered, has_handle_room, has_iteration_room, iterated_at, emptied, ended, taken, IsValid};
 ghost use Rattle.call_dispatch.specs.PendingCalls.{callback_of, dispatched, given_answer, given_by, given_number, no_pending, pending_count, with_begun};
-ghost use Rattle.ckpt_machine.specs.Steps.{async_call, left_over};
+ghost use Rattle.ckpt_machine.specs.After.{async_call, left_over};
 ghost use Rattle.ckpt_machine.specs.Tables.{flags_or_none, handle_asked, handle_given, kept_asked, started, closing, handle_closed, has_place, places_set, registering};
 ghost use Rattle.client_calls.specs.Lending.{come_back, lending, IsGoingOnWith, IsOutOf};
 ghost use Rattle.client_calls.specs.NewTable.{new_table};

@@ -26,7 +26,8 @@ use Rattle.cluster_record.specs.Calls.{number_of}
 use Rattle.cluster_record.specs.RecordState.{is_up}
 use Rattle.ckpt_machine.specs.Machine.{Machine, CallState, empty_cluster}
 use Rattle.ckpt_machine.specs.Runs.{last, last_from, IsRun}
-use Rattle.ckpt_machine.specs.Steps.{after, asked_handle, call_begun, goes_on, kept_at_beginning}
+use Rattle.ckpt_machine.specs.After.{after, call_begun, goes_on}
+use Rattle.ckpt_machine.specs.Due.{asked_handle, kept_at_beginning}
 use Rattle.ckpt_machine.specs.Whose.{put_who}
 use Rattle.ckpt_machine.proofs.Runs.{last-push, last_from-append, run_before}
 use Rattle.world_core.specs.Runs.{GoesOn, IsLeft, IsThereIf, IsRunTo, SaysTrue, Answers, AnswersBegin, AnswersStep, IsIdleWord, IsShownOf, Happens}

@@ -6,7 +6,7 @@ use Rattle.ckpt_types.specs.declared.identities.Who.TheVariants.{Actor, Call}
 use Rattle.call_dispatch.specs.PendingCalls.{PendingCalls, no_pending}
 use Rattle.cluster_record.specs.RecordState.{RecordState}
 use Rattle.ckpt_machine.specs.Machine.{Machine}
-use Rattle.ckpt_machine.specs.Steps.{goes_with, left_over, with_pending, without_calls, without_syncs}
+use Rattle.ckpt_machine.specs.After.{goes_with, left_over, with_pending, without_calls, without_syncs}
 use Rattle.ckpt_machine.specs.Whose.{is_of}
 use Rattle.client_calls.specs.declared.in_hand.InHand.{InHand}
 use Rattle.client_calls.specs.TableState.{with_calls}

@@ -22,7 +22,8 @@ use Rattle.ckpt_machine.specs.Beginning.{Standing, begin_end, callbacks_told}
 use Rattle.ckpt_machine.specs.BeginRows.{has_bad_handle, HasPlaceFor, IsGivenBy, BeginRow}
 use Rattle.ckpt_machine.specs.Driving.{driver_start}
 use Rattle.ckpt_machine.specs.Facts.{Facts}
-use Rattle.ckpt_machine.specs.Steps.{IsBeginEnd, is_unrefused, goes_on, kept_at_beginning, standing_of}
+use Rattle.ckpt_machine.specs.After.{goes_on}
+use Rattle.ckpt_machine.specs.Due.{IsBeginEnd, is_unrefused, kept_at_beginning, standing_of}
 use Rattle.ckpt_machine.specs.Tables.{handle_asked}
 use Rattle.ckpt_machine.proofs.AsyncNames.{async_asked}
 use Rattle.ckpt_machine.proofs.BeginRows.{row_of}

@@ -23,7 +23,8 @@ use Rattle.ckpt_machine.specs.Beginning.{begin_end, callbacks_told}
 use Rattle.ckpt_machine.specs.Drivers.{Driver}
 use Rattle.ckpt_machine.specs.Driving.{Kept}
 use Rattle.ckpt_machine.specs.Facts.{Facts}
-use Rattle.ckpt_machine.specs.Steps.{IsDue, IsBegun, IsBeginEnd, after, call_begun, goes_on, kept_at_beginning, pending_begun}
+use Rattle.ckpt_machine.specs.After.{after, call_begun, goes_on, pending_begun}
+use Rattle.ckpt_machine.specs.Due.{IsDue, IsBegun, IsBeginEnd, kept_at_beginning}
 use Rattle.ckpt_machine.specs.Tables.{handle_asked, ended_at_once}
 use Rattle.ckpt_machine.specs.Whose.{put_who}
 use Rattle.ckpt_machine.proofs.Starting.{driven_begun, none_begun}

@@ -22,7 +22,8 @@ use Rattle.ckpt_machine.specs.Driving.{driver_next}
 use Rattle.ckpt_machine.specs.Facts.{Facts}
 use Rattle.ckpt_machine.specs.Machine.{Machine, CallState, Effect}
 use Rattle.snap_copy.specs.Snapshots as copies
-use Rattle.ckpt_machine.specs.Steps.{IsDue, IsDone, after, changed, counted_at, created_by, pulled_by, step_of, stepped}
+use Rattle.ckpt_machine.specs.After.{after, changed, created_by, pulled_by, step_of, stepped}
+use Rattle.ckpt_machine.specs.Due.{IsDue, IsDone, counted_at}
 use Rattle.client_calls.specs.declared.in_hand.InHand.{InHand}
 use Rattle.world_core.specs.declared.world.World.{World}
 use Rattle.world_core.specs.Happenings.{rooms_at, IsStep, KeepsOther}

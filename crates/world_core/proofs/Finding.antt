@@ -32,7 +32,8 @@ use Rattle.ckpt_machine.specs.Drivers as drivers
 use Rattle.ckpt_machine.specs.Driving.{driver_next}
 use Rattle.ckpt_machine.specs.Machine.{Machine, Effect, ReplicaState, CallState}
 use Rattle.ckpt_machine.specs.Tables.{handle_asked}
-use Rattle.ckpt_machine.specs.Steps.{seen_by, seen_at, seen_slot, seen_snapshot, due, payload_due, room_in}
+use Rattle.ckpt_machine.specs.Due.{due, payload_due, room_in}
+use Rattle.ckpt_machine.specs.Seen.{seen_by, seen_at, seen_slot, seen_snapshot}
 use Rattle.cluster_record.specs.LookUps.{declared_in}
 use Rattle.ckpt_types.specs.Asks.{asked, update_of}
 use Rattle.ckpt_types.specs.declared.update.Update.{Update}

@@ -15,7 +15,8 @@ use Rattle.ckpt_machine.specs.Holding.{HoldsOnlyWhatStands}
 use Rattle.ckpt_machine.specs.Facts.{Facts}
 use Rattle.world_core.specs.Shows.{History, machine_of, snapshot_shown, HistoryFits, Shows, Does}
 use Rattle.ckpt_machine.specs.Shown.{shown_replica, shown_snapshot, FitsReplica, FitsSnapshot}
-use Rattle.ckpt_machine.specs.Steps.{IsDue, after, snapshot_under}
+use Rattle.ckpt_machine.specs.After.{after, snapshot_under}
+use Rattle.ckpt_machine.specs.Due.{IsDue}
 use Rattle.ckpt_machine.proofs.FreedNodes.{complete_replica-freed, find_key-filter, reserved_in-freed}
 
 -- ---- the background snapshots

@@ -11,7 +11,7 @@ use Rattle.cluster_record.specs.Calls.{same_actor, same_call}
 use Rattle.cluster_record.specs.Places.{list_or, or_none}
 use Rattle.cluster_record.proofs.Places.{get_set, tests_agree, tests_differ, there_is}
 use Rattle.call_dispatch.specs.PendingCalls.{PendingCalls, find_async, no_pending}
-use Rattle.ckpt_machine.specs.Steps.{goes_with, is_over}
+use Rattle.ckpt_machine.specs.After.{goes_with, is_over}
 use Rattle.ckpt_machine.specs.Whose.{is_of, put_who, same_who}
 use Rattle.ckpt_machine.proofs.Actors.{same_actor-true, same_call-false, same_call-refl, same_call-true}
 use Rattle.client_calls.specs.declared.in_hand.InHand.{InHand}

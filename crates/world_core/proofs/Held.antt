@@ -21,7 +21,7 @@ use Rattle.snap_copy.specs.Snapshots as copies
 use Rattle.client_calls.specs.HandRooms.{room_for}
 use Rattle.ckpt_types.specs.Asks.{asked}
 use Rattle.ckpt_machine.specs.Tables.{rooms_in}
-use Rattle.ckpt_machine.specs.Steps.{due, driver_of}
+use Rattle.ckpt_machine.specs.Due.{due, driver_of}
 use Rattle.ckpt_machine.specs.Facts.{Facts}
 use Rattle.world_core.specs.HandsState.{hand_at}
 use Rattle.client_calls.specs.Names.{client_by, name_of}

@@ -33,7 +33,7 @@ use Rattle.ckpt_machine.specs.Drivers as drivers
 use Rattle.ckpt_machine.specs.Driving.{driver_next, index_told}
 use Rattle.ckpt_machine.specs.Facts.{HasLiveMarker, IsEventReady}
 use Rattle.ckpt_machine.specs.Machine.{Machine, CallState}
-use Rattle.ckpt_machine.specs.Steps.{IsEventAnswer, kept_off, marks_on}
+use Rattle.ckpt_machine.specs.Due.{IsEventAnswer, kept_off, marks_on}
 use Rattle.client_calls.specs.declared.in_hand.InHand.{InHand}
 use Rattle.world_core.specs.declared.world.World.{World}
 use Rattle.world_core.specs.Alone.{ended_at}

@@ -35,7 +35,7 @@ use Rattle.node_core.specs.Serving.{reply_of}
 use Rattle.node_core.specs.Serving as serving
 use Rattle.ckpt_machine.specs.Facts.{IsStarting}
 use Rattle.ckpt_machine.specs.Machine.{Machine, CallState, no_tables}
-use Rattle.ckpt_machine.specs.Steps.{with_tables}
+use Rattle.ckpt_machine.specs.After.{with_tables}
 use Rattle.ckpt_machine.specs.Tables.{choice_of, ids_of, kept_asked, started, with_iteration, gone_on}
 use Rattle.client_calls.specs.declared.in_hand.InHand.{InHand}
 use Rattle.world_core.specs.declared.world.World.{World}

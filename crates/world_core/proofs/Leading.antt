@@ -9,7 +9,7 @@ use Rattle.ckpt_types.specs.declared.identities.CallId.{CallId}
 use Rattle.replica.specs.Replicas.{Replica}
 use Rattle.snap_copy.specs.Snapshots as copies
 use Rattle.ckpt_machine.specs.Machine.{Machine, Effect, Snapshot}
-use Rattle.ckpt_machine.specs.Steps.{change_replica, led_from, with_lead}
+use Rattle.ckpt_machine.specs.After.{change_replica, led_from, with_lead}
 use Rattle.world_core.specs.declared.world.World.{World}
 use Rattle.ckpt_machine.specs.Holding.{HoldsOnlyWhatStands}
 use Rattle.ckpt_machine.specs.Leading.{leading, nodes_led, CanLead}

@@ -26,7 +26,8 @@ use Rattle.ckpt_machine.specs.Drivers.{Driver, Rooms}
 use Rattle.ckpt_machine.specs.Drivers as drivers
 use Rattle.ckpt_machine.specs.Driving.{driver_next, making_in}
 use Rattle.ckpt_machine.specs.Nodes.{replica_in}
-use Rattle.ckpt_machine.specs.Steps.{changed, without_making, look_word}
+use Rattle.ckpt_machine.specs.After.{changed, without_making}
+use Rattle.ckpt_machine.specs.Due.{look_word}
 use Rattle.ckpt_machine.specs.Tables.{handle_closed}
 use Rattle.ckpt_machine.proofs.Deadlines.{in_time-cases}
 use Rattle.ckpt_machine.proofs.OwnMaking.{making_there}

@@ -23,7 +23,8 @@ use Rattle.ckpt_types.specs.Asks as asks
 use Rattle.ckpt_machine.specs.Facts.{Facts}
 use Rattle.ckpt_machine.specs.Machine.{Machine, ReplicaState, Snapshot, CallState}
 use Rattle.ckpt_machine.specs.Nodes.{replica_in}
-use Rattle.ckpt_machine.specs.Steps.{IsDue, without_making, change_replica, created_for, retained_for, record_step, with_lead, led_from, changed, step_of, after}
+use Rattle.ckpt_machine.specs.After.{without_making, change_replica, created_for, retained_for, record_step, with_lead, led_from, changed, step_of, after}
+use Rattle.ckpt_machine.specs.Due.{IsDue}
 use Rattle.client_calls.specs.declared.in_hand.InHand.{InHand}
 use Rattle.world_core.specs.declared.world.Event.{Event}
 use Rattle.world_core.specs.declared.world.Event.TheVariants as happenings

@@ -12,7 +12,7 @@ use Rattle.cluster_record.specs.DueOnce.{Leave}
 use Rattle.ckpt_machine.specs.Drivers.{Once}
 use Rattle.ckpt_machine.specs.Nodes.{replica_in}
 use Rattle.ckpt_machine.specs.Machine.{empty_cluster, no_tables}
-use Rattle.ckpt_machine.specs.Steps.{room_in}
+use Rattle.ckpt_machine.specs.Due.{room_in}
 use Rattle.world_core.specs.declared.snapshots.Background.{Background}
 use Rattle.world_core.specs.Backgrounds.{background_in, pulled_in, HasRoom}
 use Rattle.world_core.specs.Shows.{Beginning, History, Shows, HistoryFits, snapshot_shown, FitsHand, machine_of, hand_of, next_of, pending_of, shown_hand, tables_of}

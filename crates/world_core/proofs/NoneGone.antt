@@ -16,7 +16,7 @@ use Rattle.cluster_record.specs.Identities.{AllUpTo, IdentitiesRise}
 use Rattle.cluster_record.proofs.NameLaws.{named-entry}
 use Rattle.ckpt_machine.specs.Drivers.{Driver}
 use Rattle.ckpt_machine.specs.Drivers as drivers
-use Rattle.ckpt_machine.specs.Options.{is_all}
+use Rattle.cluster_record.specs.Placement.{is_all}
 use Rattle.node_core.specs.Nodes.{replica_key}
 use Rattle.replica.specs.Replicas.{Replica}
 use Rattle.world_core.specs.declared.snapshots.Background.{Background}

@@ -14,9 +14,10 @@ use Rattle.cluster_record.proofs.Places.{find_changed, not_changed}
 use Rattle.snap_copy.specs.Snapshots.{Snapshot}
 use Rattle.replica.specs.Replicas.{Replica, pulled_from}
 use Rattle.ckpt_machine.specs.Machine.{Machine, Effect, ReplicaState}
-use Rattle.ckpt_machine.specs.Options.{is_all}
+use Rattle.cluster_record.specs.Placement.{is_all}
 use Rattle.ckpt_machine.specs.Propagation.{source_of, on_node, source_at, pull_unless, pull_reply, pull_answer, copied, with_pulled}
-use Rattle.ckpt_machine.specs.Steps.{IsDue, after, snapshot_under}
+use Rattle.ckpt_machine.specs.After.{after, snapshot_under}
+use Rattle.ckpt_machine.specs.Due.{IsDue}
 use Rattle.ckpt_machine.proofs.OptionLemmas.{IsSomeAnd-at}
 use Rattle.world_core.specs.declared.snapshots.Background.{Background}
 use Rattle.world_core.specs.declared.world.World.{World}

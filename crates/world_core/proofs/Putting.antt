@@ -16,9 +16,10 @@ use Rattle.node_core.specs.Nodes.{replica_key}
 use Rattle.ckpt_machine.specs.Listing.{is_active}
 use Rattle.ckpt_machine.specs.Machine.{Machine, Effect, ReplicaState}
 use Rattle.ckpt_machine.specs.Machine as machine
-use Rattle.ckpt_machine.specs.Options.{is_all}
+use Rattle.cluster_record.specs.Placement.{is_all}
 use Rattle.ckpt_machine.specs.Propagation.{target_of, target_at, put_onto, put_reply, with_put}
-use Rattle.ckpt_machine.specs.Steps.{IsDue, after, snapshot_under}
+use Rattle.ckpt_machine.specs.After.{after, snapshot_under}
+use Rattle.ckpt_machine.specs.Due.{IsDue}
 use Rattle.world_core.specs.declared.snapshots.Background.{Background}
 use Rattle.world_core.specs.declared.world.World.{World}
 use Rattle.world_core.specs.Backgrounds.{background_in, where_pulled, pulled_in, HasRoom}

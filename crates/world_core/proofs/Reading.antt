@@ -29,7 +29,7 @@ use Rattle.node_core.specs.Nodes.{replica_key, replica_served}
 use Rattle.node_core.specs.Payloads.{Payload}
 use Rattle.node_core.specs.Seen.{record_seen}
 use Rattle.node_core.specs.Serving.{details_at, done_or_refused, read_details, reply_at}
-use Rattle.ckpt_machine.specs.Steps.{ended_details}
+use Rattle.ckpt_machine.specs.Due.{ended_details}
 use Rattle.client_calls.specs.declared.in_hand.InHand.{InHand}
 use Rattle.world_core.specs.declared.world.World.{World}
 use Rattle.world_core.specs.Alone.{ended_at}

@@ -29,7 +29,8 @@ use Rattle.ckpt_machine.specs.Driving.{driver_next, event_ckpt, event_node, even
 use Rattle.ckpt_machine.specs.Facts.{IsEventReady}
 use Rattle.ckpt_machine.specs.Machine.{Machine, CallState, Effect, no_tables}
 use Rattle.snap_copy.specs.Snapshots as copies
-use Rattle.ckpt_machine.specs.Steps.{Told, IsDone, IsEventAnswer, IsRecordAnswer, changed, kept_off, pulled_by, driver_of, with_closed, with_tables, without_calls, without_syncs}
+use Rattle.ckpt_machine.specs.After.{changed, pulled_by, with_closed, with_tables, without_calls, without_syncs}
+use Rattle.ckpt_machine.specs.Due.{Told, IsDone, IsEventAnswer, IsRecordAnswer, kept_off, driver_of}
 use Rattle.replica.specs.Replicas.{Replica}
 use Rattle.ckpt_machine.specs.Nodes.{replica_in, freed}
 use Rattle.ckpt_machine.specs.Tables.{handle_closed, handle_given, closing, registering}

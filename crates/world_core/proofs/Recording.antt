@@ -6,7 +6,7 @@ use Rattle.replica.specs.Replicas.{Replica}
 use Rattle.world_core.specs.declared.world.World.{World}
 use Rattle.cluster_record.specs.RecordState.{RecordState, entry_of, complete_of}
 use Rattle.ckpt_machine.specs.Nodes.{replica_in}
-use Rattle.ckpt_machine.specs.Steps.{reservation_under, snapshot_under, with_record}
+use Rattle.ckpt_machine.specs.After.{reservation_under, snapshot_under, with_record}
 use Rattle.world_core.specs.declared.snapshots.Background.{Background}
 use Rattle.world_core.specs.Backgrounds.{background_in, where_pulled, pulled_in, HasRoom, HaveRooms}
 use Rattle.world_core.specs.Shows.{History, HistoryFits, machine_of}

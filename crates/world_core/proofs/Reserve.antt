@@ -21,7 +21,9 @@ use Rattle.ckpt_machine.specs.Nodes.{nodes_after, replica_in}
 use Rattle.cluster_record.specs.StepDone.{counting, count_told, done_of}
 use Rattle.node_msgs.specs.Steps.{word_of}
 use Rattle.ckpt_machine.specs.Driving.{driver_next, driver_taken, driver_end}
-use Rattle.ckpt_machine.specs.Steps.{changed, ended_details, payload_due, seen_at}
+use Rattle.ckpt_machine.specs.After.{changed}
+use Rattle.ckpt_machine.specs.Due.{ended_details, payload_due}
+use Rattle.ckpt_machine.specs.Seen.{seen_at}
 use Rattle.world_core.specs.Happenings.{rooms_at}
 use Rattle.ckpt_machine.specs.Facts.{IsReservable, IsServable}
 use Rattle.world_core.specs.Shows.{Does, HistoryFits, History, machine_of}

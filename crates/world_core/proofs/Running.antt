@@ -22,7 +22,8 @@ use Rattle.ckpt_machine.specs.Laws.{IsLawful, EachRunHas, GivesFacts, BringsNear
 use Rattle.ckpt_machine.specs.Left.{steps_left}
 use Rattle.ckpt_machine.specs.Machine.{Machine, CallState, who}
 use Rattle.ckpt_machine.specs.Runs.{Counts, last}
-use Rattle.ckpt_machine.specs.Steps.{driver_of, changed, counted_at, kept_behind, step_of, after}
+use Rattle.ckpt_machine.specs.After.{changed, kept_behind, step_of, after}
+use Rattle.ckpt_machine.specs.Due.{driver_of, counted_at}
 use Rattle.ckpt_machine.specs.Whose.{put_who}
 use Rattle.ckpt_machine.proofs.Runs.{last-push, run_more}
 use Rattle.ckpt_machine.proofs.Whose.{put_who-here}

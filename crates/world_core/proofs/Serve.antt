@@ -38,7 +38,8 @@ use Rattle.world_core.specs.Happenings.{rooms_at}
 use Rattle.world_core.specs.TablesState.{kept_by}
 use Rattle.ckpt_machine.specs.Driving.{driver_next, driver_taken, driver_end}
 use Rattle.ckpt_machine.specs.Machine.{Machine, Effect, ReplicaState, CallState}
-use Rattle.ckpt_machine.specs.Steps.{due, driver_of, ended_details, ids_asked, payload_due, changed, counted_at, pulled_by, staged_moment}
+use Rattle.ckpt_machine.specs.After.{changed, pulled_by, staged_moment}
+use Rattle.ckpt_machine.specs.Due.{due, driver_of, ended_details, ids_asked, payload_due, counted_at}
 use Rattle.ckpt_machine.specs.Tables.{ids_of, kept_asked}
 use Rattle.ckpt_machine.specs.Facts.{HasNoSlot, IsServable}
 use Rattle.world_core.specs.Shows.{Does, HistoryFits, History, machine_of, tables_of}

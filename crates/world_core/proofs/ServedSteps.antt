@@ -31,7 +31,7 @@ use Rattle.node_core.specs.Payloads.{Payload, payload_of}
 use Rattle.node_core.specs.Seen.{record_seen}
 use Rattle.node_core.specs.Serving.{details_at, iteration_behind, snapshot_behind}
 use Rattle.ckpt_machine.specs.Driving.{driver_next}
-use Rattle.ckpt_machine.specs.Steps.{ended_details}
+use Rattle.ckpt_machine.specs.Due.{ended_details}
 use Rattle.client_calls.specs.declared.in_hand.InHand.{InHand}
 use Rattle.world_core.specs.declared.world.World.{World}
 use Rattle.world_core.specs.Alone.{ended_at}

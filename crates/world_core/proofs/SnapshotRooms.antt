@@ -14,7 +14,7 @@ use Rattle.cluster_record.specs.RecordState.{RecordState, entry_of, stays, new_e
 use Rattle.cluster_record.proofs.IdentityLaws.{entry_of-beyond}
 use Rattle.cluster_record.proofs.Places.{find_pushed}
 use Rattle.ckpt_machine.specs.Drivers.{Driver}
-use Rattle.ckpt_machine.specs.Options.{is_all}
+use Rattle.cluster_record.specs.Placement.{is_all}
 use Rattle.world_core.specs.declared.snapshots.Background.{Background}
 use Rattle.world_core.specs.Backgrounds.{background_key, background_in, where_pulled, pulled_in, snapshot_room, with_room_for, HasRoom, HasRoomWhere, HaveRooms, snapshots_behind, with_room_asked}
 use Rattle.ckpt_machine.specs.RecordAfter.{event_after}

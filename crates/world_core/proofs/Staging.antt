@@ -31,7 +31,7 @@ use Rattle.node_msgs.specs.Steps.{verb_of, word_of}
 use Rattle.ckpt_machine.specs.Drivers.{Driver}
 use Rattle.ckpt_machine.specs.Drivers as drivers
 use Rattle.ckpt_machine.specs.Driving.{driver_taken, done_end}
-use Rattle.ckpt_machine.specs.Steps.{ended_details}
+use Rattle.ckpt_machine.specs.Due.{ended_details}
 use Rattle.replica.specs.declared.replica.StageRefused.{StageRefused}
 use Rattle.replica.specs.Replicas.{Replica, answer_unless, committed, outcome_on, staged}
 use Rattle.stage_slot.specs.Slots.{Slot, IsOwnedBy, owner_of}

@@ -35,7 +35,7 @@ use Rattle.ckpt_machine.specs.Drivers as drivers
 use Rattle.ckpt_machine.specs.Driving.{driver_next, driver_taken, driver_end}
 use Rattle.ckpt_machine.specs.Facts.{Facts, IsActive, IsReservable, IsServable}
 use Rattle.ckpt_machine.specs.Machine.{Machine, CallState}
-use Rattle.ckpt_machine.specs.Steps.{due, driver_of, ended_details}
+use Rattle.ckpt_machine.specs.Due.{due, driver_of, ended_details}
 use Rattle.ckpt_machine.specs.Nodes.{node_at, nodes_after, replica_in, with_changed}
 use Rattle.client_calls.specs.Lending.{IsLentBy, IsValidFor, CanLend, CanKeep}
 use Rattle.world_core.specs.TablesLending.{tables_lending}

@@ -9,7 +9,7 @@ use Rattle.client_handles.specs.ClientState.{ClientState}
 use Rattle.cluster_record.specs.Calls.{put_actor}
 use Rattle.cluster_record.proofs.Places.{get_set}
 use Rattle.ckpt_machine.specs.Machine.{Machine, no_tables}
-use Rattle.ckpt_machine.specs.Steps.{with_pending, with_tables}
+use Rattle.ckpt_machine.specs.After.{with_pending, with_tables}
 use Rattle.world_core.specs.declared.world.World.{World}
 use Rattle.client_calls.specs.TableState.{TableState, next_in, kept_in, pending_in, with_calls, with_client}
 use Rattle.world_core.specs.TablesState.{kept_by, pending_by, table_changed, at_client}

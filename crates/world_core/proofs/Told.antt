@@ -14,7 +14,7 @@ use Rattle.cluster_record.specs.Calls.{client_of, put_actor, left}
 use Rattle.cluster_record.specs.StepDone.{StepDone}
 use Rattle.snap_copy.specs.Snapshots as copies
 use Rattle.ckpt_machine.specs.Machine.{Machine, CallState, Effect, Snapshot, who}
-use Rattle.ckpt_machine.specs.Steps.{ended_calls, handle_opened, left_in_hand, stepped, with_pending}
+use Rattle.ckpt_machine.specs.After.{ended_calls, handle_opened, left_in_hand, stepped, with_pending}
 use Rattle.ckpt_machine.specs.Whose.{put_who}
 use Rattle.ckpt_machine.proofs.AsyncNames.{async_named}
 use Rattle.ckpt_machine.proofs.ByActor.{put_actor-same}

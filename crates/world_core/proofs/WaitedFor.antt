@@ -20,7 +20,7 @@ use Rattle.ckpt_machine.specs.Drivers as drivers
 use Rattle.ckpt_machine.specs.Driving.{Kept, on_kept, driver_start, driver_state, driver_taken}
 use Rattle.ckpt_machine.specs.Facts.{IsEventReady}
 use Rattle.ckpt_machine.specs.Machine.{Machine, CallState, who}
-use Rattle.ckpt_machine.specs.Steps.{IsDriven, driver_of}
+use Rattle.ckpt_machine.specs.Due.{IsDriven, driver_of}
 use Rattle.ckpt_machine.specs.Tables.{handle_closed}
 use Rattle.ckpt_machine.proofs.AsyncNames.{async_asked, async_named}
 use Rattle.world_core.specs.Alone.{Syncs, going_with, going_with_look}

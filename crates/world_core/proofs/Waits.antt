@@ -23,7 +23,7 @@ use Rattle.snap_copy.specs.Snapshots.{Snapshot}
 use Rattle.ckpt_machine.specs.Beginning.{Standing, begin_end, takes_memory_at_once}
 use Rattle.ckpt_machine.specs.BeginRows.{BeginRow}
 use Rattle.ckpt_machine.specs.Driving.{Kept, driver_start}
-use Rattle.ckpt_machine.specs.Steps.{IsBeginEnd, MayBegin, kept_at_beginning}
+use Rattle.ckpt_machine.specs.Due.{IsBeginEnd, MayBegin, kept_at_beginning}
 use Rattle.ckpt_machine.specs.Tables.{handle_asked}
 use Rattle.ckpt_machine.proofs.BeginRows.{row_of}
 use Rattle.ckpt_machine.proofs.Whose.{stepped_as-plain, stepped_as-async}

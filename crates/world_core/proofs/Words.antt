@@ -10,7 +10,8 @@ use Rattle.cluster_record.specs.declared.entries.Entry.{Entry}
 use Rattle.world_core.specs.declared.world.World.{World}
 use Rattle.cluster_record.specs.RecordState.{RecordState, entry_of, brought_up, empty_record}
 use Rattle.ckpt_machine.specs.Machine.{Machine}
-use Rattle.ckpt_machine.specs.Steps.{IsWord, after, reservation_under}
+use Rattle.ckpt_machine.specs.After.{after, reservation_under}
+use Rattle.ckpt_machine.specs.Words.{IsWord}
 use Rattle.world_core.specs.HandsState.{hand_at}
 use Rattle.world_core.specs.Shows.{Does, History, machine_of, shown_hand}
 use Rattle.ckpt_machine.specs.Shown.{reserved_in}

@@ -9,7 +9,7 @@ use Rattle.node_msgs.specs.declared.next.RecordStep.{RecordStep}
 use Rattle.node_msgs.specs.declared.next.RecordStep.TheVariants as events
 use Rattle.call_dispatch.specs.PendingCalls.{no_pending}
 use Rattle.cluster_record.specs.Calls.{client_of}
-use Rattle.ckpt_machine.specs.Steps.{goes_with, left_over}
+use Rattle.ckpt_machine.specs.After.{goes_with, left_over}
 use Rattle.world_core.specs.declared.world.World.{World}
 use Rattle.world_core.specs.HandsState.{HandsState, without_all, without_call, without_those}
 use Rattle.client_calls.specs.TableEnds.{table_ended}

@@ -10,7 +10,7 @@ use Rattle.ckpt_types.specs.Limits.{client_numbers}
 use Rattle.client_handles.specs.declared.handle_view.HandleView.{HandleView}
 use Rattle.cluster_record.specs.RecordState.{is_live_client}
 use Rattle.ckpt_machine.specs.Beginning.{begin_end}
-use Rattle.ckpt_machine.specs.Steps.{MayBegin, IsBeginEnd}
+use Rattle.ckpt_machine.specs.Due.{MayBegin, IsBeginEnd}
 use Rattle.ckpt_machine.specs.Tables.{handle_asked}
 use Rattle.world_core.specs.declared.world.World.{World}
 use Rattle.world_core.specs.HandsState.{hand_at}

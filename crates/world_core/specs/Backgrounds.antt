@@ -8,7 +8,7 @@ use Rattle.cluster_record.specs.RecordState.{entry_of, RecordState}
 use Rattle.weak_marks.specs.Marks.{call_of}
 use Rattle.snap_copy.specs.Snapshots.{Snapshot}
 use Rattle.replica.specs.Replicas.{Replica, pulled_from}
-use Rattle.ckpt_machine.specs.Options.{is_all}
+use Rattle.cluster_record.specs.Placement.{is_all}
 use Rattle.world_core.specs.declared.snapshots.Background.{Background}
 use Rattle.node_msgs.specs.declared.next.RecordStep.{RecordStep}
 use Rattle.node_msgs.specs.declared.next.RecordStep.TheVariants as events

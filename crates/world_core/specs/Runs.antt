@@ -15,7 +15,7 @@ use Rattle.run_labels.specs.declared.words.LineWord.TheVariants as linewords
 use Rattle.run_labels.specs.declared.words.Said.{Said}
 use Rattle.run_labels.specs.declared.words.Said.TheVariants.{Down, Idle}
 use Rattle.ckpt_types.specs.OpWord.{word_of_op, stepped_as}
-use Rattle.ckpt_machine.specs.Steps.{goes_on}
+use Rattle.ckpt_machine.specs.After.{goes_on}
 use Rattle.client_calls.specs.declared.in_hand.InHand.{InHand}
 use Rattle.world_core.specs.declared.world.Event.{Event}
 use Rattle.world_core.specs.declared.world.Event.TheVariants as happenings

@@ -28,7 +28,8 @@ use Rattle.ckpt_types.specs.Asks.{asked}
 use Rattle.client_calls.specs.HandRooms.{room_for}
 use Rattle.ckpt_machine.specs.Machine.{Machine, Effect, CallState, no_tables}
 use Rattle.ckpt_machine.specs.Machine as snapshots
-use Rattle.ckpt_machine.specs.Steps.{IsDue, after, snapshot_under}
+use Rattle.ckpt_machine.specs.After.{after, snapshot_under}
+use Rattle.ckpt_machine.specs.Due.{IsDue}
 use Rattle.ckpt_machine.specs.Shown.{FitsCopy, FitsReplica, FitsSnapshot, IsRoomToCopy, complete_replica, reserved_in, shown_copy, shown_replica, shown_snapshot}
 
 -- ---- what the machine keeps and the code does not

@@ -19,7 +19,7 @@ ghost use Rattle.cluster_record.specs.RecordState.{empty_record};
 ghost use Rattle.ckpt_types.specs.Asks.{asked, IsBuilt};
 ghost use Rattle.cluster_record.specs.Calls.{client_of, IsClient};
 ghost use Rattle.ckpt_machine.specs.Driving.{driver_start};
-ghost use Rattle.ckpt_machine.specs.Steps.{MayBegin, kept_at_beginning};
+ghost use Rattle.ckpt_machine.specs.Due.{MayBegin, kept_at_beginning};
 ghost use Rattle.world_core.specs.Shows.{IsShown, HasNumbersLeft};
 ghost use Rattle.world_core.specs.Happenings.{Adds, BringsUp, Begins};
 

@@ -7,7 +7,7 @@ ghost use Rattle.world_core.specs.HandLending.{LendsHand};
 ghost use Rattle.ckpt_types.specs.declared.identities.ActorName.TheVariants.{Client};
 ghost use Rattle.ckpt_types.specs.declared.identities.Who.TheVariants.{Actor};
 ghost use Rattle.cluster_record.specs.Places.{or_none};
-ghost use Rattle.ckpt_machine.specs.Steps.{goes_with};
+ghost use Rattle.ckpt_machine.specs.After.{goes_with};
 ghost use Rattle.world_core.specs.HandsState.{alone_in, hand_at, with_alone, without_all, without_call, without_those, HasAlone};
 ghost use Rattle.client_calls.specs.AlonePlaces.{found_alone};
 

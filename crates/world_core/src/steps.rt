@@ -13,7 +13,7 @@ ghost use Rattle.ckpt_machine.specs.RecordReady.{IsPlain, IsRefusedAs};
 ghost use Rattle.client_calls.specs.declared.in_hand.InHand.{InHand};
 ghost use Rattle.world_core.specs.LiveRooms.{room_is_taken};
 ghost use Rattle.world_core.specs.Alone.{calls_gone, ended_at, going_with, going_with_look, gone_with, syncs_gone};
-ghost use Rattle.ckpt_machine.specs.Steps.{goes_with};
+ghost use Rattle.ckpt_machine.specs.After.{goes_with};
 ghost use Rattle.client_calls.specs.Names.{client_by, IsClientName};
 ghost use Rattle.world_core.specs.HandsState.{hand_at, without_those};
 ghost use Rattle.world_core.specs.Shows.{IsShown, HasNumbersLeft};

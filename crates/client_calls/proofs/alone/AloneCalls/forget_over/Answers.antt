@@ -1,7 +1,7 @@
 use Rattle.std.proofs.Common.{rules, ap, ◌∙◌}
 use Rattle.std.proofs.lemmas.Fn.{filter_same}
 use Rattle.ckpt_types.specs.declared.identities.ActorName.TheVariants.{Client}
-use Rattle.ckpt_machine.specs.Steps.{goes_with}
+use Rattle.ckpt_machine.specs.After.{goes_with}
 use Rattle.client_calls.specs.AlonePlaces.{without_met}
 use Rattle.client_calls.proofs.alone.AloneCalls.forget_over.Goals as goal
 

@@ -5,7 +5,7 @@ use Rattle.ckpt_types.specs.declared.operation.Op.{Op}
 use Rattle.ckpt_types.specs.Asks.{asked}
 use Rattle.ckpt_types.specs.OpWord.{is_async, word_of_op}
 use Rattle.ckpt_machine.specs.Beginning.{callbacks_told}
-use Rattle.ckpt_machine.specs.Steps.{goes_on}
+use Rattle.ckpt_machine.specs.After.{goes_on}
 use Rattle.world_core.specs.TablesState.{pending_by}
 use Rattle.world_core.proofs.Answered.{alone_at_once, dispatch_told, no_callbacks, not_async, plain_ends, refused_ends, refused_told}
 use Rattle.world_core.proofs.Begin.{answered_begins}

@@ -7,7 +7,7 @@ use Rattle.ckpt_types.specs.Asks.{asked}
 use Rattle.node_msgs.specs.declared.details.Details.TheVariants.{Nothing}
 use Rattle.run_labels.specs.declared.labels.Label.TheVariants.{Began}
 use Rattle.ckpt_machine.specs.Beginning.{begin_end}
-use Rattle.ckpt_machine.specs.Steps.{IsBeginEnd, kept_at_beginning}
+use Rattle.ckpt_machine.specs.Due.{IsBeginEnd, kept_at_beginning}
 use Rattle.ckpt_machine.specs.Tables.{handle_asked}
 use Rattle.client_calls.specs.declared.in_hand.InHand.{InHand}
 use Rattle.world_core.specs.Happenings.{Begins}

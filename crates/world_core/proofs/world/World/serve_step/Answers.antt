@@ -1,7 +1,7 @@
 use Rattle.std.proofs.Common.{Some, refl, sym, ap, subst, ◌∙◌}
 use Rattle.node_msgs.specs.Requests.{ckpt_of}
 use Rattle.node_msgs.specs.Steps.{verb_of, word_of}
-use Rattle.ckpt_machine.specs.Steps.{ended_details}
+use Rattle.ckpt_machine.specs.Due.{ended_details}
 use Rattle.run_labels.specs.declared.labels.Label.{Label}
 use Rattle.world_core.specs.Happenings.{IsStep}
 use Rattle.world_core.specs.declared.world.World.{World}
