@@ -1,7 +1,7 @@
 -- What a served request tells of a count, and what it leaves in the hand of its call.
 use Rattle.std.proofs.Common.{◌≡◌, ℕ, List, length, refl, sym, ap, subst, ◌∙◌}
 use Rattle.std.specs.Option.{option_map}
-use Rattle.std.specs.Prelude.{Option, Some, None, IsSome, Result, Ok, Err, Bool, true, false, cond, ◌==◌}
+use Rattle.std.specs.Prelude.{Option, Some, None, IsSome, Result, Ok, Err, Bool, true, false, cond, ◌==◌, IsSomeAnd}
 use Rattle.ckpt_types.specs.declared.answers.Answer.TheVariants as answers
 use Rattle.ckpt_types.specs.declared.attributes.CreationAttributes.{CreationAttributes}
 use Rattle.ckpt_types.specs.declared.identities.CallId.{CallId}
@@ -34,6 +34,8 @@ use Rattle.ckpt_machine.specs.Seen.{seen_snapshot}
 use Rattle.ckpt_machine.specs.Shown.{shown_replica, shown_copy, FitsReplica, FitsSnapshot, FitsCopy, IsRoomToCopy}
 use Rattle.ckpt_machine.proofs.Carried.{GoesToReplica}
 use Rattle.ckpt_machine.proofs.RequestRows.{effects_in}
+use Rattle.ckpt_machine.specs.Tables.{takes_copy}
+use Rattle.std.proofs.lemmas.Option.{same_Some}
 
 -- a replica that fits counts its effects
 pub counts_effects : (k : ℕ) (E : List Effect) (x : Replica) (e : Option Entry) → FitsReplica k e E (Some x) → length E ≡ x.count
@@ -111,8 +113,14 @@ pulled_after request y E pulled = pulled
 
 -- a copy with the same attributes has the same room
 pub room_alike : (ask : Ask) (declares : Option CreationAttributes) (s t : copies.Snapshot) → t.attributes ≡ s.attributes → IsRoomToCopy ask declares (Some s) → IsRoomToCopy ask declares (Some t)
-room_alike ask None s t same room = tt
-room_alike ask (Some a) s t same room = λ takes. same ∙ room takes
+room_alike ask declares s t same room = ap Some same ∙ room
+
+-- a call that copies has room for what was declared
+pub room_is : (ask : Ask) (declares : Option CreationAttributes) (s : Option copies.Snapshot) (a : CreationAttributes) → IsRoomToCopy ask declares s → takes_copy ask ≡ true → declares ≡ Some a → IsSomeAnd s (λ s. s.attributes ≡ a)
+room_is ask declares s a room takes is = by_copy s (room ∙ ap (λ b. cond b declares None) takes ∙ is) where
+  by_copy : (s : Option copies.Snapshot) → option_map (λ (t : copies.Snapshot). t.attributes) s ≡ Some a → IsSomeAnd s (λ s. s.attributes ≡ a)
+  by_copy None there = absurd (cc there)
+  by_copy (Some t) there = same_Some t.attributes a there
 
 -- a pull has room
 abbrev pub HasCopyRoomFor : Request → Option copies.Snapshot → Type 0

@@ -1,5 +1,5 @@
 -- How the replicas of the nodes and the snapshots of calls show those of the machine, with the effects that they have taken.
-use Rattle.std.specs.Prelude.{◌≡◌, ℕ, List, length, Option, Some, None, IsSomeAnd, true, ◌==◌, if◌then◌else◌, slice_index}
+use Rattle.std.specs.Prelude.{◌≡◌, ℕ, List, length, Option, Some, None, ◌==◌, if◌then◌else◌, slice_index}
 use Rattle.ckpt_types.specs.declared.identities.CallId.{CallId}
 use Rattle.ckpt_types.specs.declared.attributes.CreationAttributes.{CreationAttributes}
 use Rattle.cluster_record.specs.declared.entries.Entry.{Entry}
@@ -14,6 +14,7 @@ use Rattle.ckpt_machine.specs.Tables.{takes_copy}
 use Rattle.ckpt_machine.specs.Machine.{Effect, Staged, ReplicaState}
 use Rattle.ckpt_machine.specs.Machine as snapshots
 use Rattle.ckpt_machine.specs.After.{reservation_under}
+use Rattle.std.specs.Option.{option_map}
 
 -- ---- the replicas
 
@@ -78,10 +79,9 @@ abbrev pub FitsSnapshot : List Effect → Option Snapshot → Type 0
 FitsSnapshot effects None = Unit {0}
 FitsSnapshot effects (Some s) = length effects ≡ s.count
 
--- the room for a copy was taken for what the checkpoint declared when the call began
+-- a call that copies has room for what its checkpoint declared when it began, and no other call has any
 abbrev pub IsRoomToCopy : Ask → Option CreationAttributes → Option Snapshot → Type 0
-IsRoomToCopy ask (Some a) s = takes_copy ask ≡ true → IsSomeAnd s (λ s. s.attributes ≡ a)
-IsRoomToCopy ask None s = Unit {0}
+IsRoomToCopy ask declares s = option_map (λ (t : Snapshot). t.attributes) s ≡ (if takes_copy ask then declares else None)
 
 -- what was pulled into it counts its effects
 abbrev pub FitsCopy : Option (List Effect) → Option Snapshot → Type 0

@@ -1,6 +1,6 @@
 -- A beginning, whatever the operation, and by whatever name its call goes on.
 use Rattle.std.proofs.Common.{◌≡◌, ℕ, ◌+◌, Bool, true, false, List, [], refl, sym, ap, subst, ◌∙◌, cond}
-use Rattle.std.specs.Prelude.{Option, Some, None, IsSomeAnd, slice_get, slice_set}
+use Rattle.std.specs.Prelude.{Option, Some, None, slice_get, slice_set}
 use Rattle.ckpt_types.specs.declared.answers.Outcome.{Outcome}
 use Rattle.ckpt_types.specs.declared.attributes.CreationAttributes.{CreationAttributes}
 use Rattle.ckpt_types.specs.declared.identities.ActorName.{ActorName}
@@ -25,7 +25,7 @@ use Rattle.ckpt_machine.specs.Driving.{Kept}
 use Rattle.ckpt_machine.specs.Facts.{Facts}
 use Rattle.ckpt_machine.specs.After.{after, call_begun, goes_on, pending_begun}
 use Rattle.ckpt_machine.specs.Due.{IsDue, IsBegun, IsBeginEnd, kept_at_beginning}
-use Rattle.ckpt_machine.specs.Tables.{handle_asked, ended_at_once}
+use Rattle.ckpt_machine.specs.Tables.{handle_asked, ended_at_once, takes_copy}
 use Rattle.ckpt_machine.specs.Whose.{put_who}
 use Rattle.ckpt_machine.proofs.Starting.{driven_begun, none_begun}
 use Rattle.ckpt_machine.proofs.Whose.{put_who-same}
@@ -45,6 +45,7 @@ use Rattle.world_core.proofs.LiveRooms.{rooms_set}
 use Rattle.world_core.proofs.Maps.{HasUnder, fits_hand, put_hand, told_as, under_other, under_own}
 use Rattle.world_core.proofs.NewCalls.{new_idle}
 use Rattle.world_core.proofs.TableFields.{field_put}
+use Rattle.std.specs.Option.{option_map}
 
 -- ---- the call in hand
 
@@ -60,8 +61,10 @@ none_put hands v none u = sym (put_who-same (hand_at hands) v None (sym none) u)
 
 -- the room that was taken for a copy is for what was declared then
 room_to_copy : (ask : Ask) (declares : Option CreationAttributes) → IsRoomToCopy ask declares (copy_room_for ask declares)
-room_to_copy ask None = tt
-room_to_copy ask (Some a) = λ takes. subst (λ (b : Bool). IsSomeAnd (cond b (copy_room (Some a)) None) (λ s. s.attributes ≡ a)) (sym takes) refl
+room_to_copy ask declares = elim (takes_copy ask) as (λ b. option_map (λ (t : Snapshot). t.attributes) (cond b (copy_room declares) None) ≡ cond b declares None) [ true ↦ roomed declares | false ↦ refl ] where
+  roomed : (d : Option CreationAttributes) → option_map (λ (t : Snapshot). t.attributes) (copy_room d) ≡ d
+  roomed None = refl
+  roomed (Some a) = refl
 
 -- its beginning, where it is in hand
 abbrev began_as : Kept → Option InHand → Driver → Beginning

@@ -45,14 +45,14 @@ use Rattle.world_core.specs.TablesState.{kept_by}
 use Rattle.world_core.specs.Happenings.{rooms_at}
 use Rattle.ckpt_machine.specs.Facts.{Facts, HasCopyRoom, IsServable}
 use Rattle.world_core.specs.Shows.{HistoryFits, History, machine_of, tables_of}
-use Rattle.ckpt_machine.specs.Shown.{FitsReplica, FitsSlot, FitsCopy, IsRoomToCopy, shown_replica, shown_slot, shown_copy, where_complete, complete_replica}
+use Rattle.ckpt_machine.specs.Shown.{FitsReplica, FitsSlot, FitsCopy, shown_replica, shown_slot, shown_copy, where_complete, complete_replica}
 use Rattle.client_calls.specs.HandRooms.{room_for}
 use Rattle.ckpt_machine.proofs.NextOf.{OfAsked, next_of}
 use Rattle.ckpt_machine.proofs.OptionLemmas.{IsSomeAnd-at}
 use Rattle.ckpt_machine.proofs.LentReplicas.{has_one}
 use Rattle.world_core.proofs.Carrying.{IsOfCall, payload_with}
 use Rattle.ckpt_machine.proofs.Carried.{GoesToReplica, IsSameCopy}
-use Rattle.ckpt_machine.proofs.CopySteps.{HasCopyRoomFor}
+use Rattle.ckpt_machine.proofs.CopySteps.{HasCopyRoomFor, room_is}
 use Rattle.world_core.proofs.Held.{state_in, in_hand_is, actor_is, iteration_is, due_is, copy_stays}
 use Rattle.world_core.proofs.IterationSteps.{TablesReady, goes_on_with, asked_is, room_for_declared}
 use Rattle.world_core.specs.HandsState.{hand_at}
@@ -236,7 +236,7 @@ module _ (w : World) (h : History) (v : Who) (r : ℕ) (hand : InHand) (facts : 
   pub copy_room_is : (k : ℕ) → HasCopyRoom M s k → (e : Entry) → entry_of k w.cluster.entries ≡ Some e → IsSomeAnd hand.snapshot (λ s. s.attributes ≡ e.attributes)
   copy_room_is k has e at =
       let declares : s.kept.declares ≡ Some e.attributes = subst (λ (o : Option Entry). IsSomeAnd o (λ e. s.kept.declares ≡ Some e.attributes)) at has.declares in
-      subst (λ d. IsRoomToCopy (asked hand.op) d hand.snapshot) declares (copy_stays w h v hand held fits).room has.takes
+      room_is (asked hand.op) s.kept.declares hand.snapshot e.attributes (copy_stays w h v hand held fits).room has.takes declares
 
   pub copy_declared : (k : ℕ) → HasCopyRoom M s k → (x : Replica) (e : Entry) → entry_of k w.cluster.entries ≡ Some e → x.attributes ≡ e.attributes → IsSomeAnd hand.snapshot (λ s. s.attributes ≡ x.attributes)
   copy_declared k has x e at same = subst (λ a. IsSomeAnd hand.snapshot (λ s. s.attributes ≡ a)) (sym same) (copy_room_is k has e at)

@@ -1,5 +1,5 @@
 -- What the world shows when the replicas and the snapshots of checkpoints that are gone are freed: the same.
-use Rattle.std.proofs.Common.{◌≡◌, ℕ, Bool, true, false, cond, List, refl, sym, ap, subst, ◌∙◌}
+use Rattle.std.proofs.Common.{◌≡◌, ℕ, Bool, true, false, cond, List, refl, sym, ap, subst, ◌∙◌, arith}
 use Rattle.std.specs.Prelude.{Option, Some, None, is_some}
 use Rattle.cluster_record.specs.declared.entries.Entry.{Entry}
 use Rattle.cluster_record.specs.RecordState.{RecordState, entry_of}
@@ -9,7 +9,7 @@ use Rattle.world_core.specs.Freeing.{freed_world}
 use Rattle.ckpt_machine.specs.Nodes.{freed}
 use Rattle.ckpt_machine.specs.Machine.{Machine, Effect}
 use Rattle.world_core.specs.declared.snapshots.Background.{Background}
-use Rattle.world_core.specs.Backgrounds.{background_key, background_in, where_pulled, pulled_in, backgrounds_left, HasRoom, HasRoomWhere, HaveRooms}
+use Rattle.world_core.specs.Backgrounds.{background_key, background_in, where_pulled, pulled_in, backgrounds_left, HasRoom, HasRoomWhere, HaveRooms, HaveRoomsWhere}
 use Rattle.world_core.specs.LiveRooms.{LiveHaveRoom}
 use Rattle.ckpt_machine.specs.Holding.{HoldsOnlyWhatStands}
 use Rattle.ckpt_machine.specs.Facts.{Facts}
@@ -18,6 +18,7 @@ use Rattle.ckpt_machine.specs.Shown.{shown_replica, shown_snapshot, FitsReplica,
 use Rattle.ckpt_machine.specs.After.{after, snapshot_under}
 use Rattle.ckpt_machine.specs.Due.{IsDue}
 use Rattle.ckpt_machine.proofs.FreedNodes.{complete_replica-freed, find_key-filter, reserved_in-freed}
+use Rattle.ckpt_machine.proofs.OnceByKey.{counted-filter}
 
 -- ---- the background snapshots
 
@@ -49,8 +50,11 @@ left_room_case None s has = refl
 left_room_case (Some e) s has = has
 
 -- where each checkpoint that is there has its room, no other is kept once they are freed
-pub rooms_left : (entries : List Entry) (backgrounds : List Background) → ((k : ℕ) → HasRoomWhere (entry_of k entries) (background_in backgrounds k)) → HaveRooms entries (backgrounds_left entries backgrounds)
-rooms_left entries backgrounds has k = subst (HasRoom (entry_of k entries)) (sym (background_in-left entries backgrounds k)) (left_room_case (entry_of k entries) (background_in backgrounds k) (has k))
+pub rooms_left : (entries : List Entry) (backgrounds : List Background) → HaveRoomsWhere entries backgrounds → HaveRooms entries (backgrounds_left entries backgrounds)
+rooms_left entries backgrounds has = record {
+  each = λ k. subst (HasRoom (entry_of k entries)) (sym (background_in-left entries backgrounds k)) (left_room_case (entry_of k entries) (background_in backgrounds k) (has.each k));
+  once = λ k. let fewer = counted-filter background_key (λ b. is_some (entry_of b.ckpt entries)) k backgrounds in let few = has.once k in omega (arith, fewer, few);
+}
 
 -- ---- the world
 
@@ -87,7 +91,7 @@ does_before old new label does holds keeps rooms = record {
 }
 
 -- as they do once they are freed
-pub does_freed : (old new : World) (label : Label) → DoesBefore old new label → ((m : Machine) → Shows old m → Facts m → HoldsOnlyWhatStands new.cluster (freed new.cluster.entries new.nodes)) → ((m : Machine) → Shows old m → Facts m → (k : ℕ) → HasRoomWhere (entry_of k new.cluster.entries) (background_in new.snapshots k)) → ((m : Machine) → Shows old m → Facts m → LiveHaveRoom new.cluster new.tables) → Does old (freed_world new) label
+pub does_freed : (old new : World) (label : Label) → DoesBefore old new label → ((m : Machine) → Shows old m → Facts m → HoldsOnlyWhatStands new.cluster (freed new.cluster.entries new.nodes)) → ((m : Machine) → Shows old m → Facts m → HaveRoomsWhere new.cluster.entries new.snapshots) → ((m : Machine) → Shows old m → Facts m → LiveHaveRoom new.cluster new.tables) → Does old (freed_world new) label
 does_freed old new label does holds has rooms = does_before old (freed_world new) label
     (record {
       due_is = does.due_is;

@@ -1,5 +1,5 @@
 -- A new world shows the empty cluster.
-use Rattle.std.proofs.Common.{◌≡◌, ℕ, true, false, List, [], refl, sym, ap, subst, ◌∙◌}
+use Rattle.std.proofs.Common.{◌≡◌, ℕ, true, false, List, [], refl, sym, ap, subst, ◌∙◌, arith}
 use Rattle.std.specs.Prelude.{None, pos}
 use Rattle.ckpt_types.specs.declared.identities.ActorName.{ActorName}
 use Rattle.ckpt_types.specs.declared.identities.ActorName.TheVariants.{Client, Node}
@@ -14,7 +14,7 @@ use Rattle.ckpt_machine.specs.Nodes.{replica_in}
 use Rattle.ckpt_machine.specs.Machine.{empty_cluster, no_tables}
 use Rattle.ckpt_machine.specs.Due.{room_in}
 use Rattle.world_core.specs.declared.snapshots.Background.{Background}
-use Rattle.world_core.specs.Backgrounds.{background_in, pulled_in, HasRoom}
+use Rattle.world_core.specs.Backgrounds.{pulled_in, HaveRooms}
 use Rattle.world_core.specs.Shows.{Beginning, History, Shows, HistoryFits, snapshot_shown, FitsHand, machine_of, hand_of, next_of, pending_of, shown_hand, tables_of}
 use Rattle.ckpt_machine.specs.Shown.{FitsReplica, FitsSnapshot, complete_replica, reserved_in, shown_replica, where_complete}
 use Rattle.world_core.specs.Runs.{IsNew, IsRunTo}
@@ -78,7 +78,7 @@ module _ (w : World) (new : IsNew w) where
 
   -- a new world shows the empty cluster
   pub new_shows : Shows w empty_cluster
-  new_shows = record { history = nothing; same = shows_nothing; fits = fits_nothing; holds = nothing_held w.cluster w.nodes new.nodes; keeps = λ k. subst (λ (z : RecordState × List Background). HasRoom (entry_of k z.0.entries) (background_in z.1 k)) (λ i. (sym new.cluster i, sym new.snapshots i)) refl; rooms = λ c live. absurd (none_live c live) }
+  new_shows = record { history = nothing; same = shows_nothing; fits = fits_nothing; holds = nothing_held w.cluster w.nodes new.nodes; keeps = subst (λ (z : RecordState × List Background). HaveRooms z.0.entries z.1) (λ i. (sym new.cluster i, sym new.snapshots i)) (record { each = λ k. refl; once = λ k. omega arith }); rooms = λ c live. absurd (none_live c live) }
 
 -- no label yet is a run to it
 pub new_run : (w : World) → IsNew w → IsRunTo w []

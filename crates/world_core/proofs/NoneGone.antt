@@ -73,7 +73,7 @@ module _ (R : RecordState) (nodes : List (List Replica)) (backgrounds : List Bac
   kept_entry (Some e) b has some = refl
 
   kept_whole : (s : ℕ → Bool) → Stay R.entries s → filter (λ b. s (background_key b)) backgrounds ≡ backgrounds
-  kept_whole s stay = whole_by_key background_key s backgrounds (λ k is. stay k (kept_entry (entry_of k R.entries) (background_in backgrounds k) (keeps k) is))
+  kept_whole s stay = whole_by_key background_key s backgrounds (λ k is. stay k (kept_entry (entry_of k R.entries) (background_in backgrounds k) (keeps.each k) is))
 
   room_whole : (s : ℕ → Bool) → Stay R.entries s → (k : ℕ) (a : CreationAttributes) → s k ≡ true → filter (λ b. s (background_key b)) (with_room_asked k (Some a) backgrounds) ≡ with_room_asked k (Some a) backgrounds
   room_whole s stay k a new = elim (is_all a) as (λ b. filter (λ b. s (background_key b)) (cond b backgrounds (backgrounds ++ snapshot_room k a ∷ [])) ≡ cond b backgrounds (backgrounds ++ snapshot_room k a ∷ [])) [

@@ -1,5 +1,5 @@
 -- A pull: what it tells is due, and what the world shows behind it.
-use Rattle.std.proofs.Common.{◌≡◌, ℕ, Bool, true, false, List, length, [], ◌∷◌, refl, sym, ap, subst, ◌∙◌, cond}
+use Rattle.std.proofs.Common.{◌≡◌, ℕ, Bool, true, false, List, length, [], ◌∷◌, refl, sym, ap, subst, ◌∙◌, cond, ◌≤◌}
 use Rattle.std.specs.Prelude.{Option, Some, None, IsSomeAnd, is_some, ◌==◌, ◌||◌}
 use Rattle.std.proofs.lemmas.Bool.{eqb-true}
 use Rattle.ckpt_types.specs.declared.identities.CallId.{CallId}
@@ -29,6 +29,7 @@ use Rattle.world_core.specs.Runs.{IsPulledOf}
 use Rattle.world_core.specs.Shows.{Does, IsShown, History, HistoryFits, machine_of, snapshot_shown}
 use Rattle.ckpt_machine.specs.Shown.{FitsReplica, FitsSnapshot, complete_replica, shown_replica, shown_slot, shown_snapshot}
 use Rattle.world_core.proofs.CallSteps.{IsKnown, known, known_by}
+use Rattle.ckpt_machine.proofs.OnceByKey.{counted-change_key}
 
 -- ---- the snapshots, changed at one
 
@@ -56,7 +57,7 @@ source_entry (Some e) r is = (e, refl, by_tests (is_some e.making) (is_all e.att
 -- so it has room for one
 room_there : (e : Entry) (o : Option Background) → HasRoom (Some e) o → is_all e.attributes ≡ false → IsSomeAnd o (λ b. b.snap.attributes ≡ e.attributes)
 room_there e None all none = absurd (let w : true ≡ false = sym all ∙ none in cc w)
-room_there e (Some b) same none = same
+room_there e (Some b) has none = has.1
 
 module _ (w : World) (h : History) (is : IsKnown w h) (k : ℕ) where
   abbrev m : Machine
@@ -90,7 +91,7 @@ module _ (w : World) (h : History) (is : IsKnown w h) (k : ℕ) where
 
     -- what it asks
     can : CanPull (Some x) (background_in w.snapshots k)
-    can = subst (λ a. IsSomeAnd (background_in w.snapshots k) (λ b. b.snap.attributes ≡ a)) (sym its.1) (room_there declared.0 (background_in w.snapshots k) (subst (λ o. HasRoom o (background_in w.snapshots k)) declared.1 (is.keeps k)) declared.2)
+    can = subst (λ a. IsSomeAnd (background_in w.snapshots k) (λ b. b.snap.attributes ≡ a)) (sym its.1) (room_there declared.0 (background_in w.snapshots k) (subst (λ o. HasRoom o (background_in w.snapshots k)) declared.1 (is.keeps.each k)) declared.2)
 
     room : (b : Background) × (background_in w.snapshots k ≡ Some b) × (b.snap.attributes ≡ x.attributes)
     room = IsSomeAnd-at (background_in w.snapshots k) (λ b. b.snap.attributes ≡ x.attributes) can
@@ -164,18 +165,21 @@ module _ (c : Option CallId) (x : Replica) where
 
 room_stays : (o : Option Entry) (a b : Background) → b.snap.attributes ≡ a.snap.attributes → HasRoom o (Some a) → HasRoom o (Some b)
 room_stays None a b same has = absurd (cc has)
-room_stays (Some e) a b same has = same ∙ has
+room_stays (Some e) a b same has = (has.0, same ∙ has.1)
 
 rooms_filled : (entries : List Entry) (backgrounds : List Background) (k : ℕ) (c : Option CallId) (x : Replica) → HaveRooms entries backgrounds → HaveRooms entries (change_key background_key k (filled_unless c x) backgrounds)
-rooms_filled entries backgrounds k c x keeps j = by_found (background_in backgrounds k) refl
+rooms_filled entries backgrounds k c x keeps = record {
+  each = λ j. by_found j (background_in backgrounds k) refl;
+  once = λ j. subst (λ n. n ≤ 1) (sym (counted-change_key background_key k j (filled_unless c x) (key_same c x) backgrounds)) (keeps.once j);
+}
   where
-    by_test : (b : Background) → background_in backgrounds k ≡ Some b → (t : Bool) → (j == k) ≡ t → HasRoom (entry_of j entries) (cond t (Some (filled_unless c x b)) (background_in backgrounds j))
-    by_test b found false t = keeps j
-    by_test b found true t = room_stays (entry_of j entries) b (filled_unless c x b) (attributes_same c x b) (subst (HasRoom (entry_of j entries)) (ap (background_in backgrounds) (eqb-true j k t) ∙ found) (keeps j))
+    by_test : (j : ℕ) (b : Background) → background_in backgrounds k ≡ Some b → (t : Bool) → (j == k) ≡ t → HasRoom (entry_of j entries) (cond t (Some (filled_unless c x b)) (background_in backgrounds j))
+    by_test j b found false t = keeps.each j
+    by_test j b found true t = room_stays (entry_of j entries) b (filled_unless c x b) (attributes_same c x b) (subst (HasRoom (entry_of j entries)) (ap (background_in backgrounds) (eqb-true j k t) ∙ found) (keeps.each j))
 
-    by_found : (o : Option Background) → background_in backgrounds k ≡ o → HasRoom (entry_of j entries) (background_in (change_key background_key k (filled_unless c x) backgrounds) j)
-    by_found None none = subst (λ (ys : List Background). HasRoom (entry_of j entries) (background_in ys j)) (sym (not_changed background_key k (filled_unless c x) backgrounds none)) (keeps j)
-    by_found (Some b) found = subst (HasRoom (entry_of j entries)) (sym (find_changed background_key k (filled_unless c x) (key_same c x) backgrounds b j found)) (by_test b found (j == k) refl)
+    by_found : (j : ℕ) (o : Option Background) → background_in backgrounds k ≡ o → HasRoom (entry_of j entries) (background_in (change_key background_key k (filled_unless c x) backgrounds) j)
+    by_found j None none = subst (λ (ys : List Background). HasRoom (entry_of j entries) (background_in ys j)) (sym (not_changed background_key k (filled_unless c x) backgrounds none)) (keeps.each j)
+    by_found j (Some b) found = subst (HasRoom (entry_of j entries)) (sym (find_changed background_key k (filled_unless c x) (key_same c x) backgrounds b j found)) (by_test j b found (j == k) refl)
 
 pulled_rooms : (entries : List Entry) (backgrounds : List Background) (k : ℕ) (y : Option Replica) → HaveRooms entries backgrounds → HaveRooms entries (snapshots_pulled y k backgrounds)
 pulled_rooms entries backgrounds k None keeps = keeps

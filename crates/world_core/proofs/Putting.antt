@@ -120,7 +120,7 @@ module _ (w : World) (h : History) (is : IsKnown w h) (k r : ℕ) where
 
     -- where a snapshot was pulled, it is of what the replica declares
     puttable : IsPuttable snap x
-    puttable = record { free = free.0; unmarked = free.1; declared = by_room (background_in w.snapshots k) (subst (λ o. HasRoom o (background_in w.snapshots k)) found (is.keeps k)) }
+    puttable = record { free = free.0; unmarked = free.1; declared = by_room (background_in w.snapshots k) (subst (λ o. HasRoom o (background_in w.snapshots k)) found (is.keeps.each k)) }
       where
         by_pulled : (b : Background) (t : Bool) → b.snap.attributes ≡ e.attributes → IfSome (cond t (Some b.snap) None) (λ s. s.attributes ≡ x.attributes)
         by_pulled b true same = same ∙ sym its.1
@@ -128,7 +128,7 @@ module _ (w : World) (h : History) (is : IsKnown w h) (k r : ℕ) where
 
         by_room : (o : Option Background) → HasRoom (Some e) o → IfSome (where_pulled o) (λ s. s.attributes ≡ x.attributes)
         by_room None has = tt
-        by_room (Some b) has = by_pulled b b.pulled has
+        by_room (Some b) has = by_pulled b b.pulled has.1
 
     -- ---- where a snapshot was pulled
 

@@ -31,7 +31,7 @@ module _ (w : World) (h : History) (R : RecordState) (nodes : List (List Replica
       let replicas = λ (k r : ℕ). record_shown_case w.cluster.up k (entry_of k w.cluster.entries) (entry_of k R.entries) r (h.effects k r) (h.origins k r) (replica_in w.nodes k r) (replica_in nodes k r) (goes k r) in
       let reserved = λ (k r : ℕ). reserved_case w.cluster.up k (entry_of k w.cluster.entries) (entry_of k R.entries) r (slice_index w.cluster.up r) (replica_in w.nodes k r) (replica_in nodes k r) (goes k r)
       ∙ ap (λ (us : List ℕ). reservation_under (entry_of k R.entries) r (shown_reservation (slice_index us r) (replica_in nodes k r))) (sym up) in
-      let snapshots = λ (k : ℕ). copied_case (entry_of k w.cluster.entries) (entry_of k R.entries) (h.copied k) (pulled_in w.snapshots k) (none_pulled (entry_of k w.cluster.entries) (background_in w.snapshots k) (keeps k))
+      let snapshots = λ (k : ℕ). copied_case (entry_of k w.cluster.entries) (entry_of k R.entries) (h.copied k) (pulled_in w.snapshots k) (none_pulled (entry_of k w.cluster.entries) (background_in w.snapshots k) (keeps.each k))
       ∙ ap (λ s. snapshot_under (entry_of k R.entries) (shown_snapshot (h.copied k) s)) (sym (pulled k)) in
       λ i. record (machine_of (record w { cluster = R; nodes = nodes; snapshots = backgrounds }) (with_effects w h)) { replicas = λ k r. replicas k r i; reserved = λ k r. reserved k r i; snapshots = λ k. snapshots k i }
 

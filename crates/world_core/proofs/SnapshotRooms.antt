@@ -16,11 +16,12 @@ use Rattle.cluster_record.proofs.Places.{find_pushed}
 use Rattle.ckpt_machine.specs.Drivers.{Driver}
 use Rattle.cluster_record.specs.Placement.{is_all}
 use Rattle.world_core.specs.declared.snapshots.Background.{Background}
-use Rattle.world_core.specs.Backgrounds.{background_key, background_in, where_pulled, pulled_in, snapshot_room, with_room_for, HasRoom, HasRoomWhere, HaveRooms, snapshots_behind, with_room_asked}
+use Rattle.world_core.specs.Backgrounds.{background_key, background_in, where_pulled, pulled_in, snapshot_room, with_room_for, HasRoom, HasRoomWhere, HaveRooms, snapshots_behind, with_room_asked, HaveRoomsWhere, StandOnce}
 use Rattle.ckpt_machine.specs.RecordAfter.{event_after}
 use Rattle.ckpt_machine.proofs.KeptEntries.{IsKept, Keeps, kept_filter, undone_stays, swept_stays, declared, with_created, created_there, created_rises, event_declared}
 use Rattle.node_msgs.specs.declared.next.RecordStep.TheVariants as events
 use Rattle.ckpt_machine.specs.Drivers as drivers
+use Rattle.ckpt_machine.proofs.OnceByKey.{counted-push}
 
 -- ---- a creation
 
@@ -61,7 +62,7 @@ has_kept old None s kept has = tt
 has_kept old (Some f) s (inl none) has = absurd (let w : Some (declared f) ≡ None = none in cc w)
 has_kept None (Some f) s (inr same) has = absurd (let w : Some (declared f) ≡ None = same in cc w)
 has_kept (Some e) (Some f) None (inr same) has = ap is_all (same_Some (declared f) (declared e) same) ∙ has
-has_kept (Some e) (Some f) (Some b) (inr same) has = has ∙ sym (same_Some (declared f) (declared e) same)
+has_kept (Some e) (Some f) (Some b) (inr same) has = (ap is_all (same_Some (declared f) (declared e) same) ∙ has.0, has.1 ∙ sym (same_Some (declared f) (declared e) same))
 
 -- one that is there has its room
 has_where : (o : Option Entry) (s : Option Background) → HasRoom o s → HasRoomWhere o s
@@ -71,18 +72,21 @@ has_where (Some e) s has = has
 module _ (R : RecordState) (backgrounds : List Background) (keeps : HaveRooms R.entries backgrounds) (rises : IdentitiesRise R.entries) (up_to : AllUpTo R.last_identity R.entries) where
   -- each checkpoint that is there has its room
   abbrev Have : RecordState → List Background → Type 0
-  Have N then = (j : ℕ) → HasRoomWhere (entry_of j N.entries) (background_in then j)
+  Have N then = HaveRoomsWhere N.entries then
 
   all_have : Have R backgrounds
-  all_have j = has_where (entry_of j R.entries) (background_in backgrounds j) (keeps j)
+  all_have = record { each = λ j. has_where (entry_of j R.entries) (background_in backgrounds j) (keeps.each j); once = keeps.once }
 
   -- so has one behind a step
   step_has : (W N : RecordState) (then : List Background) → Keeps declared W.entries N.entries → Have W then → Have N then
-  step_has W N then on has j = has_kept (entry_of j W.entries) (entry_of j N.entries) (background_in then j) (on.each j) (has j)
+  step_has W N then on has = record { each = λ j. has_kept (entry_of j W.entries) (entry_of j N.entries) (background_in then j) (on.each j) (has.each j); once = has.once }
 
   -- and one that is put into the making, with what it declares
   created_has : (call : CallId) (name : List ℕ) (a : CreationAttributes) → Have (created_as call name (Some a) R) (with_room_for (R.last_identity + 1) a backgrounds)
-  created_has call name a j = subst (λ (o : Option Entry). HasRoomWhere o (background_in (with_room_for n a backgrounds) j)) (sym (created_there R up_to call name a j)) (by_test j (j == n) refl)
+  created_has call name a = record {
+    each = λ j. subst (λ (o : Option Entry). HasRoomWhere o (background_in (with_room_for n a backgrounds) j)) (sym (created_there R up_to call name a j)) (by_test j (j == n) refl);
+    once = elim (is_all a) as (λ all. StandOnce (roomed all)) [ true ↦ keeps.once | false ↦ counted-push background_key backgrounds (snapshot_room n a) none keeps.once ];
+  }
     where
       n : ℕ
       n = R.last_identity + 1
@@ -91,18 +95,18 @@ module _ (R : RecordState) (backgrounds : List Background) (keeps : HaveRooms R.
       gone = entry_of-beyond R.last_identity n R.entries up_to (omega arith)
 
       none : background_in backgrounds n ≡ None
-      none = subst (λ (o : Option Entry). HasRoom o (background_in backgrounds n)) gone (keeps n)
+      none = subst (λ (o : Option Entry). HasRoom o (background_in backgrounds n)) gone (keeps.each n)
 
       roomed : (all : Bool) → List Background
       roomed all = cond all backgrounds (backgrounds ++ snapshot_room n a ∷ [])
 
       own : (all : Bool) → is_all a ≡ all → HasRoom (Some (new_entry call name a R)) (background_in (roomed all) n)
       own true is = subst (HasRoom (Some (new_entry call name a R))) (sym none) is
-      own false is = subst (HasRoom (Some (new_entry call name a R))) (sym (find_pushed background_key n backgrounds (snapshot_room n a) n refl none ∙ ap (λ b. cond b (Some (snapshot_room n a)) (background_in backgrounds n)) (eq-eqb n n refl))) refl
+      own false is = subst (HasRoom (Some (new_entry call name a R))) (sym (find_pushed background_key n backgrounds (snapshot_room n a) n refl none ∙ ap (λ b. cond b (Some (snapshot_room n a)) (background_in backgrounds n)) (eq-eqb n n refl))) (is, refl)
 
       other : (j : ℕ) (all : Bool) → (j == n) ≡ false → HasRoomWhere (entry_of j R.entries) (background_in (roomed all) j)
-      other j true t = all_have j
-      other j false t = subst (HasRoomWhere (entry_of j R.entries)) (sym (find_pushed background_key n backgrounds (snapshot_room n a) j refl none ∙ ap (λ b. cond b (Some (snapshot_room n a)) (background_in backgrounds j)) t)) (all_have j)
+      other j true t = all_have.each j
+      other j false t = subst (HasRoomWhere (entry_of j R.entries)) (sym (find_pushed background_key n backgrounds (snapshot_room n a) j refl none ∙ ap (λ b. cond b (Some (snapshot_room n a)) (background_in backgrounds j)) t)) (all_have.each j)
 
       by_test : (j : ℕ) (b : Bool) → (j == n) ≡ b → HasRoomWhere (cond b (Some (new_entry call name a R)) (entry_of j R.entries)) (background_in (with_room_for n a backgrounds) j)
       by_test j true t = subst (λ (j : ℕ). HasRoom (Some (new_entry call name a R)) (background_in (with_room_for n a backgrounds) j)) (sym (eqb-true j n t)) (own (is_all a) refl)

@@ -1,5 +1,5 @@
 -- The background snapshots that the world keeps: of each checkpoint whose updates go to its active alone, the room for one, and what was pulled last.
-use Rattle.std.specs.Prelude.{◌≡◌, ℕ, List, [], ◌∷◌, ◌++◌, true, false, Option, Some, None, is_some, if◌then◌else◌, filter, ◌+◌}
+use Rattle.std.specs.Prelude.{◌≡◌, ℕ, List, [], ◌∷◌, ◌++◌, true, false, Option, Some, None, is_some, if◌then◌else◌, filter, ◌+◌, count_by, ◌≤◌, ◌==◌}
 use Rattle.ckpt_types.specs.declared.attributes.CreationAttributes.{CreationAttributes}
 use Rattle.ckpt_types.specs.declared.identities.CallId.{CallId}
 use Rattle.cluster_record.specs.declared.entries.Entry.{Entry}
@@ -67,17 +67,27 @@ filled_from x b = filled_unless (call_of x.marks) x b
 
 -- ---- what they are kept for
 
--- a checkpoint that is there has room for a snapshot, for what it declares, unless its updates are on all replicas; one that is gone has none
+-- a checkpoint that is there has room for a snapshot, for what it declares, just where its updates go to the active alone; one that is gone has none
 abbrev pub HasRoom : Option Entry → Option Background → Type 0
 HasRoom None b = b ≡ None
 HasRoom (Some e) None = is_all e.attributes ≡ true
-HasRoom (Some e) (Some b) = b.snap.attributes ≡ e.attributes
+HasRoom (Some e) (Some b) = (is_all e.attributes ≡ false) × (b.snap.attributes ≡ e.attributes)
 
 -- so it is where the checkpoint is there
 abbrev pub HasRoomWhere : Option Entry → Option Background → Type 0
 HasRoomWhere None b = Unit {0}
 HasRoomWhere (Some e) b = HasRoom (Some e) b
 
+-- none has two
+abbrev pub StandOnce : List Background → Type 0
+StandOnce backgrounds = (k : ℕ) → count_by (λ (b : Background). b.ckpt == k) backgrounds ≤ 1
+
 -- so it is of each checkpoint
-abbrev pub HaveRooms : List Entry → List Background → Type 0
-HaveRooms entries backgrounds = (k : ℕ) → HasRoom (entry_of k entries) (background_in backgrounds k)
+pub record HaveRooms (entries : List Entry) (backgrounds : List Background) : Type 0 where
+  pub each : (k : ℕ) → HasRoom (entry_of k entries) (background_in backgrounds k)
+  pub once : StandOnce backgrounds
+
+-- so it is of each that is there, where those of others are not freed yet
+pub record HaveRoomsWhere (entries : List Entry) (backgrounds : List Background) : Type 0 where
+  pub each : (k : ℕ) → HasRoomWhere (entry_of k entries) (background_in backgrounds k)
+  pub once : StandOnce backgrounds
