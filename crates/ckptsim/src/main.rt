@@ -2,25 +2,18 @@
 //! every result to standard output. `ckptsim run --steps` prints each step of a call and each moment too.
 #![tactic(auto)]
 
-mod arguments;
-mod reading;
 mod running;
-#[cfg(test)]
-mod tests;
-mod words;
-mod writing;
 
-use arguments::StdArguments;
+use command_run::{StdArguments, Status, words};
 use outside_io::{OpenGate, StdSink, StdSource};
 use run_labels::RunLog;
-use running::{Status, ckpt_run};
+use running::ckpt_run;
 use std::alloc::Global;
 use std::process::ExitCode;
 use std::string::String;
 use std::sync::Wait;
 use std::thread::Threads;
 use std::{io, mem};
-use words::words;
 use world_core::World;
 
 fn main(rt: HostRuntime) -> ExitCode {
