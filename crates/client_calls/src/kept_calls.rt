@@ -1,11 +1,13 @@
 //! What becomes of the asynchronous calls of one client that are not dispatched.
-ghost use Rattle.std.specs.Prelude.{◌≡◌, IfOk, map};
+ghost use Rattle.std.specs.Prelude.{◌≡◌, ◌<◌, ◌^◌, IfOk, length, map};
 ghost use Rattle.call_dispatch.specs.PendingCalls.{callback_of, dispatched, given_answer, given_by, given_number, no_pending};
 ghost use Rattle.ckpt_machine.specs.After.{async_call};
 ghost use Rattle.ckpt_machine.specs.Tables.{places_set};
 
 use call_dispatch::{AsyncCall, EndedCall, Pending};
-use ckpt_types::{AisError, AsyncKind, CallId, Callback, DISPATCH_ALL, DISPATCH_ONE, Given, Op};
+use ckpt_types::{
+    AisError, AsyncKind, CallId, Callback, DISPATCH_ALL, DISPATCH_ONE, Elements, Given, Op,
+};
 use client_handles::{Client, HandleView};
 use std::alloc::{AllocError, Global};
 
@@ -40,8 +42,22 @@ pub(crate) fn async_call(call: CallId, op: &Op, handle: &Option<HandleView>) -> 
     }
 }
 
-/// The callbacks of calls that have ended.
-pub(crate) fn callbacks_of(alloc: Global, ended: &[EndedCall]) -> Result<Vec<Callback>, AllocError>
+/// The callbacks of calls that have ended; one alone takes no memory.
+pub(crate) fn callbacks_of(
+    alloc: Global,
+    ended: &[EndedCall],
+) -> Result<Elements<Callback>, AllocError>
+    requires { length ended.now < 2 ^ 32 }
+    ensures { IfOk result (λ callbacks. callbacks ≡ map callback_of ended.now) }
+{
+    if let [only] = ended {
+        return Ok(Elements::one(only.callback()));
+    }
+    Ok(Elements::from_vec(each_callback(alloc, ended)?))
+}
+
+// The callback of each.
+fn each_callback(alloc: Global, ended: &[EndedCall]) -> Result<Vec<Callback>, AllocError>
     ensures { IfOk result (λ callbacks. callbacks.items ≡ map callback_of ended.now) }
 {
     let mut callbacks = Vec::with_capacity(alloc, ended.len())?;

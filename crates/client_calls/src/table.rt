@@ -16,7 +16,7 @@ ghost use Rattle.client_calls.specs.TableState.{with_room, with_client, begun_wi
 use crate::kept_calls::{async_call, callbacks_of, dispatch, given_of_none};
 use call_dispatch::Pending;
 use ckpt_types::{
-    AisError, Answer, CallId, Callback, CallbackSet, CkptId, Given, HANDLES_MAX, Op, OpenFlags,
+    AisError, Answer, CallId, Callback, CallbackSet, CkptId, Elements, Given, HANDLES_MAX, Op, OpenFlags,
     Outcome,
 };
 use client_handles::{Client, HandleView};
@@ -136,13 +136,17 @@ impl Table {
     }
 
     /// The callbacks of the calls that have ended first, so many.
-    pub fn callbacks_given(&self, alloc: Global, count: usize) -> Result<Vec<Callback>, AllocError>
+    pub fn callbacks_given(
+        &self,
+        alloc: Global,
+        count: u32,
+    ) -> Result<Elements<Callback>, AllocError>
         requires { count ≤ length self.now.pending.finished }
-        ensures { IfOk result (λ callbacks. callbacks.items ≡ map callback_of (take count self.now.pending.finished)) }
+        ensures { IfOk result (λ callbacks. callbacks ≡ map callback_of (take count self.now.pending.finished)) }
     {
         match &self.pending {
-            None => Ok(Vec::new(alloc)),
-            Some(pending) => callbacks_of(alloc, &pending.finished()[..count]),
+            None => Ok(Elements::from_vec(Vec::new(alloc))),
+            Some(pending) => callbacks_of(alloc, &pending.finished()[..count as usize]),
         }
     }
 

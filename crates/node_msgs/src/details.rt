@@ -1,5 +1,5 @@
 //! What is told beside the outcome of a call.
-use ckpt_types::{Apart, Callback, CheckpointDescriptor, Pieces, SectionDescriptor, Vector};
+use ckpt_types::{Apart, Callback, CheckpointDescriptor, Elements, Pieces, SectionDescriptor};
 
 /// The details of an answer, which are told beside the outcome of the call. Most come beside the reply that ends it.
 #[derive(Drop)]
@@ -13,5 +13,5 @@ pub enum Details {
     /// The status of a checkpoint.
     Status(Apart<CheckpointDescriptor>),
     /// The callbacks that a dispatch gives, in the order in which their calls ended.
-    Callbacks(Apart<Vector<Callback>>),
+    Callbacks(Apart<Elements<Callback>>),
 }

@@ -1,8 +1,8 @@
 //! Labels at work: each kind is printed, a dispatch's callbacks behind its own line, and a log keeps them in order.
 use ckpt_types::{
     ActorName, AisError, Answer, Apart, AsyncKind, Bytes, CallId, Callback, Cause,
-    CheckpointDescriptor, CreationAttributes, Given, NEVER, Op, Outcome, Pieces, ReadBuf,
-    SectionDescriptor, SectionId, SectionState, Vector, Who,
+    CheckpointDescriptor, CreationAttributes, Elements, Given, NEVER, Op, Outcome, Pieces, ReadBuf,
+    SectionDescriptor, SectionId, SectionState, Who,
 };
 use node_msgs::{Details, StepReply, Verb};
 use run_labels::{
@@ -99,7 +99,7 @@ fn dispatched(alloc: Global) -> Result<Label, AllocError> {
         call: C0_5,
         op: Op::Dispatch(2),
         end: Some(Outcome::Done(given)),
-        details: Details::Callbacks(Apart::new(alloc, Vector::from_vec(callbacks))?),
+        details: Details::Callbacks(Apart::new(alloc, Elements::from_vec(callbacks))?),
     })
 }
 

@@ -25,7 +25,7 @@ ghost use Rattle.world_core.specs.Happenings.{Adds, BringsUp, Begins};
 
 use crate::hands::Hands;
 use crate::world::World;
-use ckpt_types::{ActorName, Answer, Apart, CallId, Op, Outcome, Vector};
+use ckpt_types::{ActorName, Answer, Apart, CallId, Op, Outcome};
 use client_calls::{begin_end, begin_hand, rooms_of, said, take_place, take_room};
 use client_handles::HandleView;
 use cluster_record::Record;
@@ -218,11 +218,11 @@ impl World {
     {
         let table = self.tables.get(c);
         let count = match table.given(flags) {
-            Ok(given) => given.given as usize,
+            Ok(given) => given.given,
             Err(_) => 0,
         };
         let callbacks = table.callbacks_given(alloc, count)?;
-        Ok(Details::Callbacks(Apart::new(alloc, Vector::from_vec(callbacks))?))
+        Ok(Details::Callbacks(Apart::new(alloc, callbacks)?))
     }
 }
 

@@ -1,7 +1,7 @@
 use Rattle.std.proofs.Common.{◌++◌, ◌∷◌, [], arith, map, sym, ap, ◌∙◌}
 use Rattle.std.proofs.lemmas.List.{map-append, take_all, take_more}
 use Rattle.call_dispatch.specs.PendingCalls.{callback_of}
-use Rattle.client_calls.proofs.kept_calls.callbacks_of.Goals as goal
+use Rattle.client_calls.proofs.kept_calls.each_callback.Goals as goal
 
 pub loop-call-preserved : goal.loop-call-preserved
 loop-call-preserved c = record {
