@@ -65,9 +65,11 @@ IsToHave (Some e) r = (is_all e.attributes ≡ true) ⊎ (e.active ≡ Some r)
 
 -- each complete replica of the checkpoint has the update by the call; where updates go to the active alone, the active's
 abbrev pub IsOnItsReplicas : Machine → ℕ → CallId → Update → Type 0
-IsOnItsReplicas m k call update = (r : ℕ) (x : ReplicaState) → m.replicas k r ≡ Some x → IsToHave (entry_of k m.cluster.entries) r → HasUpdate call update x.effects
+IsOnItsReplicas m k call update =
+    (r : ℕ) (x : ReplicaState) → m.replicas k r ≡ Some x → IsToHave (entry_of k m.cluster.entries) r → HasUpdate call update x.effects
 
--- the call began in the log with an update, of the checkpoint that the label behind the log names, and this update is on the replicas of that checkpoint on which it has to be
+-- the call began in the log with an update, of the checkpoint that the label behind the log names, and this update is on the replicas of that checkpoint
+-- on which it has to be
 pub record IsAcknowledged (log : List Label) (l : Label) (call : CallId) (m : Machine) : Type 0 where
   pub op : Op
   pub asks : IsUpdateWord (word_of_op op)
@@ -78,6 +80,9 @@ pub record IsAcknowledged (log : List Label) (l : Label) (call : CallId) (m : Ma
   pub named : ckpt_named l ≡ Some ckpt
   pub on_its : IsOnItsReplicas m ckpt call (update_of op)
 
--- WHAT WAS ANSWERED OK STAYS: after any label that answers OK to a call that asks for an update, and at every time from then on, each complete replica of its checkpoint has the update, or where updates go to the active alone, the active's
+-- WHAT WAS ANSWERED OK STAYS: after any label that answers OK to a call that asks for an update, and at every time from then on, each complete replica
+-- of its checkpoint has the update, or where updates go to the active alone, the active's
 abbrev pub AcknowledgedStay : List Label → Type 0
-AcknowledgedStay log = (front more back : List Label) (l : Label) (call : CallId) → log ≡ front ++ l ∷ (more ++ back) → Acknowledges l call → IsAcknowledged front l call (last (front ++ l ∷ more))
+AcknowledgedStay log =
+    (front more back : List Label) (l : Label) (call : CallId) → log ≡ front ++ l ∷ (more ++ back) → Acknowledges l call
+    → IsAcknowledged front l call (last (front ++ l ∷ more))

@@ -1,4 +1,5 @@
--- Which steps at a checkpoint's active the machine allows, with their answers and causes: updates, reads, synchronisations, the setting of an active, status and iterations.
+-- Which steps at a checkpoint's active the machine allows, with their answers and causes: updates, reads, synchronisations, the setting of an active,
+-- status and iterations.
 use Rattle.std.specs.List.{list_any}
 use Rattle.std.specs.Prelude.{◌≡◌, ℕ, ◌+◌, List, [], ◌∷◌, length, Option, Some, None, IsSome, IsSomeAnd, Ok, Err, IsOk, Bool, true, false, ◌==◌, ◌&&◌, ◌||◌, if◌then◌else◌}
 use Rattle.ckpt_types.specs.declared.ais_error.AisError.TheVariants as errors
@@ -88,12 +89,14 @@ pub record AreMarksOf (call : CallId) (update : Update) (left : Bool) (marks : M
 
 -- an element is done: the call's own marks stand, with one that is left; it goes on
 abbrev pub ElementRow : Machine → CallId → Update → ℕ → ℕ → Told → StepReply → Type 0
-ElementRow m call update k r t words.Ok = OnActive m update true k r (λ e x. IsSomeAnd x.marks (AreMarksOf call update true)) × (t.end ≡ None) × (t.details ≡ beside.Nothing)
+ElementRow m call update k r t words.Ok =
+    OnActive m update true k r (λ e x. IsSomeAnd x.marks (AreMarksOf call update true)) × (t.end ≡ None) × (t.details ≡ beside.Nothing)
 ElementRow m call update k r t reply = ⊥
 
 -- a weak write has been done: the call's own marks stand, with no element left; it is answered OK
 abbrev pub UnmarkRow : Machine → CallId → Update → ℕ → ℕ → Told → StepReply → Type 0
-UnmarkRow m call update k r t words.Ok = OnActive m update true k r (λ e x. IsSomeAnd x.marks (AreMarksOf call update false)) × (t.end ≡ Some (Done answers.Nothing)) × (t.details ≡ beside.Nothing)
+UnmarkRow m call update k r t words.Ok =
+    OnActive m update true k r (λ e x. IsSomeAnd x.marks (AreMarksOf call update false)) × (t.end ≡ Some (Done answers.Nothing)) × (t.details ≡ beside.Nothing)
 UnmarkRow m call update k r t reply = ⊥
 
 -- ---- reads, on the active
@@ -102,8 +105,12 @@ UnmarkRow m call update k r t reply = ⊥
 abbrev pub ReadRow : Machine → List ReadElement → ℕ → ℕ → Told → Type 0
 ReadRow m elements k r t = OnReplica m k r (λ e x. (e.active ≡ Some r) × ReadAnswer m elements x t.reply) where
   ReadAnswer : Machine → List ReadElement → ReplicaState → StepReply → Type 0
-  ReadAnswer m elements x words.Ok = (pieces : List (List ℕ)) × (read elements m.cluster.moment x.sections ≡ Ok pieces) × (t.details ≡ beside.Pieces pieces) × (t.end ≡ Some (Done answers.Pieces))
-  ReadAnswer m elements x words.Refused = (why : Refusal) × (read elements m.cluster.moment x.sections ≡ Err why) × (t.details ≡ beside.Nothing) × (t.end ≡ Some (Refused why.error (Index why.index)))
+  ReadAnswer m elements x words.Ok =
+      (pieces : List (List ℕ)) × (read elements m.cluster.moment x.sections ≡ Ok pieces) × (t.details ≡ beside.Pieces pieces)
+      × (t.end ≡ Some (Done answers.Pieces))
+  ReadAnswer m elements x words.Refused =
+      (why : Refusal) × (read elements m.cluster.moment x.sections ≡ Err why) × (t.details ≡ beside.Nothing)
+      × (t.end ≡ Some (Refused why.error (Index why.index)))
   ReadAnswer m elements x reply = ⊥
 
 -- ---- synchronisations: what the active has is brought to the other replicas

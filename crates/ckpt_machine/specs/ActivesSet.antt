@@ -53,7 +53,8 @@ pub record HadNoOther (m : Machine) (k r : ℕ) (effects : List Effect) : Type 0
   pub there : m.replicas k r ≡ Some replica
   pub effects_are : effects ≡ replica.effects
 
--- behind the log and this label: the call began in the log with such an operation on the checkpoint, which is there, collocated, held by no call, and led by the node of the call's client, which is live
+-- behind the log and this label: the call began in the log with such an operation on the checkpoint, which is there, collocated, held by no call, and
+-- led by the node of the call's client, which is live
 pub record IsActiveSet (log : List Label) (l : Label) (call : CallId) : Type 0 where
   pub op : Op
   pub word : word_of_op op ≡ opwords.Active
@@ -75,7 +76,8 @@ pub record IsActiveSet (log : List Label) (l : Label) (call : CallId) : Type 0 w
   -- it has just the effects that the active had when the call held the checkpoint; or else those that it had, where no other node was the active
   pub from : HasHeld log call ckpt replica.effects ⊎ HadNoOther (last log) ckpt node replica.effects
   -- and whenever the call held a checkpoint, it was this one, whose active had these effects
-  pub held : (before behind : List Label) (hold : Label) (k r : ℕ) → log ≡ before ++ hold ∷ behind → IsHoldOf hold call k r → (k ≡ ckpt) × WasActiveWith (last before) k r replica.effects
+  pub held : (before behind : List Label) (hold : Label) (k r : ℕ) → log ≡ before ++ hold ∷ behind → IsHoldOf hold call k r
+      → (k ≡ ckpt) × WasActiveWith (last before) k r replica.effects
 
 -- WHAT THE SETTING OF AN ACTIVE LEAVES: behind each label that answers OK to one
 abbrev pub ActivesAreSet : List Label → Type 0

@@ -289,7 +289,8 @@ without_making (Some k) m = record_step (undone k) m
 
 -- what a step changes, the call's own steps aside
 abbrev pub changed : Machine → CallState → Verb → Option ℕ → Option ℕ → StepReply → Machine
-changed m s verbs.Enter k r reply = on_ok reply m (at_some r m (λ r. with_tables_done s verbs.Enter k (record_step (entered (client_of s.call) r s.call.number) m)))
+changed m s verbs.Enter k r reply =
+    on_ok reply m (at_some r m (λ r. with_tables_done s verbs.Enter k (record_step (entered (client_of s.call) r s.call.number) m)))
 changed m s verbs.Leave k r reply = on_ok reply m (without_calls s.call.actor (with_tables_done s verbs.Leave k (record_step (departed (client_of s.call)) m)))
 changed m s verbs.Create k r reply = on_ok reply m (record_step (created_for s.call (asked s.op)) m)
 changed m s verbs.Reserve k r reply = on_ok reply m (on_replica k r m (λ k r. with_reservation k r m))
@@ -299,11 +300,17 @@ changed m s verbs.Open k r reply = on_ok reply m (at_some k m (λ k. with_given 
 changed m s verbs.Close k r reply = on_ok reply m (at_some k m (λ k. with_closed s (record_step (closed k (client_of s.call)) m)))
 changed m s verbs.Unlink k r reply = on_ok reply m (at_some k m (λ k. record_step (unlinked k) m))
 changed m s verbs.Retain k r reply = on_ok reply m (at_some k m (λ k. record_step (retained_for (asked s.op) k) m))
-changed m s verbs.Stage k r reply = on_ok reply m (on_replica k r m (λ k r. change_replica m k r (m.replicas k r) (with_slot s.call (update_of s.op) (staged_moment m k))))
-changed m s verbs.Commit k r reply = on_ok reply m (on_replica k r m (λ k r. change_replica m k r (m.replicas k r) (with_committed (entry_of k m.cluster.entries))))
-changed m s verbs.Apply k r reply = on_ok reply m (on_replica k r m (λ k r. change_replica m k r (m.replicas k r) (with_applied s.call (update_of s.op) m.cluster.moment (entry_of k m.cluster.entries))))
-changed m s verbs.Mark k r reply = on_ok reply m (on_replica k r m (λ k r. change_replica m k r (m.replicas k r) (with_marks s.call (update_of s.op) m.cluster.moment)))
-changed m s verbs.Element k r reply = on_ok reply m (on_replica k r m (λ k r. change_replica m k r (m.replicas k r) (with_next_element (entry_of k m.cluster.entries))))
+changed m s verbs.Stage k r reply =
+    on_ok reply m (on_replica k r m (λ k r. change_replica m k r (m.replicas k r) (with_slot s.call (update_of s.op) (staged_moment m k))))
+changed m s verbs.Commit k r reply =
+    on_ok reply m (on_replica k r m (λ k r. change_replica m k r (m.replicas k r) (with_committed (entry_of k m.cluster.entries))))
+changed m s verbs.Apply k r reply =
+    on_ok reply m (on_replica k r m
+        (λ k r. change_replica m k r (m.replicas k r) (with_applied s.call (update_of s.op) m.cluster.moment (entry_of k m.cluster.entries))))
+changed m s verbs.Mark k r reply =
+    on_ok reply m (on_replica k r m (λ k r. change_replica m k r (m.replicas k r) (with_marks s.call (update_of s.op) m.cluster.moment)))
+changed m s verbs.Element k r reply =
+    on_ok reply m (on_replica k r m (λ k r. change_replica m k r (m.replicas k r) (with_next_element (entry_of k m.cluster.entries))))
 changed m s verbs.Unmark k r reply = on_ok reply m (on_replica k r m (λ k r. change_replica m k r (m.replicas k r) without_marks))
 changed m s verbs.Install k r reply = on_ok reply m (on_replica k r m (λ k r. change_replica m k r (m.replicas k r) (with_installed s.snapshot)))
 changed m s verbs.Iter k r reply = on_ok reply m (on_replica k r m (λ k r. with_started s k r m))
@@ -336,7 +343,8 @@ pulled_by m s verbs.Pull (Some k) (Some r) words.Ok = option_map copied (m.repli
 pulled_by m s verbs.Hold (Some k) (Some r) words.Ok = option_map copied (m.replicas k r)
 pulled_by m s verb k r reply = s.snapshot
 
--- what a call keeps behind a step of what the state before it had: the count that was told, what was created, and what was pulled; the record is as it is after the step
+-- what a call keeps behind a step of what the state before it had: the count that was told, what was created, and what was pulled; the record is as it
+-- is after the step
 abbrev pub kept_behind : Machine → CallState → RecordState → Verb → Option ℕ → Option ℕ → StepReply → CallState
 kept_behind m s R verb k r reply = record s {
   steps = counting (counted_at m verb k r reply) (done_of R verb k r reply) ∷ s.steps;
@@ -395,9 +403,11 @@ kind_of op = kinds.Sync
 abbrev pub async_call : CallId → Op → Option HandleView → AsyncCall
 async_call call op h = record { call = call; kind = kind_of op; invocation = invocation_of op; handle = number_of_handle h }
 
--- what a beginning that is answered OK makes of the calls that are not dispatched: an asynchronous call is one of them, and a dispatch takes those away that it gives
+-- what a beginning that is answered OK makes of the calls that are not dispatched: an asynchronous call is one of them, and a dispatch takes those away
+-- that it gives
 abbrev pub pending_begun : Option Outcome → CallId → Op → Option HandleView → PendingCalls → PendingCalls
-pending_begun (Some (Done answer)) call (ops.OpenAsync place invocation name flags a) h p = with_begun (async_call call (ops.OpenAsync place invocation name flags a) h) p
+pending_begun (Some (Done answer)) call (ops.OpenAsync place invocation name flags a) h p =
+    with_begun (async_call call (ops.OpenAsync place invocation name flags a) h) p
 pending_begun (Some (Done answer)) call (ops.SyncAsync place invocation) h p = with_begun (async_call call (ops.SyncAsync place invocation) h) p
 pending_begun (Some (Done answer)) call (ops.Dispatch flags) h p = dispatched (given_number flags p) p
 pending_begun end call op h p = p
@@ -407,7 +417,9 @@ abbrev pub begun_call : Machine → CallId → Op → Option Outcome → Machine
 begun_call m call op end = record m {
   next = put_actor m.next call.actor (m.next call.actor + 1);
   pending = put_actor m.pending call.actor (pending_begun end call op (asked_handle m call.actor op) (m.pending call.actor));
-  in_hand = put_who m.in_hand (stepped_as call (word_of_op op)) (call_begun end call op (kept_at_beginning m.cluster (number_of call.actor) (asked_handle m call.actor op)));
+  in_hand =
+      put_who m.in_hand (stepped_as call (word_of_op op))
+      (call_begun end call op (kept_at_beginning m.cluster (number_of call.actor) (asked_handle m call.actor op)));
 }
 
 -- a call has begun, and has ended an iteration where it ends one, and set the places of the opens whose callbacks it gives

@@ -31,7 +31,8 @@ pub record OneUpdate : Type 0 where
 
 -- a replica with a slot is of it, and has what is under it; one without has that too, or all of those have what is after it
 abbrev pub IsOfOne : OneUpdate → Bool → ReplicaState → Option Staged → Type 0
-IsOfOne one done y (Some slot) = (slot.origin ≡ one.origin) × (slot.update ≡ one.update) × (slot.moment ≡ one.moment) × (y.sections ≡ one.sections) × (y.effects ≡ one.effects)
+IsOfOne one done y (Some slot) =
+    (slot.origin ≡ one.origin) × (slot.update ≡ one.update) × (slot.moment ≡ one.moment) × (y.sections ≡ one.sections) × (y.effects ≡ one.effects)
 IsOfOne one true y None = (y.sections ≡ one.outcome) × (y.effects ≡ one.effects ++ Applied one.origin one.update one.moment ∷ [])
 IsOfOne one false y None = (y.sections ≡ one.sections) × (y.effects ≡ one.effects)
 
@@ -44,7 +45,8 @@ pub record AreOfOne (m : Machine) (k : ℕ) (a : CreationAttributes) : Type 0 wh
 
 -- of every checkpoint that is made, whose updates are on all replicas: no complete replica has a slot, and all are equal; or all slots are of one update
 abbrev pub AllOrNone : Machine → Type 0
-AllOrNone m = (k : ℕ) (e : Entry) → entry_of k m.cluster.entries ≡ Some e → e.making ≡ None → is_all e.attributes ≡ true → AreEqual m k ⊎ AreOfOne m k e.attributes
+AllOrNone m =
+    (k : ℕ) (e : Entry) → entry_of k m.cluster.entries ≡ Some e → e.making ≡ None → is_all e.attributes ≡ true → AreEqual m k ⊎ AreOfOne m k e.attributes
 
 -- AT EVERY TIME OF A RUN: it is so after each front of the log
 abbrev pub IsAllOrNoneThroughout : List Label → Type 0

@@ -1,4 +1,5 @@
--- What the machine allows a call to answer at its beginning: each answer with its cause, where none before it applies; and the words that may stand in place of a call or a step.
+-- What the machine allows a call to answer at its beginning: each answer with its cause, where none before it applies; and the words that may stand in
+-- place of a call or a step.
 use Rattle.std.specs.Prelude.{◌≡◌, ℕ, ◌<◌, ◌≤◌, length, Option, Some, None, is_none, IsSome, Bool, true, false, not, ◌&&◌, ◌||◌, pos, int_lt}
 use Rattle.ckpt_types.specs.declared.ais_error.AisError.{AisError}
 use Rattle.ckpt_types.specs.declared.ais_error.AisError.TheVariants as errors
@@ -134,10 +135,17 @@ abbrev pub BeginRefused : Standing → Ask → AisError → Type 0
 BeginRefused st ask errors.Version = has_bad_version ask ≡ true
 BeginRefused st ask errors.BadHandle = (has_bad_version ask ≡ false) × (has_bad_handle st.live st.handle ask ≡ true)
 BeginRefused st ask errors.Init = (has_bad_version ask ≡ false) × (has_bad_handle st.live st.handle ask ≡ false) × (lacks_callback st.callbacks ask ≡ true)
-BeginRefused st ask errors.BadFlags = (has_bad_version ask ≡ false) × (has_bad_handle st.live st.handle ask ≡ false) × (lacks_callback st.callbacks ask ≡ false) × (has_bad_flags ask ≡ true)
-BeginRefused st ask errors.InvalidParam = (has_bad_version ask ≡ false) × (has_bad_handle st.live st.handle ask ≡ false) × (lacks_callback st.callbacks ask ≡ false) × (has_bad_flags ask ≡ false) × (has_bad_arguments ask ≡ true)
-BeginRefused st ask errors.Access = (has_bad_version ask ≡ false) × (has_bad_handle st.live st.handle ask ≡ false) × (lacks_callback st.callbacks ask ≡ false) × (has_bad_flags ask ≡ false) × (has_bad_arguments ask ≡ false) × (lacks_access st.handle ask ≡ true)
-BeginRefused st ask errors.BadOperation = (has_bad_version ask ≡ false) × (has_bad_handle st.live st.handle ask ≡ false) × (lacks_callback st.callbacks ask ≡ false) × (has_bad_flags ask ≡ false) × (has_bad_arguments ask ≡ false) × (lacks_access st.handle ask ≡ false) × (has_bad_operation st.handle ask ≡ true)
+BeginRefused st ask errors.BadFlags =
+    (has_bad_version ask ≡ false) × (has_bad_handle st.live st.handle ask ≡ false) × (lacks_callback st.callbacks ask ≡ false) × (has_bad_flags ask ≡ true)
+BeginRefused st ask errors.InvalidParam =
+    (has_bad_version ask ≡ false) × (has_bad_handle st.live st.handle ask ≡ false) × (lacks_callback st.callbacks ask ≡ false) × (has_bad_flags ask ≡ false)
+    × (has_bad_arguments ask ≡ true)
+BeginRefused st ask errors.Access =
+    (has_bad_version ask ≡ false) × (has_bad_handle st.live st.handle ask ≡ false) × (lacks_callback st.callbacks ask ≡ false) × (has_bad_flags ask ≡ false)
+    × (has_bad_arguments ask ≡ false) × (lacks_access st.handle ask ≡ true)
+BeginRefused st ask errors.BadOperation =
+    (has_bad_version ask ≡ false) × (has_bad_handle st.live st.handle ask ≡ false) × (lacks_callback st.callbacks ask ≡ false) × (has_bad_flags ask ≡ false)
+    × (has_bad_arguments ask ≡ false) × (lacks_access st.handle ask ≡ false) × (has_bad_operation st.handle ask ≡ true)
 BeginRefused st ask error = ⊥
 
 -- no refusal applies that says all

@@ -23,7 +23,8 @@ use Rattle.client_handles.specs.declared.handle_view.HandleView.{HandleView}
 use Rattle.ckpt_types.specs.Asks.{Ask, is_async_ask, takes_room}
 use Rattle.ckpt_types.specs.Asks as asks
 
--- what a beginning looks at: whether its client is live, the handle of its place, the callbacks that its client has registered, and its asynchronous calls that are not dispatched
+-- what a beginning looks at: whether its client is live, the handle of its place, the callbacks that its client has registered, and its asynchronous
+-- calls that are not dispatched
 pub record Standing : Type 0 where
   pub live : Bool
   pub handle : Option HandleView

@@ -156,7 +156,8 @@ takes_memory events.Open = true
 takes_memory events.Create = true
 takes_memory step = false
 
--- what a call keeps of the tables and of the record at its beginning: the checkpoint of its handle, the room for the identifiers that this one declares, whether its updates are on all replicas, whether its writes are weak, what it declares, the client's node, and the moment
+-- what a call keeps of the tables and of the record at its beginning: the checkpoint of its handle, the room for the identifiers that this one declares,
+-- whether its updates are on all replicas, whether its writes are weak, what it declares, the client's node, and the moment
 pub record Kept : Type 0 where
   pub ckpt : Option ℕ
   pub room : Room
@@ -199,10 +200,13 @@ abbrev pub change_start : CallId → Bool → ActiveKind → Option ℕ → Opti
 change_start call true kind ckpt = update_start call ckpt
 change_start call false kind ckpt = active_start call kind ckpt
 
--- what drives a call that goes on behind its beginning, or by itself; nothing drives a call on no checkpoint, or one that ends at its beginning, or is not built
+-- what drives a call that goes on behind its beginning, or by itself; nothing drives a call on no checkpoint, or one that ends at its beginning, or is
+-- not built
 abbrev pub driver_start : CallId → Ask → Kept → Option Driver
 driver_start call (asks.Enter r version callbacks) kept = Some (drivers.Once (Enter r))
-driver_start call (asks.Open place name flags timeout a) kept = Some (drivers.Open (open_begun call (record { name = name; attrs = a; client = client_of call; node = kept.node }) (option_map (sum_until_end kept.moment) timeout)))
+driver_start call (asks.Open place name flags timeout a) kept =
+    Some (drivers.Open (open_begun call (record { name = name; attrs = a; client = client_of call; node = kept.node })
+        (option_map (sum_until_end kept.moment) timeout)))
 driver_start call (asks.Change place update) kept = change_start call kept.all (kind_of_change kept.weak update) kept.ckpt
 driver_start call (asks.Read place elements) kept = active_start call kinds.Read kept.ckpt
 driver_start call (asks.Status place) kept = active_start call kinds.Status kept.ckpt

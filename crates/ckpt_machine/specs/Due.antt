@@ -139,7 +139,8 @@ pub record IsServed (m : Machine) (s : CallState) (r : ℕ) (request : Request) 
 -- what the record refuses ends its call so; any other step is done, or what takes memory is refused it and ends
 abbrev pub IsRecordAnswer : Option Outcome → RecordStep → Told → Type 0
 IsRecordAnswer (Some end) step t = (t.reply ≡ words.Refused) × (t.end ≡ Some end)
-IsRecordAnswer None step t = ((t.reply ≡ words.Ok) × (t.end ≡ event_end step t.ckpt)) ⊎ (IsTrue (takes_memory step) × (t.reply ≡ words.Memory) × (t.end ≡ Some NoMemory))
+IsRecordAnswer None step t =
+    ((t.reply ≡ words.Ok) × (t.end ≡ event_end step t.ckpt)) ⊎ (IsTrue (takes_memory step) × (t.reply ≡ words.Memory) × (t.end ≡ Some NoMemory))
 
 -- the marks on a replica that is there
 abbrev pub marks_on : Option ReplicaState → Option Marked
@@ -186,7 +187,12 @@ asked_handle m a op = handle_asked (asked op) (m.tables a)
 
 -- what a beginning of an actor looks at
 abbrev pub standing_of : Machine → ActorName → Op → Standing
-standing_of m a op = record { live = is_live_client (number_of a) m.cluster; handle = asked_handle m a op; callbacks = (m.tables a).callbacks; pending = m.pending a }
+standing_of m a op = record {
+  live = is_live_client (number_of a) m.cluster;
+  handle = asked_handle m a op;
+  callbacks = (m.tables a).callbacks;
+  pending = m.pending a;
+}
 
 -- the room for all identifiers that a checkpoint declares; none for a checkpoint that is gone
 abbrev pub room_in : Option CreationAttributes → Room
@@ -210,7 +216,15 @@ declared_at R (Some k) = declared_in (entry_of k R.entries)
 
 -- what a call keeps at its beginning
 abbrev pub kept_at_beginning : RecordState → ℕ → Option HandleView → Kept
-kept_at_beginning R c h = record { ckpt = ckpt_of_handle h; room = room_at R (ckpt_of_handle h); all = declares_at is_all R (ckpt_of_handle h); weak = declares_at is_weak R (ckpt_of_handle h); declares = declared_at R (ckpt_of_handle h); node = home_of c R; moment = R.moment }
+kept_at_beginning R c h = record {
+  ckpt = ckpt_of_handle h;
+  room = room_at R (ckpt_of_handle h);
+  all = declares_at is_all R (ckpt_of_handle h);
+  weak = declares_at is_weak R (ckpt_of_handle h);
+  declares = declared_at R (ckpt_of_handle h);
+  node = home_of c R;
+  moment = R.moment;
+}
 
 -- an Initialize begins for a client that is not live, on a node that is up
 abbrev pub MayBegin : RecordState → ℕ → Ask → Type 0
@@ -241,7 +255,8 @@ pub record IsBegun (m : Machine) (call : CallId) (op : Op) (end : Option Outcome
 -- the label is due in this state; what is not built is not due
 abbrev pub IsDue : Machine → Label → Type 0
 IsDue m (labels.Began call op end details) = IsBegun m call op end details
-IsDue m (labels.Stepped call op verb k r reply end details) = IsDueStep m call op (record { verb = verb; ckpt = k; node = r; reply = reply; end = end; details = details })
+IsDue m (labels.Stepped call op verb k r reply end details) =
+    IsDueStep m call op (record { verb = verb; ckpt = k; node = r; reply = reply; end = end; details = details })
 IsDue m (labels.Word who word said) = IsWord m who word said
 IsDue m (labels.Nodes n) = (0 < n) × (n ≤ nodes_max) × (m.cluster.last_incarnations ≡ no_nodes)
 IsDue m (labels.Moved t) = IsMomentFrom m.cluster.moment t

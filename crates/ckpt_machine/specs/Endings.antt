@@ -20,7 +20,8 @@ may_lack_memory opwords.SyncAsync = true
 may_lack_memory opwords.Copy = true
 may_lack_memory word = false
 
--- a call of this word may end so: answered OK, refused with a cause, or without the memory that it takes; without failures no call is abandoned, and BUSY and a step astray end none
+-- a call of this word may end so: answered OK, refused with a cause, or without the memory that it takes; without failures no call is abandoned, and
+-- BUSY and a step astray end none
 abbrev pub IsEndOf : OpWord → Outcome → Type 0
 IsEndOf word (Done answer) = Unit {0}
 IsEndOf word (Refused error cause) = Unit {0}

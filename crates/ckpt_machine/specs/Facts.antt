@@ -61,7 +61,8 @@ HasNoSlot x = x.slot ≡ None
 
 -- every node on which a client's checkpoint is to be made has reserved under its present incarnation
 abbrev pub AllReserved : Machine → ℕ → ℕ → Entry → Type 0
-AllReserved m c k e = (r : ℕ) → (slice_index (targets e.attributes (home_of c m.cluster) m.cluster.up) r == 0) ≡ false → m.reserved k r ≡ Some (slice_index m.cluster.up r)
+AllReserved m c k e =
+    (r : ℕ) → (slice_index (targets e.attributes (home_of c m.cluster) m.cluster.up) r == 0) ≡ false → m.reserved k r ≡ Some (slice_index m.cluster.up r)
 
 -- and no other node has
 abbrev pub NoneReservedElse : Machine → ℕ → ℕ → Entry → Type 0
@@ -70,7 +71,9 @@ NoneReservedElse m c k e = (r : ℕ) → (slice_index (targets e.attributes (hom
 -- a making of a client can be finished
 abbrev pub IsFinishable : Machine → ℕ → Option Making → Type 0
 IsFinishable m c None = ⊥
-IsFinishable m c (Some making) = IsSomeAnd (entry_of making.ckpt m.cluster.entries) (λ e. AllReserved m c making.ckpt e × NoneReservedElse m c making.ckpt e × (e.generation ≡ 1) × ((r : ℕ) → slice_index e.complete r ≡ 0))
+IsFinishable m c (Some making) =
+    IsSomeAnd (entry_of making.ckpt m.cluster.entries) (λ e. AllReserved m c making.ckpt e × NoneReservedElse m c making.ckpt e × (e.generation ≡ 1)
+        × ((r : ℕ) → slice_index e.complete r ≡ 0))
 
 -- an open of a client can add a replica of a checkpoint: the entry has each node, the client's is up, and has nothing reserved for it
 pub record IsAddable (m : Machine) (c : ℕ) (e : Entry) : Type 0 where
@@ -117,12 +120,20 @@ IsEventReady m s (drivers.Once once.Leave) events.Leave = Unit {0}
 IsEventReady m s (drivers.Once (once.Close k)) events.Close = Unit {0}
 IsEventReady m s (drivers.Once (once.Unlink name)) events.Unlink = IsSomeAnd (named name m.cluster.entries) (λ e. e.making ≡ None)
 IsEventReady m s (drivers.Once (once.Retain k duration)) events.Retain = IsSomeAnd (entry_of k m.cluster.entries) (λ e. IsSome e.name) × (pos 0 ≤ℤ duration)
-IsEventReady m s (drivers.Open o) events.Create = (length m.cluster.entries < checkpoints_max) × IsSomeAnd o.ask.attrs (λ a. Unit {0}) × (named o.ask.name m.cluster.entries ≡ None) × CanOpen o.ask m.cluster × IsClient s.call.actor
-IsEventReady m s (drivers.Open o) events.Open = IsSomeAnd (named o.ask.name m.cluster.entries) (FitsOpen m o.ask) × CanOpen o.ask m.cluster × IsClient s.call.actor × IsSomeAnd (named o.ask.name m.cluster.entries) (HasLiveMaker m.cluster)
+IsEventReady m s (drivers.Open o) events.Create =
+    (length m.cluster.entries < checkpoints_max) × IsSomeAnd o.ask.attrs (λ a. Unit {0}) × (named o.ask.name m.cluster.entries ≡ None) × CanOpen o.ask m.cluster
+    × IsClient s.call.actor
+IsEventReady m s (drivers.Open o) events.Open =
+    IsSomeAnd (named o.ask.name m.cluster.entries) (FitsOpen m o.ask) × CanOpen o.ask m.cluster × IsClient s.call.actor
+    × IsSomeAnd (named o.ask.name m.cluster.entries) (HasLiveMaker m.cluster)
 IsEventReady m s (drivers.Open o) events.Finish = IsFinishable m o.ask.client o.making × IsMakingOf m.cluster o.ask.client (making_ckpt o.making)
 IsEventReady m s (drivers.Open o) events.Undo = IsSomeAnd o.making (λ making. Unit {0}) × IsMakingOf m.cluster o.ask.client (making_ckpt o.making)
-IsEventReady m s (drivers.Sync u) (events.Hold r) = (r < nodes_max) × IsSome (m.replicas u.ckpt r) × HasCopyRoom m s u.ckpt × IsSomeAnd (entry_of u.ckpt m.cluster.entries) (λ e. e.hold ≡ None) × IsHoldable m s u r
-IsEventReady m s (drivers.Sync u) (events.Activate r) = (r < nodes_max) × HasCopyRoom m s u.ckpt × IsSomeAnd (entry_of u.ckpt m.cluster.entries) (λ e. IsLeadable m s u.ckpt r e) × IsSomeAnd (entry_of u.ckpt m.cluster.entries) (λ e. can_lead r e ≡ true)
+IsEventReady m s (drivers.Sync u) (events.Hold r) =
+    (r < nodes_max) × IsSome (m.replicas u.ckpt r) × HasCopyRoom m s u.ckpt × IsSomeAnd (entry_of u.ckpt m.cluster.entries) (λ e. e.hold ≡ None)
+    × IsHoldable m s u r
+IsEventReady m s (drivers.Sync u) (events.Activate r) =
+    (r < nodes_max) × HasCopyRoom m s u.ckpt × IsSomeAnd (entry_of u.ckpt m.cluster.entries) (λ e. IsLeadable m s u.ckpt r e)
+    × IsSomeAnd (entry_of u.ckpt m.cluster.entries) (λ e. can_lead r e ≡ true)
 IsEventReady m s driver step = ⊥
 
 -- a call to the active alone
@@ -164,16 +175,21 @@ pub record Facts (m : Machine) : Type 0 where
   pub up_to : AllUpTo m.cluster.last_identity m.cluster.entries
   -- no checkpoint is there that is over
   pub stay : AllStay m.cluster.moment m.cluster.entries
-  pub ready : (w : Who) (s : CallState) (r : ℕ) (request : Request) → m.in_hand w ≡ Some s → due m s ≡ Serve r request → (r < nodes_max) × IsServable m r request
+  pub ready : (w : Who) (s : CallState) (r : ℕ) (request : Request) → m.in_hand w ≡ Some s → due m s ≡ Serve r request
+      → (r < nodes_max) × IsServable m r request
   -- a due stage has the moment of the slots that stand
-  pub moments : (w : Who) (s : CallState) (r : ℕ) (call : CallId) (k : ℕ) (t : ℤ) → m.in_hand w ≡ Some s → due m s ≡ Serve r (requests.Stage call k t) → IsSomeAnd (m.replicas k r) HasNoSlot → staged_moment m k ≡ t
+  pub moments : (w : Who) (s : CallState) (r : ℕ) (call : CallId) (k : ℕ) (t : ℤ) → m.in_hand w ≡ Some s → due m s ≡ Serve r (requests.Stage call k t)
+      → IsSomeAnd (m.replicas k r) HasNoSlot → staged_moment m k ≡ t
   -- a due commit is of the call's own update
-  pub commits : (w : Who) (s : CallState) (r : ℕ) (call : CallId) (k : ℕ) → m.in_hand w ≡ Some s → due m s ≡ Serve r (requests.Commit call k) → IsSomeAnd (m.replicas k r) (λ x. IsSomeAnd x.slot (λ slot. slot.update ≡ update_of s.op))
+  pub commits : (w : Who) (s : CallState) (r : ℕ) (call : CallId) (k : ℕ) → m.in_hand w ≡ Some s → due m s ≡ Serve r (requests.Commit call k)
+      → IsSomeAnd (m.replicas k r) (λ x. IsSomeAnd x.slot (λ slot. slot.update ≡ update_of s.op))
   -- a weak write that is due to begin is a write
-  pub marks : (w : Who) (s : CallState) (r : ℕ) (call : CallId) (k : ℕ) → m.in_hand w ≡ Some s → due m s ≡ Serve r (requests.Mark call k) → IsWrite (update_of s.op)
+  pub marks : (w : Who) (s : CallState) (r : ℕ) (call : CallId) (k : ℕ) → m.in_hand w ≡ Some s → due m s ≡ Serve r (requests.Mark call k)
+      → IsWrite (update_of s.op)
   pub events : (w : Who) (s : CallState) (step : RecordStep) → m.in_hand w ≡ Some s → due m s ≡ Event step → IsEventReady m s (driver_of s) step
   -- an open that is making something finds room for its handle, and its client is live
-  pub opens : (w : Who) (s : CallState) (o : OpenState) → m.in_hand w ≡ Some s → driver_of s ≡ drivers.Open o → (IsSome o.making → has_handle_room (m.tables s.call.actor) ≡ true) × (is_live_client (client_of s.call) m.cluster ≡ true)
+  pub opens : (w : Who) (s : CallState) (o : OpenState) → m.in_hand w ≡ Some s → driver_of s ≡ drivers.Open o
+      → (IsSome o.making → has_handle_room (m.tables s.call.actor) ≡ true) × (is_live_client (client_of s.call) m.cluster ≡ true)
   -- what a call is making by its own steps is what is in the making by it
   pub makes : (w : Who) (s : CallState) → m.in_hand w ≡ Some s → making_of s.call m.cluster ≡ making_in (driver_of s)
   -- a complete node has its replica
@@ -182,6 +198,8 @@ pub record Facts (m : Machine) : Type 0 where
   pub puts : (k r : ℕ) (x : ReplicaState) → target_at m k r ≡ Some x → (x.slot ≡ None) × (x.marks ≡ None)
   -- a due pull has room for what it copies, and a due installation has in hand what was pulled
   pub pulls : (w : Who) (s : CallState) (r : ℕ) (call : CallId) (k : ℕ) → m.in_hand w ≡ Some s → due m s ≡ Serve r (requests.Pull call k) → HasCopyRoom m s k
-  pub installs : (w : Who) (s : CallState) (r : ℕ) (call : CallId) (k : ℕ) → m.in_hand w ≡ Some s → due m s ≡ Serve r (requests.Install call k) → HasCopyRoom m s k × IsSome s.snapshot
-  pub starts : (w : Who) (s : CallState) (r : ℕ) (call : CallId) (k : ℕ) (choice : Choice) → m.in_hand w ≡ Some s → due m s ≡ Serve r (requests.Iterate call k choice) → IsStarting m s k choice
+  pub installs : (w : Who) (s : CallState) (r : ℕ) (call : CallId) (k : ℕ) → m.in_hand w ≡ Some s → due m s ≡ Serve r (requests.Install call k)
+      → HasCopyRoom m s k × IsSome s.snapshot
+  pub starts : (w : Who) (s : CallState) (r : ℕ) (call : CallId) (k : ℕ) (choice : Choice) → m.in_hand w ≡ Some s
+      → due m s ≡ Serve r (requests.Iterate call k choice) → IsStarting m s k choice
   pub goes_on : (w : Who) (s : CallState) (r : ℕ) (call : CallId) (k : ℕ) → m.in_hand w ≡ Some s → due m s ≡ Serve r (requests.Next call k) → IsGoingOn m s

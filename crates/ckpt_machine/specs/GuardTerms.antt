@@ -56,4 +56,6 @@ OnAll m k r P = OnReplica m k r (λ e x. (is_all e.attributes ≡ true) × P e x
 
 -- its updates are on the active alone, which this node has, no call holds it, and there this update is done element by element, or at once
 abbrev pub OnActive : Machine → Update → Bool → ℕ → ℕ → (Entry → ReplicaState → Type 0) → Type 0
-OnActive m update by_element k r P = OnReplica m k r (λ e x. (is_all e.attributes ≡ false) × (e.active ≡ Some r) × (e.hold ≡ None) × (is_by_element (is_weak e.attributes) update ≡ by_element) × P e x)
+OnActive m update by_element k r P =
+    OnReplica m k r (λ e x. (is_all e.attributes ≡ false) × (e.active ≡ Some r) × (e.hold ≡ None) × (is_by_element (is_weak e.attributes) update ≡ by_element)
+        × P e x)

@@ -67,7 +67,10 @@ AsksChange s P = (place : ℕ) × (update : Update) × (asked s.op ≡ asks.Chan
 
 -- THE ROWS: a verb, what the call asks for, and when its step is allowed, with which reply, end and details
 abbrev pub Row : Machine → CallState → Verb → Told → Type 0
-Row m s verbs.Enter t = AtNodeAlone t.ckpt t.node (λ r. (version : Version) × (callbacks : CallbackSet) × (asked s.op ≡ asks.Enter r version callbacks) × EnterRow m (client_of s.call) r t.reply t.end) × (t.details ≡ beside.Nothing)
+Row m s verbs.Enter t =
+    AtNodeAlone t.ckpt t.node (λ r. (version : Version) × (callbacks : CallbackSet) × (asked s.op ≡ asks.Enter r version callbacks)
+        × EnterRow m (client_of s.call) r t.reply t.end)
+    × (t.details ≡ beside.Nothing)
 Row m s verbs.Open t = AtCkpt t.ckpt t.node (λ k. AsksOpen s (λ name a. OpenRow m s name a k t.reply t.end)) × (t.details ≡ beside.Nothing)
 Row m s verbs.Create t = AtCkpt t.ckpt t.node (λ k. AsksOpen s (λ name a. CreateRow m s name a k t.reply t.end)) × (t.details ≡ beside.Nothing)
 Row m s verbs.Reserve t = AtNode t.ckpt t.node (λ k r. AsksOpen s (λ name a. ReserveRow m s k r t.reply t.end)) × (t.details ≡ beside.Nothing)
@@ -79,18 +82,31 @@ Row m s verbs.Apply t = AtNode t.ckpt t.node (λ k r. AsksChange s (λ update. A
 Row m s verbs.Mark t = AtNode t.ckpt t.node (λ k r. AsksChange s (λ update. MarkRow m s update k r t t.reply))
 Row m s verbs.Element t = AtNode t.ckpt t.node (λ k r. AsksChange s (λ update. ElementRow m s.call update k r t t.reply))
 Row m s verbs.Unmark t = AtNode t.ckpt t.node (λ k r. AsksChange s (λ update. UnmarkRow m s.call update k r t t.reply))
-Row m s verbs.Read t = AtNode t.ckpt t.node (λ k r. (place : ℕ) × (elements : List ReadElement) × (asked s.op ≡ asks.Read place elements) × ReadRow m elements k r t)
+Row m s verbs.Read t =
+    AtNode t.ckpt t.node (λ k r. (place : ℕ) × (elements : List ReadElement) × (asked s.op ≡ asks.Read place elements) × ReadRow m elements k r t)
 Row m s verbs.Status t = AtNode t.ckpt t.node (λ k r. (place : ℕ) × (asked s.op ≡ asks.Status place) × StatusRow m k r t.reply t.end t.details)
-Row m s verbs.Iter t = AtNode t.ckpt t.node (λ k r. (iteration place chosen : ℕ) × (time : ℤ) × (asked s.op ≡ asks.Iterate iteration place chosen time) × IterRow m s k r t.reply t.end) × (t.details ≡ beside.Nothing)
+Row m s verbs.Iter t =
+    AtNode t.ckpt t.node (λ k r. (iteration place chosen : ℕ) × (time : ℤ) × (asked s.op ≡ asks.Iterate iteration place chosen time)
+        × IterRow m s k r t.reply t.end)
+    × (t.details ≡ beside.Nothing)
 Row m s verbs.Next t = AtNode t.ckpt t.node (λ k r. (iteration : ℕ) × (asked s.op ≡ asks.Next iteration) × NextRow m s k r t)
-Row m s verbs.Pull t = AtNode t.ckpt t.node (λ k r. (place : ℕ) × (timeout : Option ℤ) × (asked s.op ≡ asks.Synchronize place timeout) × PullRow m s k r t t.reply) × (t.details ≡ beside.Nothing)
-Row m s verbs.Install t = AtNode t.ckpt t.node (λ k r. (place : ℕ) × (timeout : Option ℤ) × (asked s.op ≡ asks.Synchronize place timeout) × InstallRow m s k r t t.reply) × (t.details ≡ beside.Nothing)
-Row m s verbs.Hold t = AtNode t.ckpt t.node (λ k r. (place : ℕ) × (asked s.op ≡ asks.SetActive place) × HoldRow m s k r t t.reply) × (t.details ≡ beside.Nothing)
-Row m s verbs.Activate t = AtNode t.ckpt t.node (λ k r. (place : ℕ) × (asked s.op ≡ asks.SetActive place) × ActivateRow m s k r t.reply t.end) × (t.details ≡ beside.Nothing)
+Row m s verbs.Pull t =
+    AtNode t.ckpt t.node (λ k r. (place : ℕ) × (timeout : Option ℤ) × (asked s.op ≡ asks.Synchronize place timeout) × PullRow m s k r t t.reply)
+    × (t.details ≡ beside.Nothing)
+Row m s verbs.Install t =
+    AtNode t.ckpt t.node (λ k r. (place : ℕ) × (timeout : Option ℤ) × (asked s.op ≡ asks.Synchronize place timeout) × InstallRow m s k r t t.reply)
+    × (t.details ≡ beside.Nothing)
+Row m s verbs.Hold t =
+    AtNode t.ckpt t.node (λ k r. (place : ℕ) × (asked s.op ≡ asks.SetActive place) × HoldRow m s k r t t.reply) × (t.details ≡ beside.Nothing)
+Row m s verbs.Activate t =
+    AtNode t.ckpt t.node (λ k r. (place : ℕ) × (asked s.op ≡ asks.SetActive place) × ActivateRow m s k r t.reply t.end) × (t.details ≡ beside.Nothing)
 Row m s verbs.Leave t = AtNone t.ckpt t.node ((asked s.op ≡ asks.Leave) × LeaveRow m (client_of s.call) t.reply t.end) × (t.details ≡ beside.Nothing)
 Row m s verbs.Close t = AtCkpt t.ckpt t.node (λ k. (place : ℕ) × (asked s.op ≡ asks.Close place) × CloseRow m s k t.reply t.end) × (t.details ≡ beside.Nothing)
-Row m s verbs.Unlink t = AtCkpt t.ckpt t.node (λ k. (name : List ℕ) × (asked s.op ≡ asks.Unlink name) × UnlinkRow m name k t.reply t.end) × (t.details ≡ beside.Nothing)
-Row m s verbs.Retain t = AtCkpt t.ckpt t.node (λ k. (place : ℕ) × (duration : ℤ) × (asked s.op ≡ asks.Retain place duration) × RetainRow m s k t.reply t.end) × (t.details ≡ beside.Nothing)
+Row m s verbs.Unlink t =
+    AtCkpt t.ckpt t.node (λ k. (name : List ℕ) × (asked s.op ≡ asks.Unlink name) × UnlinkRow m name k t.reply t.end) × (t.details ≡ beside.Nothing)
+Row m s verbs.Retain t =
+    AtCkpt t.ckpt t.node (λ k. (place : ℕ) × (duration : ℤ) × (asked s.op ≡ asks.Retain place duration) × RetainRow m s k t.reply t.end)
+    × (t.details ≡ beside.Nothing)
 Row m s verbs.Look t = (t.ckpt ≡ None) × (t.node ≡ None) × LookRow m s t.reply t.end × (t.details ≡ beside.Nothing)
 Row m s verb t = ⊥
 
@@ -124,7 +140,8 @@ pub record IsAllowedStep (m : Machine) (call : CallId) (op : OpWord) (t : Told) 
 -- from m the machine allows this label; a label whose row is not built is not allowed
 abbrev pub Allowed : Machine → Label → Type 0
 Allowed m (labels.Began call op end details) = IsAllowedBegin m call op end details
-Allowed m (labels.Stepped call op verb k r reply end details) = IsAllowedStep m call op (record { verb = verb; ckpt = k; node = r; reply = reply; end = end; details = details })
+Allowed m (labels.Stepped call op verb k r reply end details) =
+    IsAllowedStep m call op (record { verb = verb; ckpt = k; node = r; reply = reply; end = end; details = details })
 Allowed m (labels.Word who word said) = IsAllowedWord m who word said
 Allowed m (labels.Nodes n) = (0 < n) × (n ≤ nodes_max) × (m.cluster.last_incarnations ≡ no_nodes)
 Allowed m (labels.Moved t) = IsMomentFrom m.cluster.moment t

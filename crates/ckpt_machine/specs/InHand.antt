@@ -89,10 +89,12 @@ pub record IsMakingIn (m : Machine) (s : CallState) (making : Making) : Type 0 w
   pub there : IsSomeAnd (entry_of making.ckpt m.cluster.entries) (λ e. e.making ≡ Some s.call)
   pub declares : IsSomeAnd (entry_of making.ckpt m.cluster.entries) (λ e. attributes_asked (asked s.op) ≡ Some e.attributes)
   pub nodes : length making.reserved ≡ nodes_max
-  pub reserved : (r : ℕ) → has (slice_index m.cluster.up r) (slice_index making.reserved r) ≡ true → m.reserved making.ckpt r ≡ Some (slice_index m.cluster.up r)
+  pub reserved : (r : ℕ) → has (slice_index m.cluster.up r) (slice_index making.reserved r) ≡ true
+      → m.reserved making.ckpt r ≡ Some (slice_index m.cluster.up r)
   -- no other node has, and each that has is one on which it is made
   pub only : (r : ℕ) → (slice_index making.reserved r == 0) ≡ true → m.reserved making.ckpt r ≡ None
-  pub within : (r : ℕ) → IsSome (m.reserved making.ckpt r) → (slice_index (targets_by (attributes_asked (asked s.op)) (home_of (client_of s.call) m.cluster) m.cluster.up) r == 0) ≡ false
+  pub within : (r : ℕ) → IsSome (m.reserved making.ckpt r)
+      → (slice_index (targets_by (attributes_asked (asked s.op)) (home_of (client_of s.call) m.cluster) m.cluster.up) r == 0) ≡ false
 
 -- an open asks what its operation does, for its client, on a node that is up; and what it makes is there
 pub record IsOpenIn (m : Machine) (s : CallState) (o : OpenState) : Type 0 where
@@ -193,7 +195,8 @@ pulled_as s = record { generation = s.generation; count = length s.effects }
 abbrev pub HasServedActive : List Bool → Snapshot → Entry → Type 0
 HasServedActive served pulled e = pulled.generation ≡ e.generation → IsSomeAnd e.active (λ r. slice_get served r ≡ Some true)
 
--- a synchronisation is of a checkpoint that was made, whose updates go to the active alone; it keeps of its pull what is in its hand, of no later generation, and which nodes its steps have served, and then the active is one of them
+-- a synchronisation is of a checkpoint that was made, whose updates go to the active alone; it keeps of its pull what is in its hand, of no later
+-- generation, and which nodes its steps have served, and then the active is one of them
 pub record IsSynchronizeIn (m : Machine) (s : CallState) (u : SyncState) : Type 0 where
   pub call : u.call ≡ s.call
   pub place : ℕ
@@ -216,7 +219,8 @@ abbrev pub is_held_by : CallId → Option CallId → Bool
 is_held_by call None = false
 is_held_by call (Some holder) = same_call holder call
 
--- the setting of the client's node as the active is of a checkpoint that was made, is collocated, and complete there; it has something in its hand just where it holds the checkpoint
+-- the setting of the client's node as the active is of a checkpoint that was made, is collocated, and complete there; it has something in its hand just
+-- where it holds the checkpoint
 pub record IsSettingIn (m : Machine) (s : CallState) (u : SyncState) (local : ℕ) : Type 0 where
   pub call : u.call ≡ s.call
   pub place : ℕ
@@ -275,7 +279,8 @@ IsInPlaceUnder failures m shapes s (drivers.Sync u) = IsSyncBy m s u u.kind
 abbrev pub IsInPlace : Machine → (ℕ → Shape) → CallState → Driver → Type 0
 IsInPlace m shapes s driver = IsInPlaceUnder false m shapes s driver
 
--- a call in hand is so under its own name; it is a client's, its number was given, it is built, what it asks for drives it, each but an Initialize is live, and it is where its steps have led it
+-- a call in hand is so under its own name; it is a client's, its number was given, it is built, what it asks for drives it, each but an Initialize is
+-- live, and it is where its steps have led it
 pub record IsInHandUnder (failures : Bool) (m : Machine) (shapes : ℕ → Shape) (w : Who) (s : CallState) : Type 0 where
   pub whose : who s ≡ w
   pub client : IsClient s.call.actor

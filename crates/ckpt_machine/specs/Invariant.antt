@@ -54,7 +54,8 @@ IsGoodIn m k sh e making = IsGoodUnder false m k sh e making
 abbrev pub IsGoodClient : (ActorName → ℕ) → RecordState → ℕ → LiveClient → Type 0
 IsGoodClient next R c live = (live.initialize < next (Client c)) × (is_up live.node R ≡ true)
 
--- a handle is of a client that is live, and of a checkpoint that was made, with the creation flags that this has; a collocated one is complete on the client's node
+-- a handle is of a client that is live, and of a checkpoint that was made, with the creation flags that this has; a collocated one is complete on the
+-- client's node
 pub record IsGoodHandle (R : RecordState) (a : ActorName) (h : HandleView) : Type 0 where
   pub client : IsClient a
   pub live : is_live_client (number_of a) R ≡ true
@@ -86,11 +87,13 @@ pub record IsKeptOf (s : CallState) (c : AsyncCall) : Type 0 where
   pub kind : c.kind ≡ kind_of s.op
   pub invocation : c.invocation ≡ invocation_of s.op
 
--- no call is in hand under two names; what is not dispatched of an actor are calls of its own, with numbers that it has given; and each asynchronous call that is in hand is one of them, under way
+-- no call is in hand under two names; what is not dispatched of an actor are calls of its own, with numbers that it has given; and each asynchronous
+-- call that is in hand is one of them, under way
 pub record AreCalls (in_hand : Who → Option CallState) (pending : ActorName → PendingCalls) (next : ActorName → ℕ) : Type 0 where
   pub one_name : (w v : Who) (s t : CallState) → in_hand w ≡ Some s → in_hand v ≡ Some t → s.call ≡ t.call → w ≡ v
   pub begun : (a : ActorName) (c : AsyncCall) → Contains (calls_of (pending a)) c → IsBegunBy next a c
-  pub kept : (w : Who) (s : CallState) → in_hand w ≡ Some s → is_async (word_of_op s.op) ≡ true → IsSomeAnd (find_async s.call (pending s.call.actor).unfinished) (IsKeptOf s)
+  pub kept : (w : Who) (s : CallState) → in_hand w ≡ Some s → is_async (word_of_op s.op) ≡ true
+      → IsSomeAnd (find_async s.call (pending s.call.actor).unfinished) (IsKeptOf s)
 
 -- a client has no more handles than it may have, with one for each checkpoint that it is making
 abbrev pub HasPlaces : (ActorName → ClientState) → List Entry → Type 0

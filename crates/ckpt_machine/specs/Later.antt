@@ -1,4 +1,5 @@
--- A step of the record that takes entries away, and changes in the others nothing but names, references, retentions, last closes, and the nodes of collocated ones.
+-- A step of the record that takes entries away, and changes in the others nothing but names, references, retentions, last closes, and the nodes of
+-- collocated ones.
 use Rattle.std.specs.Prelude.{◌≡◌, ℕ, List, [], length, Option, Some, IsSome, IfSome, Contains, true, false}
 use Rattle.ckpt_types.specs.declared.identities.ActorName.{ActorName}
 use Rattle.ckpt_types.specs.declared.identities.CallId.{CallId}
@@ -49,12 +50,16 @@ pub record IsLaterRecord (m : Machine) (R : RecordState) (hands : Who → Option
   pub dead : (d : CallId) → IsDead m d → is_live R d ≡ false
   -- live as they were, and with what they are making
   pub live : (w : Who) (z : CallState) → hands w ≡ Some z → is_live m.cluster z.call ≡ true → is_live R z.call ≡ true
-  pub lives : (w : Who) (z : CallState) → hands w ≡ Some z → find_key client_key (client_of z.call) R.clients ≡ find_key client_key (client_of z.call) m.cluster.clients
-  pub makes : (w : Who) (z : CallState) (k : ℕ) (e : Entry) → hands w ≡ Some z → entry_of k m.cluster.entries ≡ Some e → e.making ≡ Some z.call → IsSome (entry_of k R.entries)
+  pub lives : (w : Who) (z : CallState) → hands w ≡ Some z
+      → find_key client_key (client_of z.call) R.clients ≡ find_key client_key (client_of z.call) m.cluster.clients
+  pub makes : (w : Who) (z : CallState) (k : ℕ) (e : Entry) → hands w ≡ Some z → entry_of k m.cluster.entries ≡ Some e → e.making ≡ Some z.call
+      → IsSome (entry_of k R.entries)
   -- who has a handle is on the node where its client was
-  pub homes : (a : ActorName) (h : HandleView) → Contains (m.tables a).handles h → find_key client_key (number_of a) R.clients ≡ find_key client_key (number_of a) m.cluster.clients
+  pub homes : (a : ActorName) (h : HandleView) → Contains (m.tables a).handles h
+      → find_key client_key (number_of a) R.clients ≡ find_key client_key (number_of a) m.cluster.clients
   -- those who own slots, have marks, hold or are making what is left, are left
   pub owners : (k : ℕ) (sh : Shape) (call : CallId) (at : IsOwner m k sh call) → hands (who at.state) ≡ m.in_hand (who at.state)
   pub markers : (k : ℕ) (marks : Marked) → IsSome (entry_of k R.entries) → (at : IsMarker m k marks) → hands (who at.state) ≡ m.in_hand (who at.state)
-  pub holders : (k : ℕ) (active : Option ℕ) (call : CallId) → IsSome (entry_of k R.entries) → (at : IsHolder m k active call) → hands (who at.state) ≡ m.in_hand (who at.state)
+  pub holders : (k : ℕ) (active : Option ℕ) (call : CallId) → IsSome (entry_of k R.entries) → (at : IsHolder m k active call)
+      → hands (who at.state) ≡ m.in_hand (who at.state)
   pub makers : (k : ℕ) (call : CallId) → IsSome (entry_of k R.entries) → (at : IsMaker m k call) → hands (who at.state) ≡ m.in_hand (who at.state)

@@ -48,12 +48,17 @@ CountsUp = (m : Machine) (l : Label) (n : ℕ) → Invariant m → IsDue m l →
 
 -- a due step that does not end its call brings it nearer to its end
 abbrev pub BringsNearer : Type 0
-BringsNearer = (m : Machine) (call : CallId) (op : OpWord) (verb : Verb) (k r : Option ℕ) (reply : StepReply) (details : Details) (s : CallState) → Invariant m → IsDue m (labels.Stepped call op verb k r reply None details) → m.in_hand (stepped_as call op) ≡ Some s
-    → let R = (after m (labels.Stepped call op verb k r reply None details)).cluster in steps_left R (driver_taken (counting (counted_at m verb k r reply) (done_of R verb k r reply)) (driver_of s)) < steps_left m.cluster (driver_of s)
+BringsNearer =
+    (m : Machine) (call : CallId) (op : OpWord) (verb : Verb) (k r : Option ℕ) (reply : StepReply) (details : Details) (s : CallState) → Invariant m
+    → IsDue m (labels.Stepped call op verb k r reply None details) → m.in_hand (stepped_as call op) ≡ Some s
+    → let R = (after m (labels.Stepped call op verb k r reply None details)).cluster in
+      steps_left R (driver_taken (counting (counted_at m verb k r reply) (done_of R verb k r reply)) (driver_of s)) < steps_left m.cluster (driver_of s)
 
 -- of a call in hand at least one step is left, and at most 66
 abbrev pub StepsAreFew : Type 0
-StepsAreFew = (m : Machine) (w : Who) (s : CallState) → Invariant m → m.in_hand w ≡ Some s → (1 ≤ steps_left m.cluster (driver_of s)) × (steps_left m.cluster (driver_of s) ≤ 66)
+StepsAreFew =
+    (m : Machine) (w : Who) (s : CallState) → Invariant m → m.in_hand w ≡ Some s
+    → (1 ≤ steps_left m.cluster (driver_of s)) × (steps_left m.cluster (driver_of s) ≤ 66)
 
 -- what is allowed and ends a call with a refusal leaves all as it was, but that its call has ended, and what it was making is undone
 abbrev pub RefusalsLeave : Type 0

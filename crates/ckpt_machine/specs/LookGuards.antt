@@ -51,10 +51,12 @@ pub record IsFull (m : Machine) (s : CallState) (name : List ℕ) (a : Option Cr
   pub full : checkpoints_max ≤ length m.cluster.entries
   pub limit : n ≡ checkpoints_max
 
--- the refusals of an open that the record and the tables decide, each where none before it applies: NOT_EXIST, TIMEOUT, EXIST, NO_RESOURCES; between TIMEOUT and EXIST comes TRY_AGAIN, which a step of the record answers
+-- the refusals of an open that the record and the tables decide, each where none before it applies: NOT_EXIST, TIMEOUT, EXIST, NO_RESOURCES; between
+-- TIMEOUT and EXIST comes TRY_AGAIN, which a step of the record answers
 abbrev pub OpenLook : Machine → CallState → List ℕ → Option CreationAttributes → AisError → Cause → Type 0
 OpenLook m s name a errors.NotExist Plain = (named name m.cluster.entries ≡ None) × (a ≡ None)
-OpenLook m s name a errors.Timeout (Deadline deadline moment) = MayExist (named name m.cluster.entries) a × (deadline_of s ≡ Some deadline) × (moment ≡ m.cluster.moment) × (is_reached deadline moment ≡ true)
+OpenLook m s name a errors.Timeout (Deadline deadline moment) =
+    MayExist (named name m.cluster.entries) a × (deadline_of s ≡ Some deadline) × (moment ≡ m.cluster.moment) × (is_reached deadline moment ≡ true)
 OpenLook m s name a errors.Exist Plain = IsInTime m s × IsSomeAnd (named name m.cluster.entries) (λ e. (e.making ≡ None) × (accepts a e ≡ false))
 OpenLook m s name a errors.NoResources (Count n) = IsInTime m s × (HasNoPlace m s name a n ⊎ IsFull m s name a n)
 OpenLook m s name a error cause = ⊥
@@ -81,13 +83,15 @@ NoActiveLook m k error cause = ⊥
 
 -- there is no active, or the client has as many iterations as it may have
 abbrev pub IterLook : Machine → CallState → AisError → Cause → Type 0
-IterLook m s errors.NoResources (Count n) = IsSomeAnd s.kept.ckpt (λ k. IsSomeAnd (entry_of k m.cluster.entries) (λ e. IsSome e.active)) × ((rooms_of m s).iterations ≡ false) × (n ≡ iterations_max)
+IterLook m s errors.NoResources (Count n) =
+    IsSomeAnd s.kept.ckpt (λ k. IsSomeAnd (entry_of k m.cluster.entries) (λ e. IsSome e.active)) × ((rooms_of m s).iterations ≡ false) × (n ≡ iterations_max)
 IterLook m s error cause = NoActiveLook m s.kept.ckpt error cause
 
 -- no checkpoint has the name, or another live call is making it
 abbrev pub UnlinkLook : Machine → CallState → List ℕ → AisError → Cause → Type 0
 UnlinkLook m s name errors.NotExist Plain = named name m.cluster.entries ≡ None
-UnlinkLook m s name errors.TryAgain (Holder by) = IsSomeAnd (named name m.cluster.entries) (λ e. e.making ≡ Some by) × (is_live m.cluster by ≡ true) × (same_call by s.call ≡ false)
+UnlinkLook m s name errors.TryAgain (Holder by) =
+    IsSomeAnd (named name m.cluster.entries) (λ e. e.making ≡ Some by) × (is_live m.cluster by ≡ true) × (same_call by s.call ≡ false)
 UnlinkLook m s name error cause = ⊥
 
 -- the handle's entry is gone, or unlinked
@@ -102,13 +106,17 @@ OnLed m (Some k) P = IsSomeAnd (entry_of k m.cluster.entries) (λ e. IsSome e.ac
 
 -- there is no active; or the deadline is reached; or the generation is another than that of what was pulled
 abbrev pub SyncLook : Machine → CallState → AisError → Cause → Type 0
-SyncLook m s errors.Timeout (Deadline deadline moment) = OnLed m s.kept.ckpt (λ e. Unit {0}) × (deadline_of s ≡ Some deadline) × (moment ≡ m.cluster.moment) × (is_reached deadline moment ≡ true)
-SyncLook m s errors.TryAgain (Generations old present) = OnLed m s.kept.ckpt (λ e. e.generation ≡ present) × IsInTime m s × IsSomeAnd s.snapshot (λ pulled. pulled.generation ≡ old) × ((old == present) ≡ false)
+SyncLook m s errors.Timeout (Deadline deadline moment) =
+    OnLed m s.kept.ckpt (λ e. Unit {0}) × (deadline_of s ≡ Some deadline) × (moment ≡ m.cluster.moment) × (is_reached deadline moment ≡ true)
+SyncLook m s errors.TryAgain (Generations old present) =
+    OnLed m s.kept.ckpt (λ e. e.generation ≡ present) × IsInTime m s × IsSomeAnd s.snapshot (λ pulled. pulled.generation ≡ old) × ((old == present) ≡ false)
 SyncLook m s error cause = NoActiveLook m s.kept.ckpt error cause
 
 -- the checkpoint that the call keeps is held by another call, which is live
 abbrev pub OnHeldBy : Machine → CallState → CallId → (Entry → Type 0) → Type 0
-OnHeldBy m s by P = IsSomeAnd s.kept.ckpt (λ k. IsSomeAnd (entry_of k m.cluster.entries) (λ e. (e.hold ≡ Some by) × P e)) × (is_live m.cluster by ≡ true) × (same_call by s.call ≡ false)
+OnHeldBy m s by P =
+    IsSomeAnd s.kept.ckpt (λ k. IsSomeAnd (entry_of k m.cluster.entries) (λ e. (e.hold ≡ Some by) × P e)) × (is_live m.cluster by ≡ true)
+    × (same_call by s.call ≡ false)
 
 -- an update of the active alone: there is no active; or another call holds the checkpoint
 abbrev pub ActiveLook : Machine → CallState → AisError → Cause → Type 0

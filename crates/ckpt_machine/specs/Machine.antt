@@ -27,7 +27,8 @@ pub record Staged : Type 0 where
   pub update : Update
   pub moment : ℤ
 
--- the replica of a checkpoint on a complete node; its count of updates is the number of its effects, and its marks are those of the weak write that is under way on it
+-- the replica of a checkpoint on a complete node; its count of updates is the number of its effects, and its marks are those of the weak write that is
+-- under way on it
 pub record ReplicaState : Type 0 where
   pub sections : List Section
   pub effects : List Effect
@@ -41,7 +42,8 @@ pub record Snapshot : Type 0 where
   pub effects : List Effect
   pub generation : ℕ
 
--- a call that is begun and not ended: what it kept at its beginning, what drove it then, its steps, the newest first, the identifier of the section that its commits have made, and the snapshot in its hand
+-- a call that is begun and not ended: what it kept at its beginning, what drove it then, its steps, the newest first, the identifier of the section that
+-- its commits have made, and the snapshot in its hand
 pub record CallState : Type 0 where
   pub call : CallId
   pub op : Op

@@ -57,17 +57,21 @@ CreateRow m s name a k reply end = ⊥
 
 -- what the call is making is to be made on this node
 abbrev pub IsTarget : Machine → CallState → ℕ → ℕ → Type 0
-IsTarget m s k r = IsSomeAnd (entry_of k m.cluster.entries) (λ e. (slice_index (targets e.attributes (home_of (client_of s.call) m.cluster) m.cluster.up) r == 0) ≡ false)
+IsTarget m s k r =
+    IsSomeAnd (entry_of k m.cluster.entries) (λ e. (slice_index (targets e.attributes (home_of (client_of s.call) m.cluster) m.cluster.up) r == 0) ≡ false)
 
 -- a node on which it is to be made reserves for the making of the call, or is refused the memory where nothing is reserved there
 abbrev pub ReserveRow : Machine → CallState → ℕ → ℕ → StepReply → Option Outcome → Type 0
 ReserveRow m s k r words.Ok end = (is_up r m.cluster ≡ true) × IsMadeBy m s.call k × IsInTime m s × IsTarget m s k r × (end ≡ None)
-ReserveRow m s k r words.Memory end = (is_up r m.cluster ≡ true) × IsMadeBy m s.call k × IsInTime m s × IsTarget m s k r × (m.reserved k r ≡ None) × (end ≡ None)
+ReserveRow m s k r words.Memory end =
+    (is_up r m.cluster ≡ true) × IsMadeBy m s.call k × IsInTime m s × IsTarget m s k r × (m.reserved k r ≡ None) × (end ≡ None)
 ReserveRow m s k r reply end = ⊥
 
 -- every node on which it is to be made has reserved under its present incarnation
 abbrev pub FinishRow : Machine → CallState → ℕ → StepReply → Option Outcome → Type 0
-FinishRow m s k words.Ok end = IsMadeBy m s.call k × IsInTime m s × ((r : ℕ) → IsTarget m s k r → m.reserved k r ≡ Some (slice_index m.cluster.up r)) × (end ≡ Some (Done (answers.Opened k)))
+FinishRow m s k words.Ok end =
+    IsMadeBy m s.call k × IsInTime m s × ((r : ℕ) → IsTarget m s k r → m.reserved k r ≡ Some (slice_index m.cluster.up r))
+    × (end ≡ Some (Done (answers.Opened k)))
 FinishRow m s k reply end = ⊥
 
 -- what the call is making is undone

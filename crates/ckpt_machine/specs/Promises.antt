@@ -13,17 +13,20 @@ use Rattle.ckpt_machine.specs.Causes.{EachEndIsAllowed}
 
 -- the log keeps all that a run promises
 pub record KeepsPromises (log : List Label) : Type 0 where
-  -- a call that is refused, or is refused its own memory, leaves all as it was but a making of its own, which is undone; it has nothing then: no slot, no marks, no making and no hold, and no replica has an effect of it
+  -- a call that is refused, or is refused its own memory, leaves all as it was but a making of its own, which is undone; it has nothing then: no slot,
+  -- no marks, no making and no hold, and no replica has an effect of it
   pub refused : EachRefusalLeaves log
   -- after each front of the log, an update of a checkpoint that has them on all replicas is on all complete ones or on none
   pub all_or_none : IsAllOrNoneThroughout log
   -- an update that was answered OK is on each complete replica from then on, or where updates go to the active alone, on the active's
   pub acknowledged : AcknowledgedStay log
-  -- after each front, each replica is the replay of the updates that it has taken, each once; where they go to the active alone, of the active's first ones, if it follows the active
+  -- after each front, each replica is the replay of the updates that it has taken, each once; where they go to the active alone, of the active's first
+  -- ones, if it follows the active
   pub effects : EffectsTellThroughout log
   -- behind a synchronisation that was answered OK each complete replica has the checkpoint's generation, and first what the active had when it was pulled
   pub synchronized : SynchronizedTell log
-  -- only what was asked for is done: each effect of each replica, and what is staged or marked there, is of a call that began in the log with this very update, of this very checkpoint
+  -- only what was asked for is done: each effect of each replica, and what is staged or marked there, is of a call that began in the log with this very
+  -- update, of this very checkpoint
   pub asked : OnlyAskedThroughout log
   -- slots, marks, makings and holds are of calls in hand alone, so a call that has ended leaves none
   pub owners : OwnersInHandThroughout log

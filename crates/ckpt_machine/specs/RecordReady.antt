@@ -48,7 +48,8 @@ IsGranted (Refused refused) = ⊥
 -- a creation and an opening are the same call, and are answered as they were decided
 abbrev pub IsOpenReady : CallId → RecordState → OpenState → RecordStep → Type 0
 IsOpenReady call R o events.Create = CanAsk call R o.ask × (open_answer R o.ask ≡ Made (R.last_identity + 1))
-IsOpenReady call R o events.Open = CanAsk call R o.ask × ((k : ℕ) × (added : Bool) × (identity_in (named o.ask.name R.entries) ≡ Some k) × (open_answer R o.ask ≡ Opened k added))
+IsOpenReady call R o events.Open =
+    CanAsk call R o.ask × ((k : ℕ) × (added : Bool) × (identity_in (named o.ask.name R.entries) ≡ Some k) × (open_answer R o.ask ≡ Opened k added))
 IsOpenReady call R o events.Finish = IsMakingOf R o.ask.client (making_ckpt o.making)
 IsOpenReady call R o events.Undo = IsMakingOf R o.ask.client (making_ckpt o.making)
 IsOpenReady call R o step = Unit {0}

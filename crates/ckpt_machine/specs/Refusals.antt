@@ -78,15 +78,18 @@ pub record UndoesOwn (undo : ℕ → Machine → Machine) (call : CallId) (word 
 abbrev pub number_taken : CallId → Machine → Machine
 number_taken call m = record m { next = put_actor m.next call.actor (m.next call.actor + 1) }
 
--- a refusal leaves all as it was, but that its call has ended, which is kept of an asynchronous one, and its number is taken; one that the record alone decides may undo the making of its own call; and where a node had no memory for a making, it is undone
+-- a refusal leaves all as it was, but that its call has ended, which is kept of an asynchronous one, and its number is taken; one that the record alone
+-- decides may undo the making of its own call; and where a node had no memory for a making, it is undone
 abbrev pub LeavesBy : (ℕ → Machine → Machine) → Label → Machine → Machine → Type 0
 LeavesBy undo (labels.Began call op end details) m m' = LeavesAll (stepped_as call (word_of_op op)) (number_taken call m) m'
-LeavesBy undo (labels.Stepped call op verbs.Look k r reply end details) m m' = LeavesAll (stepped_as call op) (end_kept call op end m) m' ⊎ UndoesOwn undo call op end m m'
+LeavesBy undo (labels.Stepped call op verbs.Look k r reply end details) m m' =
+    LeavesAll (stepped_as call op) (end_kept call op end m) m' ⊎ UndoesOwn undo call op end m m'
 LeavesBy undo (labels.Stepped call op verbs.Undo k r reply end details) m m' = UndoesOwn undo call op end m m'
 LeavesBy undo (labels.Stepped call op verb k r reply end details) m m' = LeavesAll (stepped_as call op) (end_kept call op end m) m'
 LeavesBy undo label m m' = ⊥
 
--- A call that ends with a refusal owns no slot, no marks, no making and no hold after it, and no replica has an effect of it; and the label that refuses it leaves all else as it was.
+-- A call that ends with a refusal owns no slot, no marks, no making and no hold after it, and no replica has an effect of it; and the label that refuses
+-- it leaves all else as it was.
 pub record Refuses (l : Label) (m m' : Machine) : Type 0 where
   pub leaves : LeavesBy unmade l m m'
   pub nothing : IsSomeAnd (call_told l) (HasNothing m')

@@ -62,17 +62,20 @@ EachCallOnce (x ∷ xs) = (HasEffect (call_of_effect x) xs → ⊥) × EachCallO
 abbrev pub IsPrefix : List Effect → List Effect → Type 0
 IsPrefix xs ys = (zs : List Effect) × (ys ≡ xs ++ zs)
 
--- the replica follows the active: any of a checkpoint that is not collocated, and of a collocated one, of which another node may have been the active before, each that has its present generation
+-- the replica follows the active: any of a checkpoint that is not collocated, and of a collocated one, of which another node may have been the active
+-- before, each that has its present generation
 abbrev pub IsToFollow : Entry → ReplicaState → Type 0
 IsToFollow e x = (is_collocated e.attributes ≡ false) ⊎ (x.generation ≡ e.generation)
 
 -- ---- in a state
 
--- each complete replica is the replay of its effects; none has two of one call; and where updates go to the active alone, each that follows the active has only what this has taken first
+-- each complete replica is the replay of its effects; none has two of one call; and where updates go to the active alone, each that follows the active
+-- has only what this has taken first
 pub record EffectsTell (m : Machine) : Type 0 where
   pub replays : (k r : ℕ) (e : Entry) (x : ReplicaState) → entry_of k m.cluster.entries ≡ Some e → m.replicas k r ≡ Some x → IsReplay e x
   pub once : (k r : ℕ) (x : ReplicaState) → m.replicas k r ≡ Some x → EachCallOnce x.effects
-  pub prefix : (k q r : ℕ) (e : Entry) (x y : ReplicaState) → entry_of k m.cluster.entries ≡ Some e → is_all e.attributes ≡ false → e.active ≡ Some r → m.replicas k r ≡ Some y → m.replicas k q ≡ Some x → IsToFollow e x → IsPrefix x.effects y.effects
+  pub prefix : (k q r : ℕ) (e : Entry) (x y : ReplicaState) → entry_of k m.cluster.entries ≡ Some e → is_all e.attributes ≡ false → e.active ≡ Some r
+      → m.replicas k r ≡ Some y → m.replicas k q ≡ Some x → IsToFollow e x → IsPrefix x.effects y.effects
 
 -- AT EVERY TIME OF A RUN: it is so after each front of the log
 abbrev pub EffectsTellThroughout : List Label → Type 0

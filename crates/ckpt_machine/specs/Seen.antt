@@ -15,7 +15,15 @@ seen_slot count (Some s) = Some (record { owner = s.owner; update = s.update; mo
 
 -- a replica as its node has it, with a count in place of the effects, which do not change while a slot stands
 abbrev pub seen : ℕ → CreationAttributes → ReplicaState → Replica
-seen k a x = record { ckpt = k; attributes = a; sections = x.sections; count = length x.effects; generation = x.generation; slot = seen_slot (length x.effects) x.slot; marks = x.marks }
+seen k a x = record {
+  ckpt = k;
+  attributes = a;
+  sections = x.sections;
+  count = length x.effects;
+  generation = x.generation;
+  slot = seen_slot (length x.effects) x.slot;
+  marks = x.marks;
+}
 
 -- the replica that a node shows, of a checkpoint that is there
 abbrev pub seen_by : ℕ → Option Entry → Option ReplicaState → Option Replica

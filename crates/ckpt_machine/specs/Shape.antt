@@ -26,7 +26,8 @@ use Rattle.ckpt_machine.specs.Propagation.{on_node, copied}
 use Rattle.ckpt_machine.specs.Due.{driver_of}
 use Rattle.ckpt_machine.specs.Dead.{IsDead}
 
--- the slots by node, each with its owner; the update that is staged; the contents under it, and those after it, which the replicas without a slot have where it is done; and where updates go to the active alone, the marks that stand there
+-- the slots by node, each with its owner; the update that is staged; the contents under it, and those after it, which the replicas without a slot have
+-- where it is done; and where updates go to the active alone, the marks that stand there
 pub record Shape : Type 0 where
   pub owners : ℕ → Option CallId
   pub origin : CallId
@@ -145,7 +146,8 @@ pub record IsMarker (m : Machine) (k : ℕ) (marks : Marked) : Type 0 where
 
 -- ---- the active, and a hold
 
--- the active of a checkpoint with these complete nodes: of a collocated one any of them, or none; where updates are on all replicas, the lowest; else any of them
+-- the active of a checkpoint with these complete nodes: of a collocated one any of them, or none; where updates are on all replicas, the lowest; else
+-- any of them
 abbrev pub IsActiveBy : Bool → Bool → List ℕ → Option ℕ → Type 0
 IsActiveBy true all complete active = IfSome active (λ r. (slice_index complete r == 0) ≡ false)
 IsActiveBy false true complete active = active ≡ first_complete 0 complete
@@ -178,7 +180,9 @@ IsOnHold m k sh e call = IsOnHoldUnder false m k sh e call
 
 -- ---- the whole
 
--- a checkpoint that is made has its replicas on its complete nodes, which are up, and of which one is the active, or none of a collocated one; the slots are on the lowest of them, first those of a call in hand, and then those of dead ones; the marks on the active are of a call in hand, and so is the hold on the checkpoint
+-- a checkpoint that is made has its replicas on its complete nodes, which are up, and of which one is the active, or none of a collocated one; the slots
+-- are on the lowest of them, first those of a call in hand, and then those of dead ones; the marks on the active are of a call in hand, and so is the
+-- hold on the checkpoint
 pub record IsSpreadUnder (failures : Bool) (m : Machine) (k : ℕ) (sh : Shape) (e : Entry) : Type 0 where
   pub nodes : length e.complete ≡ nodes_max
   pub some : IsSome (first_complete 0 e.complete)

@@ -26,7 +26,8 @@ shown_slot origin (Some s) = Some (record { owner = s.owner; origin = origin; up
 -- the code keeps a count in place of the effects, and no origin
 abbrev pub shown_replica : List Effect → CallId → Option Replica → Option ReplicaState
 shown_replica effects origin None = None
-shown_replica effects origin (Some x) = Some (record { sections = x.sections; effects = effects; generation = x.generation; slot = shown_slot origin x.slot; marks = x.marks })
+shown_replica effects origin (Some x) =
+    Some (record { sections = x.sections; effects = effects; generation = x.generation; slot = shown_slot origin x.slot; marks = x.marks })
 
 -- a replica counts where its node is complete for the checkpoint
 abbrev pub where_complete : ℕ → Option Replica → Option Replica

@@ -18,7 +18,8 @@ use Rattle.ckpt_machine.specs.Machine.{Machine, Effect, ReplicaState}
 use Rattle.ckpt_machine.specs.Replays.{IsPrefix}
 use Rattle.ckpt_machine.specs.Runs.{last}
 
--- the label answers OK to this call, which asks for a synchronisation by its word, with this answer: by a step, or to one for which its client waits at its beginning
+-- the label answers OK to this call, which asks for a synchronisation by its word, with this answer: by a step, or to one for which its client waits at
+-- its beginning
 abbrev pub Synchronizes : Label → CallId → Answer → Type 0
 Synchronizes (labels.Began call (ops.Sync place timeout) (Some (Done answer)) details) d a = (call ≡ d) × (answer ≡ a)
 Synchronizes (labels.Stepped call opwords.Sync verb k r reply (Some (Done answer)) details) d a = (call ≡ d) × (answer ≡ a)
@@ -32,9 +33,12 @@ IsPullOf label d j q = ⊥
 
 -- each complete replica of the checkpoint has its generation, and these effects first
 abbrev pub HaveFirst : Machine → ℕ → List Effect → Type 0
-HaveFirst m k pulled = (e : Entry) (r : ℕ) (x : ReplicaState) → entry_of k m.cluster.entries ≡ Some e → m.replicas k r ≡ Some x → (x.generation ≡ e.generation) × IsPrefix pulled x.effects
+HaveFirst m k pulled =
+    (e : Entry) (r : ℕ) (x : ReplicaState) → entry_of k m.cluster.entries ≡ Some e → m.replicas k r ≡ Some x
+    → (x.generation ≡ e.generation) × IsPrefix pulled x.effects
 
--- the call has pulled in the log from the active, and began in front of that with an operation on this checkpoint; the answer tells how many effects the active had then; and the checkpoint is there, and each complete replica of it has these first
+-- the call has pulled in the log from the active, and began in front of that with an operation on this checkpoint; the answer tells how many effects the
+-- active had then; and the checkpoint is there, and each complete replica of it has these first
 pub record IsSynchronized (log : List Label) (call : CallId) (answer : Answer) : Type 0 where
   pub op : Op
   pub ckpt : ℕ
@@ -54,4 +58,6 @@ pub record IsSynchronized (log : List Label) (call : CallId) (answer : Answer) :
 
 -- WHAT A SYNCHRONISATION LEAVES: behind each label that answers OK to one
 abbrev pub SynchronizedTell : List Label → Type 0
-SynchronizedTell log = (front back : List Label) (l : Label) (call : CallId) (answer : Answer) → log ≡ front ++ l ∷ back → Synchronizes l call answer → IsSynchronized (front ++ l ∷ []) call answer
+SynchronizedTell log =
+    (front back : List Label) (l : Label) (call : CallId) (answer : Answer) → log ≡ front ++ l ∷ back → Synchronizes l call answer
+    → IsSynchronized (front ++ l ∷ []) call answer

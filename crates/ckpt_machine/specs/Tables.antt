@@ -82,9 +82,11 @@ abbrev pub flags_or_none : Result OpenFlags AisError → OpenFlags
 flags_or_none (Ok flags) = flags
 flags_or_none (Err error) = no_flags
 
--- an open has a handle more, of the checkpoint with these creation flags, and its place stands for it; that of an asynchronous one does not before its callback is given
+-- an open has a handle more, of the checkpoint with these creation flags, and its place stands for it; that of an asynchronous one does not before its
+-- callback is given
 abbrev pub handle_given : Ask → ℕ → ℕ → ClientState → ClientState
-handle_given (asks.Open place name flags (Some timeout) a) k creation_flags t = bound place (t.last_number + 1) (taken k (flags_or_none (open_flags_of flags)) creation_flags t)
+handle_given (asks.Open place name flags (Some timeout) a) k creation_flags t =
+    bound place (t.last_number + 1) (taken k (flags_or_none (open_flags_of flags)) creation_flags t)
 handle_given (asks.Open place name flags None a) k creation_flags t = taken k (flags_or_none (open_flags_of flags)) creation_flags t
 handle_given ask k creation_flags t = t
 
@@ -99,7 +101,8 @@ with_iteration iteration (Some h) kept t = added iteration h.handle kept t
 
 -- it starts an iteration, which keeps what its choice is given, in this room
 abbrev pub started : Ask → Room → (Choice → List (List ℕ)) → ClientState → ClientState
-started (asks.Iterate iteration place chosen time) room chosen_by t = with_iteration iteration (handle_at place t) (record { ids = chosen_by (choice_of chosen time); room = room }) t
+started (asks.Iterate iteration place chosen time) room chosen_by t =
+    with_iteration iteration (handle_at place t) (record { ids = chosen_by (choice_of chosen time); room = room }) t
 started ask room chosen_by t = t
 
 -- of what is kept, what stands behind the section that was given is kept on; all where none was

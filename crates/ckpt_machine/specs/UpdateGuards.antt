@@ -28,7 +28,8 @@ pub record StageOk (m : Machine) (call : CallId) (update : Update) (k : ℕ) (e 
   pub free : x.slot ≡ None
   pub fits : IsOk (outcome e.attributes update (staged_moment m k) x.sections)
   pub same_effects : OnEach (λ y. y.effects ≡ x.effects) (complete_replicas m k)
-  pub only_own : OnEach (λ y. IfSlot y.slot (λ slot. slot ≡ record { owner = call; origin = call; update = update; moment = staged_moment m k })) (complete_replicas m k)
+  pub only_own : OnEach (λ y. IfSlot y.slot
+      (λ slot. slot ≡ record { owner = call; origin = call; update = update; moment = staged_moment m k })) (complete_replicas m k)
 
 -- refused: no complete replica has a slot of the call, and the outcome at the record's moment is the refusal
 pub record StageRefused (m : Machine) (s : CallState) (update : Update) (k : ℕ) (end : Option Outcome) (e : Entry) (x : ReplicaState) : Type 0 where
@@ -62,7 +63,8 @@ HasSlotOrEffect x slot y None = y.effects ≡ x.effects ++ effect_of slot ∷ []
 abbrev pub ends_update : CallId → ℕ → Staged → List (ℕ × ReplicaState) → Bool
 ends_update call r slot replicas = same_call slot.origin call && not (owned_elsewhere call r replicas)
 
--- committed: the call owns the slot, whose update is its own or of a call that is not live, and every complete replica has that update staged on equal effects, or has it
+-- committed: the call owns the slot, whose update is its own or of a call that is not live, and every complete replica has that update staged on equal
+-- effects, or has it
 pub record CommitOk (m : Machine) (call : CallId) (update : Update) (k r : ℕ) (end : Option Outcome) (details : Details) (x : ReplicaState) : Type 0 where
   pub slot : Staged
   pub staged : x.slot ≡ Some slot

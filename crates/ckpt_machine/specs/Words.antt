@@ -20,7 +20,8 @@ use Rattle.ckpt_machine.specs.Machine.{Machine}
 abbrev pub IsSaid : Machine → ActorName → LineWord → Said → Type 0
 IsSaid m a (linewords.Op w) Busy = m.in_hand (Actor a) ≢ None
 IsSaid m a (linewords.Op opwords.Client) Live = (m.in_hand (Actor a) ≡ None) × (is_live_client (number_of a) m.cluster ≡ true)
-IsSaid m a (linewords.Op opwords.Client) Down = (m.in_hand (Actor a) ≡ None) × (is_live_client (number_of a) m.cluster ≡ false) × ((r : ℕ) × (r < nodes_max) × (is_up r m.cluster ≡ false))
+IsSaid m a (linewords.Op opwords.Client) Down =
+    (m.in_hand (Actor a) ≡ None) × (is_live_client (number_of a) m.cluster ≡ false) × ((r : ℕ) × (r < nodes_max) × (is_up r m.cluster ≡ false))
 IsSaid m a (linewords.Op w) said = ⊥
 IsSaid m a linewords.Step Idle = m.in_hand (Actor a) ≡ None
 IsSaid m a linewords.Step said = ⊥

@@ -58,7 +58,8 @@ with_calls change t = record t { pending = change t.pending }
 
 -- one call more was begun: it has ended its iteration where it was to end one, it is not dispatched where it goes on by itself, and what it gives is dispatched
 abbrev pub begun_with : Option Outcome → CallId → Op → Option HandleView → TableState → TableState
-begun_with end call op h t = record t { next = t.next + 1; client = ended_at_once end (asked op) t.pending t.client; pending = pending_begun end call op h t.pending }
+begun_with end call op h t =
+    record t { next = t.next + 1; client = ended_at_once end (asked op) t.pending t.client; pending = pending_begun end call op h t.pending }
 
 -- ---- what a beginning asks
 
@@ -79,4 +80,5 @@ CanBegin end call op t = Unit {0}
 
 -- what an operation changes that is answered OK at its beginning
 abbrev pub begun_done : Answer → CallId → Op → Option HandleView → TableState → TableState
-begun_done answer call op h t = record t { client = ended_at_once (Some (Done answer)) (asked op) t.pending t.client; pending = pending_begun (Some (Done answer)) call op h t.pending }
+begun_done answer call op h t =
+    record t { client = ended_at_once (Some (Done answer)) (asked op) t.pending t.client; pending = pending_begun (Some (Done answer)) call op h t.pending }

@@ -76,10 +76,13 @@ abbrev pub unless_changed : Option MarksMade → ℕ → Next → Next
 unless_changed None generation next = next
 unless_changed (Some marks) generation next = if marks.generation == generation then next else End (Refused TryAgain (Generations marks.generation generation))
 
--- the active is asked, where there is one, unless a hold or another generation has the call try again; an iteration starts only where its client has room for one more
+-- the active is asked, where there is one, unless a hold or another generation has the call try again; an iteration starts only where its client has
+-- room for one more
 abbrev pub on_active : Bool → ActiveState → ℕ → Option CallId → Option ℕ → Next
 on_active room a generation hold None = End (Refused NotExist Plain)
-on_active room a generation hold (Some r) = if starts_iteration a.kind && not room then End (Refused NoResources (Count iterations_max)) else unless_on_hold a.kind hold (unless_changed a.marks generation (Serve r (active_request a)))
+on_active room a generation hold (Some r) =
+    if starts_iteration a.kind && not room then End (Refused NoResources (Count iterations_max))
+    else unless_on_hold a.kind hold (unless_changed a.marks generation (Serve r (active_request a)))
 
 -- what is next by the checkpoint's entry; a checkpoint that is gone is refused with NOT_EXIST
 abbrev pub active_on : Bool → ActiveState → Option Entry → Next

@@ -60,7 +60,8 @@ create_next R room =
     else if nat_le checkpoints_max (length R.entries) then End (Refused NoResources (Count checkpoints_max))
     else Event events.Create
 
--- a checkpoint is opened that has the attributes asked for, where there is room for its handle; of one that is in the making the record is asked, which refuses it
+-- a checkpoint is opened that has the attributes asked for, where there is room for its handle; of one that is in the making the record is asked, which
+-- refuses it
 abbrev pub entry_by : Option CallId → Bool → Option CreationAttributes → Entry → Next
 entry_by (Some call) room a e = Event events.Open
 entry_by None room a e =

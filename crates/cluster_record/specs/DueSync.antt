@@ -56,7 +56,9 @@ install_next call k count None = End (Done (Pulled count))
 -- the active is pulled first; where the generation is another since, it is to try again
 abbrev pub unless_stale : SyncState → Entry → ℕ → Option PulledAt → Next
 unless_stale s e r None = Serve r (requests.Pull s.call s.ckpt)
-unless_stale s e r (Some p) = if p.generation == e.generation then install_next s.call s.ckpt p.count (first_unserved 0 e.complete s.served) else End (Refused TryAgain (Generations p.generation e.generation))
+unless_stale s e r (Some p) =
+    if p.generation == e.generation then install_next s.call s.ckpt p.count (first_unserved 0 e.complete s.served)
+    else End (Refused TryAgain (Generations p.generation e.generation))
 
 -- ---- what is next of the setting of an active
 

@@ -75,7 +75,11 @@ update_next R u = update_on u R.moment (entry_of u.ckpt R.entries)
 
 -- behind a stage: it owns a slot there, and all its slots are of one moment
 abbrev pub stage_taken : StepDone → UpdateState → StepReply → UpdateState
-stage_taken d u words.Ok = record u { owned = set_node d.node u.owned (incarnation_of d.node d.complete); moment = kept_moment (last_having 0 d.complete u.owned) d.moment u.moment; phase = Staging }
+stage_taken d u words.Ok = record u {
+  owned = set_node d.node u.owned (incarnation_of d.node d.complete);
+  moment = kept_moment (last_having 0 d.complete u.owned) d.moment u.moment;
+  phase = Staging;
+}
 stage_taken d u _ = u
 
 -- behind a commit: its slot there is gone, and it stages no more

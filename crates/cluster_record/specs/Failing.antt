@@ -1,4 +1,5 @@
--- The failure of a node, as the record has it: its clients go with all that is theirs, no replica is complete on it, and a checkpoint whose active it was gets another or none.
+-- The failure of a node, as the record has it: its clients go with all that is theirs, no replica is complete on it, and a checkpoint whose active it
+-- was gets another or none.
 use Rattle.std.specs.Prelude.{◌≡◌, ◌≢◌, ℕ, ◌+◌, List, [], ◌∷◌, map, filter, length, Option, Some, None, is_some, Bool, false, not, ◌||◌, ◌==◌, nat_lt, if◌then◌else◌, ℤ, slice_set, Contains}
 use Rattle.ckpt_types.specs.declared.attributes.CreationAttributes.{CreationAttributes}
 use Rattle.ckpt_types.specs.declared.identities.ActorName.{ActorName}
@@ -64,7 +65,8 @@ abbrev pub most_updated : (ℕ → ℕ) → ℕ → List ℕ → Option ℕ
 most_updated counts n [] = None
 most_updated counts n (c ∷ cs) = if c == 0 then most_updated counts (n + 1) cs else Some (with_more counts n (most_updated counts (n + 1) cs))
 
--- who is the active where it is gone, by the nodes that are complete still: none of a collocated checkpoint, until a client sets one; where updates are on all replicas, the lowest; else the one with the most updates
+-- who is the active where it is gone, by the nodes that are complete still: none of a collocated checkpoint, until a client sets one; where updates are
+-- on all replicas, the lowest; else the one with the most updates
 abbrev pub next_active : (ℕ → ℕ) → CreationAttributes → List ℕ → Option ℕ
 next_active counts a complete = if is_collocated a then None else if is_all a then first_complete 0 complete else most_updated counts 0 complete
 
@@ -100,7 +102,9 @@ failed counts r R = node_gone counts r (cut_off (goes_with_node R r) R)
 
 -- what is told before it: of each checkpoint that is made, and whose updates go to the active alone, just one count of each complete node but this one
 abbrev pub TellsOthers : List UpdateCount → ℕ → List Entry → Type 0
-TellsOthers told r entries = (e : Entry) (q : ℕ) → Contains entries e → e.making ≡ None → is_all e.attributes ≡ false → IsComplete q e.complete → q ≢ r → length (filter (tells_of e.identity q) told) ≡ 1
+TellsOthers told r entries =
+    (e : Entry) (q : ℕ) → Contains entries e → e.making ≡ None → is_all e.attributes ≡ false → IsComplete q e.complete → q ≢ r
+    → length (filter (tells_of e.identity q) told) ≡ 1
 
 -- ---- one client after the other
 

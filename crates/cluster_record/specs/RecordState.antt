@@ -181,7 +181,9 @@ first_active a complete = if is_collocated a then None else first_complete 0 com
 
 -- the making is finished by an opener on this node, where these nodes are up: it is complete on those on which it is made, and the maker has it open
 abbrev pub made_with : ℕ → List ℕ → ℕ → Entry → Entry
-made_with opener up c e = let complete = targets e.attributes opener up in referred c (record e { making = None; complete = complete; active = first_active e.attributes complete; generation = 1 })
+made_with opener up c e =
+    let complete = targets e.attributes opener up in
+    referred c (record e { making = None; complete = complete; active = first_active e.attributes complete; generation = 1 })
 
 -- the node of a client that is live, and n0 for one that is not
 abbrev pub home_of : ℕ → RecordState → ℕ
@@ -215,7 +217,8 @@ idle_from t e = if has_references e then e else record e { idle = t }
 
 -- one reference of a client fewer; nothing changes where it has none
 abbrev pub unreferred : ℕ → ℤ → Entry → Entry
-unreferred c t e = if slice_index e.references c == 0 then e else idle_from t (record e { references = slice_set e.references c (slice_index e.references c - 1) })
+unreferred c t e =
+    if slice_index e.references c == 0 then e else idle_from t (record e { references = slice_set e.references c (slice_index e.references c - 1) })
 
 -- a client closes a checkpoint once
 abbrev pub closed : ℕ → ℕ → RecordState → RecordState

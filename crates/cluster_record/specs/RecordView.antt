@@ -12,7 +12,15 @@ use Rattle.cluster_record.specs.declared.record.Record.TheInside.{Inside}
 
 -- the record as contracts see it
 abbrev pub record_of : Inside → RecordState
-record_of r = record { up = r.up; first_calls = r.first_calls; last_incarnations = r.last_incarnations; last_identity = r.last_identity; moment = r.moment; clients = r.clients.items; entries = r.entries.items }
+record_of r = record {
+  up = r.up;
+  first_calls = r.first_calls;
+  last_incarnations = r.last_incarnations;
+  last_identity = r.last_identity;
+  moment = r.moment;
+  clients = r.clients.items;
+  entries = r.entries.items;
+}
 
 -- the entries at the moment t, where the identity last given is the last
 pub record AreKeptEntries (t : ℤ) (last : ℕ) (entries : List Entry) : Type 0 where

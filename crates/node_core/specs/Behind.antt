@@ -22,7 +22,8 @@ abbrev pub section_in_place : Reply → SectionDescriptor → SectionDescriptor 
 section_in_place (replies.Done answers.Section) told own = told
 section_in_place reply told own = own
 
--- behind a request to a replica with this reply: a read has used up its elements, and a stage, an update in one step and a weak write their update; what is told stands in its place, an iteration and a snapshot come back, and all else stays
+-- behind a request to a replica with this reply: a read has used up its elements, and a stage, an update in one step and a weak write their update; what
+-- is told stands in its place, an iteration and a snapshot come back, and all else stays
 abbrev pub remains_of : Request → Reply → Lent → Lent → Lent
 remains_of (requests.Stage call k t) reply back lent = record lent { update = None }
 remains_of (requests.Commit call k) reply back lent = with_told reply back lent

@@ -103,7 +103,8 @@ pub record LendsInto (lent : Lent) (x : Replica) : Type 0 where
 abbrev pub TakesLent : Lent → Replica → Type 0
 TakesLent lent x = IsSomeAnd lent.snap (λ s. TakesSnapshot s x)
 
--- an addition is of a checkpoint of which a replica may be made, and the node has none; a lend, a take and a stage are of a replica that the node has: one that can be lent, that can take over what is lent, or that refuses nothing; all else may come always
+-- an addition is of a checkpoint of which a replica may be made, and the node has none; a lend, a take and a stage are of a replica that the node has:
+-- one that can be lent, that can take over what is lent, or that refuses nothing; all else may come always
 abbrev pub ChangeFits : RecordSeen → NodeState → NodeChange → Lent → Type 0
 ChangeFits seen n (changes.Add k generation) lent = MayBeMade seen.entry × (find_key replica_key k n.replicas ≡ None)
 ChangeFits seen n (changes.Lend k) lent = IsSomeAnd (find_key replica_key k n.replicas) (LendsInto lent)

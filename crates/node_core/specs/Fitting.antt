@@ -15,7 +15,8 @@ use Rattle.node_core.specs.Lending.{HasLent}
 use Rattle.node_core.specs.Nodes.{NodeState, replica_key}
 use Rattle.node_core.specs.Seen.{EntrySeen, RecordSeen, is_complete}
 
--- what a request asks of a replica: a stage meets no marks, an update in one step or a weak write no slot, and an installation neither; a commit and a withdrawal are of what the call has staged, and an element and the end of a weak write of what it has marked; a reservation asks no replica
+-- what a request asks of a replica: a stage meets no marks, an update in one step or a weak write no slot, and an installation neither; a commit and a
+-- withdrawal are of what the call has staged, and an element and the end of a weak write of what it has marked; a reservation asks no replica
 abbrev pub IsReadyFor : Request → Replica → Type 0
 IsReadyFor (requests.Stage call k t) x = x.marks ≡ None
 IsReadyFor (requests.Claim call k owner) x = Unit {0}

@@ -63,7 +63,9 @@ abbrev pub HasRoomToCommit : Option Slot → Option Buffer → Type 0
 HasRoomToCommit None read = Unit {0}
 HasRoomToCommit (Some slot) read = HasRoomToTell slot.update read
 
--- what a request to a replica uses is lent: the update of a stage, of an update in one step, or of a weak write, room for the identifier that one in one step or a commit tells, the elements and the buffer of a read, a place for a status, an iteration with room for all identifiers, a place for the section that it gives, a snapshot with room for what is pulled, and one that keeps to what is declared where it is installed
+-- what a request to a replica uses is lent: the update of a stage, of an update in one step, or of a weak write, room for the identifier that one in one
+-- step or a commit tells, the elements and the buffer of a read, a place for a status, an iteration with room for all identifiers, a place for the
+-- section that it gives, a snapshot with room for what is pulled, and one that keeps to what is declared where it is installed
 abbrev pub HasLent : Request → Lent → Replica → Type 0
 HasLent (requests.Stage call k t) lent x = IsSome lent.update
 HasLent (requests.Commit call k) lent x = HasRoomToCommit x.slot lent.read

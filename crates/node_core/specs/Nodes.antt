@@ -76,7 +76,8 @@ replicas_reserved seen k reply xs = xs
 -- the replicas of a node after a request that was answered so
 abbrev pub replicas_after : RecordSeen → NodeState → Request → Payload → Reply → List Replica
 replicas_after seen n (requests.Reserve k) p reply = replicas_reserved seen k reply n.replicas
-replicas_after seen n request p reply = if is_complete seen then change_key replica_key (ckpt_of request) (replica_after request p seen) n.replicas else n.replicas
+replicas_after seen n request p reply =
+    if is_complete seen then change_key replica_key (ckpt_of request) (replica_after request p seen) n.replicas else n.replicas
 
 -- the node after it
 abbrev pub node_after : RecordSeen → NodeState → Request → Payload → Reply → NodeState

@@ -4,7 +4,8 @@ use Rattle.ckpt_types.specs.declared.attributes.CreationAttributes.{CreationAttr
 use Rattle.cluster_record.specs.declared.entries.Entry.{Entry}
 use Rattle.cluster_record.specs.RecordState.{RecordState, entry_of}
 
--- of the entry of its checkpoint: what it declares, as it was made; the retention as it is set now; its generation; the moment of its making; and whether the node is complete for it
+-- of the entry of its checkpoint: what it declares, as it was made; the retention as it is set now; its generation; the moment of its making; and
+-- whether the node is complete for it
 pub record EntrySeen : Type 0 where
   pub attributes : CreationAttributes
   pub retention : ℤ

@@ -36,7 +36,8 @@ SaysTrueIn (ops.Client r version callbacks) Down m = is_up r m.cluster ≡ false
 SaysTrueIn op Down m = ⊥
 SaysTrueIn op said m = Unit {0}
 
--- what comes behind the beginning of a call in its line: its steps to the end, where it goes on under its actor's name; nothing, where it is asynchronous and goes on under its own
+-- what comes behind the beginning of a call in its line: its steps to the end, where it goes on under its actor's name; nothing, where it is
+-- asynchronous and goes on under its own
 abbrev pub AreStepsBehind : Bool → CallId → Option Outcome → List Label → Type 0
 AreStepsBehind true call end rest = rest ≡ []
 AreStepsBehind false call end rest = StepsToEnd call end rest
@@ -93,7 +94,9 @@ AnswersLine m line log = ⊥
 -- the labels before it
 abbrev pub FollowsFrom : Machine → List Line → List Label → Type 0
 FollowsFrom m [] log = log ≡ []
-FollowsFrom m (line ∷ lines) log = (front : List Label) × (back : List Label) × (log ≡ front ++ back) × AnswersLine m line front × (length front ≤ line_labels_max) × FollowsFrom (last_from m front) lines back
+FollowsFrom m (line ∷ lines) log =
+    (front : List Label) × (back : List Label) × (log ≡ front ++ back) × AnswersLine m line front × (length front ≤ line_labels_max)
+    × FollowsFrom (last_from m front) lines back
 
 -- the log has the lines in order, from the empty cluster
 abbrev pub Follows : List Line → List Label → Type 0

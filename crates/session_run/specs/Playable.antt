@@ -9,7 +9,8 @@ use Rattle.script_lang.specs.Grammar.{moment_behind}
 use Rattle.cluster_record.specs.RecordState.{IsMomentFrom}
 use Rattle.world_core.specs.Runs.{IsScriptClient, MayBeStepped}
 
--- at this moment the line can be played with the nodes up: a call of a client, whole or only begun; steps of a call; a moment that does not go back; a pull, a put at one of the nodes, or a propagation; or a show
+-- at this moment the line can be played with the nodes up: a call of a client, whole or only begun; steps of a call; a moment that does not go back; a
+-- pull, a put at one of the nodes, or a propagation; or a show
 abbrev pub IsPlayableLine : ℤ → Line → Type 0
 IsPlayableLine t (lines.Call c op) = (c < client_numbers) × IsBuilt op
 IsPlayableLine t (lines.Begin a op) = IsScriptClient a × IsBuilt op

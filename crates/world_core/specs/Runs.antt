@@ -100,8 +100,10 @@ SaysTrue op said w = Unit {0}
 
 -- the label that answers the beginning of a call: its beginning, or a word that leaves the calls in hand as they are
 abbrev pub AnswersBegin : ActorName → Op → World → World → Label → Type 0
-AnswersBegin a op old new (labels.Began call begun end details) = (call.actor ≡ a) × (begun ≡ op) × GoesOn call op end (hand_at new.hands (stepped_as call (word_of_op op)))
-AnswersBegin a op old new (labels.Word who word said) = (who ≡ whos.Actor a) × (word ≡ linewords.Op (word_of_op op)) × (new.hands ≡ old.hands) × SaysTrue op said old
+AnswersBegin a op old new (labels.Began call begun end details) =
+    (call.actor ≡ a) × (begun ≡ op) × GoesOn call op end (hand_at new.hands (stepped_as call (word_of_op op)))
+AnswersBegin a op old new (labels.Word who word said) =
+    (who ≡ whos.Actor a) × (word ≡ linewords.Op (word_of_op op)) × (new.hands ≡ old.hands) × SaysTrue op said old
 AnswersBegin a op old new label = ⊥
 
 -- the label that answers a step of the call in hand under a name: its next step
@@ -151,7 +153,8 @@ Answers (happenings.Put k r) old new label = IsPutOf k r label × (new.hands ≡
 -- the calls for which other clients wait are as they were
 abbrev pub KeepsOthers : Event → World → World → Type 0
 KeepsOthers (happenings.Begin (Client c) op) old new = (d : ℕ) → d ≢ c → hand_at new.hands (whos.Actor (Client d)) ≡ hand_at old.hands (whos.Actor (Client d))
-KeepsOthers (happenings.Step who finish) old new = (d : ℕ) → whos.Actor (Client d) ≢ who → hand_at new.hands (whos.Actor (Client d)) ≡ hand_at old.hands (whos.Actor (Client d))
+KeepsOthers (happenings.Step who finish) old new =
+    (d : ℕ) → whos.Actor (Client d) ≢ who → hand_at new.hands (whos.Actor (Client d)) ≡ hand_at old.hands (whos.Actor (Client d))
 KeepsOthers event old new = Unit {0}
 
 -- the moment after an event; the first is the one before it

@@ -39,7 +39,8 @@ pub record Beginning : Type 0 where
   pub kept : Kept
   pub driver : Driver
 
--- the effects and the origins of replicas, the effects of snapshots, and the beginning and the steps of each call in hand, with the identifier that its commits have made, and the effects that it has pulled
+-- the effects and the origins of replicas, the effects of snapshots, and the beginning and the steps of each call in hand, with the identifier that its
+-- commits have made, and the effects that it has pulled
 pub record History : Type 0 where
   -- by checkpoint and node
   pub effects : ℕ → ℕ → List Effect
@@ -80,7 +81,15 @@ next_of tables (Node r) = 1
 -- a call in hand as the machine has it: with what it kept of its beginning, with its steps, and with what it has pulled
 abbrev pub shown_hand : Beginning → List StepDone → Option (List ℕ) → Option (List Effect) → Option InHand → Option CallState
 shown_hand began steps created pulled None = None
-shown_hand began steps created pulled (Some h) = Some (record { call = h.call; op = h.op; kept = began.kept; begun = began.driver; steps = steps; created = created; snapshot = shown_copy pulled h.snapshot })
+shown_hand began steps created pulled (Some h) = Some (record {
+  call = h.call;
+  op = h.op;
+  kept = began.kept;
+  begun = began.driver;
+  steps = steps;
+  created = created;
+  snapshot = shown_copy pulled h.snapshot;
+})
 
 -- the call in hand under a name, as the machine has it
 abbrev pub hand_of : History → HandsState → Who → Option CallState
@@ -119,7 +128,8 @@ pub record HistoryFits (w : World) (h : History) : Type 0 where
   pub copies : (k : ℕ) → FitsSnapshot (h.copied k) (pulled_in w.snapshots k)
   pub hands : (v : Who) → FitsHand (h.beginnings v) (h.steps v) (h.pulled v) (hand_at w.hands v)
 
--- the machine's state is the world's, with some history that fits; the nodes have no other replicas, and the checkpoints have the room for their snapshots, and the live clients theirs
+-- the machine's state is the world's, with some history that fits; the nodes have no other replicas, and the checkpoints have the room for their
+-- snapshots, and the live clients theirs
 pub record Shows (w : World) (m : Machine) : Type 0 where
   pub history : History
   pub same : m ≡ machine_of w history
