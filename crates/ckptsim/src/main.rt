@@ -4,7 +4,7 @@
 
 mod running;
 
-use command_run::{StdArguments, Status, words};
+use command_run::{Status, StdArguments, words};
 use outside_io::{OpenGate, StdSink, StdSource};
 use run_labels::RunLog;
 use running::ckpt_run;

@@ -16,8 +16,8 @@ ghost use Rattle.client_calls.specs.TableState.{with_room, with_client, begun_wi
 use crate::kept_calls::{async_call, callbacks_of, dispatch, given_of_none};
 use call_dispatch::Pending;
 use ckpt_types::{
-    AisError, Answer, CallId, Callback, CallbackSet, CkptId, Elements, Given, HANDLES_MAX, Op, OpenFlags,
-    Outcome,
+    AisError, Answer, CallId, Callback, CallbackSet, CkptId, Elements, Given, HANDLES_MAX, Op,
+    OpenFlags, Outcome,
 };
 use client_handles::{Client, HandleView};
 use section_iter::Iteration;
