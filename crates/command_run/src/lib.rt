@@ -2,13 +2,13 @@
 #![tactic(auto)]
 
 mod arguments;
+mod command_line;
 mod reading;
 mod running;
 #[cfg(test)]
 mod tests;
-mod words;
 mod writing;
 
 pub use arguments::{Arguments, StdArguments};
+pub use command_line::words;
 pub use running::{Status, run_command};
-pub use words::words;

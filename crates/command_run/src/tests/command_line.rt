@@ -3,7 +3,7 @@ ghost use Rattle.std.specs.Prelude.{◌≡◌, ◌≤◌, Some, length, map, tak
 
 use crate::arguments::Arguments;
 use crate::running::Status;
-use crate::words::words;
+use crate::command_line::words;
 use std::alloc::Global;
 use std::env::FillError;
 use std::string::String;

@@ -2,7 +2,7 @@ use Rattle.std.proofs.Common.{◌+◌, List, IfSome, String, Global, subst, sym,
 use Rattle.std.proofs.lemmas.Grind.{common_steps}
 use Rattle.command_run.specs.Arguments.{IsWordAt}
 use Rattle.command_run.proofs.Called.{HasTaken, taken_more, cause_of}
-use Rattle.command_run.proofs.words.words.Goals as goal
+use Rattle.command_run.proofs.command_line.words.Goals as goal
 
 -- what ends the reading of one word ends that of all
 pub returns-in-Err-clause-cause : goal.returns-in-Err-clause-cause

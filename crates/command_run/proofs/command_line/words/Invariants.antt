@@ -1,6 +1,6 @@
 use Rattle.std.proofs.Common.{◌≤◌}
 use Rattle.command_run.proofs.Called.{HasTaken}
-use Rattle.command_run.proofs.words.words.Given as goal
+use Rattle.command_run.proofs.command_line.words.Given as goal
 
 abbrev pub invariant-loop-number : goal.invariant-loop-number
 invariant-loop-number g l = record {
