@@ -306,7 +306,7 @@ changed m s verbs.Commit k r reply =
     on_ok reply m (on_replica k r m (λ k r. change_replica m k r (m.replicas k r) (with_committed (entry_of k m.cluster.entries))))
 changed m s verbs.Apply k r reply =
     on_ok reply m (on_replica k r m
-        (λ k r. change_replica m k r (m.replicas k r) (with_applied s.call (update_of s.op) m.cluster.moment (entry_of k m.cluster.entries))))
+    (λ k r. change_replica m k r (m.replicas k r) (with_applied s.call (update_of s.op) m.cluster.moment (entry_of k m.cluster.entries))))
 changed m s verbs.Mark k r reply =
     on_ok reply m (on_replica k r m (λ k r. change_replica m k r (m.replicas k r) (with_marks s.call (update_of s.op) m.cluster.moment)))
 changed m s verbs.Element k r reply =

@@ -206,7 +206,7 @@ abbrev pub driver_start : CallId → Ask → Kept → Option Driver
 driver_start call (asks.Enter r version callbacks) kept = Some (drivers.Once (Enter r))
 driver_start call (asks.Open place name flags timeout a) kept =
     Some (drivers.Open (open_begun call (record { name = name; attrs = a; client = client_of call; node = kept.node })
-        (option_map (sum_until_end kept.moment) timeout)))
+    (option_map (sum_until_end kept.moment) timeout)))
 driver_start call (asks.Change place update) kept = change_start call kept.all (kind_of_change kept.weak update) kept.ckpt
 driver_start call (asks.Read place elements) kept = active_start call kinds.Read kept.ckpt
 driver_start call (asks.Status place) kept = active_start call kinds.Status kept.ckpt

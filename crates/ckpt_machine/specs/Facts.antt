@@ -73,7 +73,7 @@ abbrev pub IsFinishable : Machine → ℕ → Option Making → Type 0
 IsFinishable m c None = ⊥
 IsFinishable m c (Some making) =
     IsSomeAnd (entry_of making.ckpt m.cluster.entries) (λ e. AllReserved m c making.ckpt e × NoneReservedElse m c making.ckpt e × (e.generation ≡ 1)
-        × ((r : ℕ) → slice_index e.complete r ≡ 0))
+    × ((r : ℕ) → slice_index e.complete r ≡ 0))
 
 -- an open of a client can add a replica of a checkpoint: the entry has each node, the client's is up, and has nothing reserved for it
 pub record IsAddable (m : Machine) (c : ℕ) (e : Entry) : Type 0 where

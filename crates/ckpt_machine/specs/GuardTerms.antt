@@ -58,4 +58,4 @@ OnAll m k r P = OnReplica m k r (λ e x. (is_all e.attributes ≡ true) × P e x
 abbrev pub OnActive : Machine → Update → Bool → ℕ → ℕ → (Entry → ReplicaState → Type 0) → Type 0
 OnActive m update by_element k r P =
     OnReplica m k r (λ e x. (is_all e.attributes ≡ false) × (e.active ≡ Some r) × (e.hold ≡ None) × (is_by_element (is_weak e.attributes) update ≡ by_element)
-        × P e x)
+    × P e x)

@@ -69,7 +69,7 @@ AsksChange s P = (place : ℕ) × (update : Update) × (asked s.op ≡ asks.Chan
 abbrev pub Row : Machine → CallState → Verb → Told → Type 0
 Row m s verbs.Enter t =
     AtNodeAlone t.ckpt t.node (λ r. (version : Version) × (callbacks : CallbackSet) × (asked s.op ≡ asks.Enter r version callbacks)
-        × EnterRow m (client_of s.call) r t.reply t.end)
+    × EnterRow m (client_of s.call) r t.reply t.end)
     × (t.details ≡ beside.Nothing)
 Row m s verbs.Open t = AtCkpt t.ckpt t.node (λ k. AsksOpen s (λ name a. OpenRow m s name a k t.reply t.end)) × (t.details ≡ beside.Nothing)
 Row m s verbs.Create t = AtCkpt t.ckpt t.node (λ k. AsksOpen s (λ name a. CreateRow m s name a k t.reply t.end)) × (t.details ≡ beside.Nothing)
@@ -87,7 +87,7 @@ Row m s verbs.Read t =
 Row m s verbs.Status t = AtNode t.ckpt t.node (λ k r. (place : ℕ) × (asked s.op ≡ asks.Status place) × StatusRow m k r t.reply t.end t.details)
 Row m s verbs.Iter t =
     AtNode t.ckpt t.node (λ k r. (iteration place chosen : ℕ) × (time : ℤ) × (asked s.op ≡ asks.Iterate iteration place chosen time)
-        × IterRow m s k r t.reply t.end)
+    × IterRow m s k r t.reply t.end)
     × (t.details ≡ beside.Nothing)
 Row m s verbs.Next t = AtNode t.ckpt t.node (λ k r. (iteration : ℕ) × (asked s.op ≡ asks.Next iteration) × NextRow m s k r t)
 Row m s verbs.Pull t =

@@ -52,7 +52,7 @@ BringsNearer =
     (m : Machine) (call : CallId) (op : OpWord) (verb : Verb) (k r : Option ℕ) (reply : StepReply) (details : Details) (s : CallState) → Invariant m
     → IsDue m (labels.Stepped call op verb k r reply None details) → m.in_hand (stepped_as call op) ≡ Some s
     → let R = (after m (labels.Stepped call op verb k r reply None details)).cluster in
-      steps_left R (driver_taken (counting (counted_at m verb k r reply) (done_of R verb k r reply)) (driver_of s)) < steps_left m.cluster (driver_of s)
+    steps_left R (driver_taken (counting (counted_at m verb k r reply) (done_of R verb k r reply)) (driver_of s)) < steps_left m.cluster (driver_of s)
 
 -- of a call in hand at least one step is left, and at most 66
 abbrev pub StepsAreFew : Type 0

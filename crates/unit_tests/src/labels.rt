@@ -2,7 +2,7 @@
 use ckpt_types::{
     ActorName, AisError, Answer, Apart, AsyncKind, Bytes, CallId, Callback, Cause,
     CheckpointDescriptor, CreationAttributes, Elements, Given, NEVER, Op, Outcome, Pieces, ReadBuf,
-    SectionDescriptor, SectionId, SectionState, Who,
+    SectionDescriptor, SectionId, SectionState, Vector, Who,
 };
 use node_msgs::{Details, StepReply, Verb};
 use run_labels::{

@@ -2,8 +2,8 @@
 ghost use Rattle.std.specs.Prelude.{◌≡◌, ◌≤◌, Some, length, map, take};
 
 use crate::arguments::Arguments;
-use crate::running::Status;
 use crate::command_line::words;
+use crate::running::Status;
 use std::alloc::Global;
 use std::env::FillError;
 use std::string::String;
