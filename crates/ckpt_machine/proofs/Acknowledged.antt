@@ -48,7 +48,8 @@ use Rattle.node_core.specs.Serving.{update_answer}
 use Rattle.ckpt_machine.specs.Shape.{IsCompleteOn}
 use Rattle.ckpt_machine.specs.After.{with_record, record_step, created_for, retained_for, change_replica, with_committed, committed_slot, with_applied, having_taken, with_marks, with_next_element, without_marks, marks_ended, with_slot, effect_of, with_lead, changed, on_ok, on_look, without_making, at_some, replica_under, opened_state, stepped, step_of, staged_moment, after}
 use Rattle.ckpt_machine.specs.Due.{Told, IsDue}
-use Rattle.ckpt_machine.proofs.Activating.{made_where_complete, led_by, LeadsFrom, Leads, leader, with_leader, leader-cases, found_led, led_made, led_entry, after_activate}
+use Rattle.ckpt_machine.proofs.HeldIn.{IsCopyOfActive}
+use Rattle.ckpt_machine.proofs.Activating.{made_where_complete, led_by, Leads, leader, with_leader, leader-cases, found_led, led_made, led_entry, after_activate}
 use Rattle.ckpt_machine.proofs.ActiveNode.{active_complete}
 use Rattle.ckpt_machine.proofs.AllOrNone.{all_or_none}
 use Rattle.ckpt_machine.proofs.Copying.{IsPutOn, not_active, after_pull, after_put, put2-here, put2-cases}
@@ -208,12 +209,12 @@ module _ (k : ℕ) (call : CallId) (update : Update) (m : Machine) (stay : Stays
   }
     where
       -- where there was an active, which has the update, what is in hand has it
-      from_active : j ≡ k → LeadsFrom m s j lead.entry → HasUpdate call update (leader m s j q lead).effects
+      from_active : j ≡ k → IsCopyOfActive m s j lead.entry → HasUpdate call update (leader m s j q lead).effects
       from_active here (inl none) = absurd (by_some (stay.some lead.entry (ap (λ k. entry_of k m.cluster.entries) (sym here) ∙ lead.found)))
         where
           by_some : (is_all lead.entry.attributes ≡ true) ⊎ IsSome lead.entry.active → ⊥
           by_some (inl all) = let w : true ≡ false = sym all ∙ collocated_apart lead.entry.attributes lead.collocated in cc w
-          by_some (inr led) = let w : is_some {T = ℕ} None ≡ true = subst (λ (o : Option ℕ). IsSome o) none.0 led in cc w
+          by_some (inr led) = let w : is_some {T = ℕ} None ≡ true = subst (λ (o : Option ℕ). IsSome o) none led in cc w
       from_active here (inr copy) =
           let at : entry_of k m.cluster.entries ≡ Some lead.entry = ap (λ k. entry_of k m.cluster.entries) (sym here) ∙ lead.found in
           let has : HasUpdate call update copy.source.effects = stay.its copy.node copy.source (subst (λ k. m.replicas k copy.node ≡ Some copy.source) here copy.there) (subst (λ o. IsToHave o copy.node) (sym at) (inr copy.active)) in

@@ -29,7 +29,7 @@ use Rattle.ckpt_machine.proofs.Entries.{ComesOf-filter}
 use Rattle.ckpt_machine.proofs.EntryLists.{find_key-change_key}
 use Rattle.ckpt_machine.proofs.Follows.{IsBare, under}
 use Rattle.ckpt_machine.proofs.Generations.{generation_there}
-use Rattle.ckpt_machine.proofs.HeldIn.{CopyInHand, IsHeldIn, held_in}
+use Rattle.ckpt_machine.proofs.HeldIn.{IsCopyOfActive, IsHeldIn, held_in}
 use Rattle.ckpt_machine.proofs.Histories.{maker_incomplete}
 use Rattle.ckpt_machine.proofs.OptionLemmas.{IsSomeAnd-at}
 use Rattle.ckpt_machine.proofs.Propagated.{complete_there}
@@ -149,10 +149,6 @@ module _ (m : Machine) (rises : IdentitiesRise m.cluster.entries) (k r : ℕ) (e
 
 -- ---- a node that leads
 
--- what a node leads with that was not the active: nothing, where there was no active; or what is in the hand of the call, which is what the active has
-abbrev pub LeadsFrom : Machine → CallState → ℕ → Entry → Type 0
-LeadsFrom m s k e = ((e.active ≡ None) × (s.snapshot ≡ None)) ⊎ CopyInHand m s k e
-
 -- a call sets a node that was not it as the active of a collocated checkpoint, of which it has a replica
 pub record Leads (m : Machine) (s : CallState) (k r : ℕ) : Type 0 where
   pub held : m.in_hand (who s) ≡ Some s
@@ -165,7 +161,7 @@ pub record Leads (m : Machine) (s : CallState) (k r : ℕ) : Type 0 where
   pub other : is_active entry.active r ≡ false
   pub replica : ReplicaState
   pub there : m.replicas k r ≡ Some replica
-  pub from : LeadsFrom m s k entry
+  pub from : IsCopyOfActive m s k entry
   pub set : entry_of k (swept (active_set k r m.cluster)).entries ≡ Some (led_by r entry)
 
 -- the replica that leads
@@ -226,16 +222,20 @@ put2-same f k r x is = λ i j q. at j q i
 -- a replica that leads as it is stays as it is
 leads_as_it_is : (m : Machine) (s : CallState) (k r : ℕ) (e : Entry) (x : ReplicaState) (g : ℕ) → g ≡ x.generation → e.active ≡ Some r → m.replicas k r ≡ Some x → (o : Option CallId) → IsHeldIn m k s e o → with_lead s.snapshot g x ≡ x
 leads_as_it_is m s k r e x g same active there None empty = ap (λ o. with_lead o g x) empty ∙ (λ i. record x { generation = same i })
-leads_as_it_is m s k r e x g same active there (Some holder) copy =
-    let node : r ≡ copy.node = same_Some r copy.node (sym active ∙ copy.active) in
-    let own : copy.source ≡ x = same_Some copy.source x (sym copy.there ∙ ap (m.replicas k) (sym node) ∙ there) in
-    ap (λ o. with_lead o g x) copy.in_hand ∙ ap (λ y. with_lead (Some (copied y)) g x) own ∙ (λ i. record x { generation = same i })
+leads_as_it_is m s k r e x g same active there (Some holder) held = by_copy held.1
+  where
+    by_copy : IsCopyOfActive m s k e → with_lead s.snapshot g x ≡ x
+    by_copy (inl none) = absurd (let w : None ≡ Some r = sym none ∙ active in cc w)
+    by_copy (inr copy) =
+        let node : r ≡ copy.node = same_Some r copy.node (sym active ∙ copy.active) in
+        let own : copy.source ≡ x = same_Some copy.source x (sym copy.there ∙ ap (m.replicas k) (sym node) ∙ there) in
+        ap (λ o. with_lead o g x) copy.in_hand ∙ ap (λ y. with_lead (Some (copied y)) g x) own ∙ (λ i. record x { generation = same i })
 
 -- a node that was not the active leads with what is in hand, as it may
-leads_from : (m : Machine) (s : CallState) (k r : ℕ) (e : Entry) (hold : Option CallId) (active : Option ℕ) → e.active ≡ active → is_active active r ≡ false → MayLead s.call r hold active → IsHeldIn m k s e hold → LeadsFrom m s k e
-leads_from m s k r e None None none other may empty = inl (none, empty)
+leads_from : (m : Machine) (s : CallState) (k r : ℕ) (e : Entry) (hold : Option CallId) (active : Option ℕ) → e.active ≡ active → is_active active r ≡ false → MayLead s.call r hold active → IsHeldIn m k s e hold → IsCopyOfActive m s k e
+leads_from m s k r e None None none other may empty = inl none
 leads_from m s k r e None (Some q) led other may empty = absurd (eqb-false q r other may)
-leads_from m s k r e (Some holder) active is other may copy = inr copy
+leads_from m s k r e (Some holder) active is other may held = held.1
 
 module _ (P : Machine → Type 0) (m : Machine) (inv : Invariant m) (bare : IsBare m) (s : CallState) (held : m.in_hand (who s) ≡ Some s) (k r : ℕ) (ckpt : s.kept.ckpt ≡ Some k) (made : ((j : ℕ) → MadeOn j m.cluster (swept (active_set k r m.cluster))) → P (record_step (active_set k r) m)) (leads : (lead : Leads m s k r) → P (with_leader m s k r lead))
     (end : Option Outcome) (e : Entry) (found : entry_of k m.cluster.entries ≡ Some e) (ok : ActivateOk s r end e) (hand : IsHeldIn m k s e e.hold) where

@@ -3,8 +3,10 @@ use Rattle.std.proofs.Common.{◌≡◌, ℕ, inl, inr, List, Option, Some, None
 use Rattle.std.proofs.lemmas.Option.{same_Some}
 use Rattle.std.specs.Prelude.{IsSome, is_some, IfSome}
 use Rattle.std.proofs.lemmas.Bool.{eq-eqb}
+use Rattle.ckpt_types.specs.declared.ais_error.AisError.{AisError}
 use Rattle.ckpt_types.specs.declared.ais_error.AisError.TheVariants.{NoResources, NoSections, NotExist, TryAgain}
 use Rattle.ckpt_types.specs.declared.answers.Answer.TheVariants as answers
+use Rattle.ckpt_types.specs.declared.answers.Cause.{Cause}
 use Rattle.ckpt_types.specs.declared.answers.Cause.TheVariants.{Plain, Index, Count, Holder, Generations}
 use Rattle.ckpt_types.specs.declared.answers.Outcome.TheVariants.{Done, Refused}
 use Rattle.ckpt_types.specs.declared.identities.CallId.{CallId}
@@ -41,11 +43,11 @@ use Rattle.node_core.specs.Seen.{record_seen, entry_seen}
 use Rattle.ckpt_machine.specs.After.{with_tables, given_at, chosen_at}
 use Rattle.ckpt_machine.specs.Due.{Told, IsDone, IsServed, driver_of, rooms_of, ids_asked, payload_due, details_due}
 use Rattle.ckpt_machine.specs.Seen.{seen, seen_at}
-use Rattle.ckpt_machine.specs.LookGuards.{LookRefused, ChangeLook, HasNoActive, NoActiveLook, OnHeldBy}
+use Rattle.ckpt_machine.specs.LookGuards.{LookRefused, ChangeLook, ActiveLook, HasNoActive, NoActiveLook, OnLed}
 use Rattle.ckpt_machine.specs.ActiveGuards.{IterOk, NextAnswer}
 use Rattle.ckpt_machine.specs.Shape.{Shape, IsSpread}
 use Rattle.ckpt_machine.proofs.ActiveNode.{AsksOf, by_kind, ActiveOf, active_of, active_seen, on_its_replica, active_next-there}
-use Rattle.ckpt_machine.proofs.ActiveSteps.{gone_ends}
+use Rattle.ckpt_machine.proofs.ActiveSteps.{holder_other, unmarked_ends}
 use Rattle.ckpt_machine.proofs.Apply.{apply_goes}
 use Rattle.ckpt_machine.proofs.EndedTables.{started_keeps, gone_on_keeps}
 use Rattle.ckpt_machine.proofs.HeldBy.{its_hold, held_by}
@@ -82,18 +84,18 @@ LookRefused-active m s kind (asks.Iterate iteration place chosen time) is gone =
 LookRefused-active m s kind (asks.Next iteration) is gone = gone
 LookRefused-active m s kind ask is gone = absurd (cc is)
 
--- an update of the active alone is refused where another call holds its checkpoint
-LookRefused-held : (m : Machine) (s : CallState) (kind : ActiveKind) (ask : Ask) (by : CallId) → is_update kind ≡ true → active_kind s.kept.all s.kept.weak ask ≡ Some kind → OnHeldBy m s by (λ e. IsSome e.active) → LookRefused m s ask TryAgain (Holder by)
-LookRefused-held m s kind (asks.Change place update) by updates is look = by_all s.kept.all is
+-- an update is refused with what a look has for one of the active alone
+LookRefused-update : (m : Machine) (s : CallState) (kind : ActiveKind) (ask : Ask) (error : AisError) (cause : Cause) → is_update kind ≡ true → active_kind s.kept.all s.kept.weak ask ≡ Some kind → ActiveLook m s error cause → LookRefused m s ask error cause
+LookRefused-update m s kind (asks.Change place update) error cause updates is look = by_all s.kept.all is
   where
-    by_all : (all : Bool) → change_kind all (kind_of_change s.kept.weak update) ≡ Some kind → ChangeLook all m s TryAgain (Holder by)
+    by_all : (all : Bool) → change_kind all (kind_of_change s.kept.weak update) ≡ Some kind → ChangeLook all m s error cause
     by_all true is = absurd (cc is)
     by_all false is = look
-LookRefused-held m s kind (asks.Read place elements) by updates is look = absurd (let w : false ≡ true = ap is_update (same_Some kinds.Read kind is) ∙ updates in cc w)
-LookRefused-held m s kind (asks.Status place) by updates is look = absurd (let w : false ≡ true = ap is_update (same_Some kinds.Status kind is) ∙ updates in cc w)
-LookRefused-held m s kind (asks.Iterate iteration place chosen time) by updates is look = absurd (let w : false ≡ true = ap is_update (same_Some (kinds.Iterate (choice_of chosen time)) kind is) ∙ updates in cc w)
-LookRefused-held m s kind (asks.Next iteration) by updates is look = absurd (let w : false ≡ true = ap is_update (same_Some kinds.Next kind is) ∙ updates in cc w)
-LookRefused-held m s kind ask by updates is look = absurd (cc is)
+LookRefused-update m s kind (asks.Read place elements) error cause updates is look = absurd (let w : false ≡ true = ap is_update (same_Some kinds.Read kind is) ∙ updates in cc w)
+LookRefused-update m s kind (asks.Status place) error cause updates is look = absurd (let w : false ≡ true = ap is_update (same_Some kinds.Status kind is) ∙ updates in cc w)
+LookRefused-update m s kind (asks.Iterate iteration place chosen time) error cause updates is look = absurd (let w : false ≡ true = ap is_update (same_Some (kinds.Iterate (choice_of chosen time)) kind is) ∙ updates in cc w)
+LookRefused-update m s kind (asks.Next iteration) error cause updates is look = absurd (let w : false ≡ true = ap is_update (same_Some kinds.Next kind is) ∙ updates in cc w)
+LookRefused-update m s kind ask error cause updates is look = absurd (cc is)
 
 -- ---- any of them
 
@@ -133,6 +135,11 @@ module _ (m : Machine) (shapes : ℕ → Shape) (inv : InvariantIn shapes m) (s 
     -- what it asks for
     pub asks_of : AsksOf s.kept.weak kind (asked s.op)
     asks_of = by_kind s.kept.all s.kept.weak (asked s.op) kind at_active.kind
+
+  -- no marks of it stand, or its checkpoint is gone: it is refused by a look, and all else is as it was
+  unmarked_goes : (kind : ActiveKind) (made : Option MarksMade) → driver_of s ≡ drivers.Active (record { call = call; ckpt = k; kind = kind; marks = made }) → ((e : Entry) → entry_of k m.cluster.entries ≡ Some e → is_marked_by s.call (shapes k).marks ≡ false)
+      → (error : AisError) (cause : Cause) (t : Told) → LookRefused m s (asked s.op) error cause → IsDone m s (End (Refused error cause)) t → Goes m s (driver_of s) t
+  unmarked_goes kind made is unmarked error cause t look done = look_ends m shapes inv s held error cause t look (ap making_in is) (unmarked_ends m shapes inv s _ held is unmarked) done
 
   module _ (at : ActiveOf m (shapes k).marks k) where
     -- ---- a read
@@ -254,29 +261,31 @@ module _ (m : Machine) (shapes : ℕ → Shape) (inv : InvariantIn shapes m) (s 
 
     -- ---- any kind, where its checkpoint is
 
-    -- the generation is that in which it made its marks
-    same_generation : (kind : ActiveKind) (w : MarksMade) → driver_of s ≡ drivers.Active (record { call = call; ckpt = k; kind = kind; marks = Some w }) → (w.generation == at.entry.generation) ≡ true
-    same_generation kind w is = eq-eqb w.generation at.entry.generation ((at_made kind (Some w) is).present refl at.entry at.found)
-
     fit_of : (kind : ActiveKind) (made : Option MarksMade) → driver_of s ≡ drivers.Active (record { call = call; ckpt = k; kind = kind; marks = made }) → MarksFit kind made
     fit_of kind made is = (at_made kind made is).fit
 
-    -- no call holds a checkpoint on which marks stand
-    pub marked_free : (kind : ActiveKind) (w : MarksMade) → driver_of s ≡ drivers.Active (record { call = call; ckpt = k; kind = kind; marks = Some w }) → (hold : Option CallId) → at.entry.hold ≡ hold → at.entry.hold ≡ None
-    marked_free kind w is None free = free
-    marked_free kind w is (Some by) holds = absurd (let v : false ≡ true = sym (ap (is_marked_by s.call) (its_hold m shapes inv k at.entry at.found at.made by holds).unmarked) ∙ (at_made kind (Some w) is).marks at.entry at.found ∙ same_generation kind w is in cc v)
+    -- an update meets a hold: no marks stand then
+    on_hold_goes : (kind : ActiveKind) (made : Option MarksMade) → driver_of s ≡ drivers.Active (record { call = call; ckpt = k; kind = kind; marks = made }) → is_update kind ≡ true → (by : CallId) → at.entry.hold ≡ Some by → (t : Told) → IsDone m s (End (Refused TryAgain (Holder by))) t → Goes m s (driver_of s) t
+    on_hold_goes kind made is updates by holds t done =
+        let own = at_made kind made is in
+        unmarked_goes kind made is (λ e found. ap (is_marked_by s.call) (its_hold m shapes inv k at.entry at.found at.made by holds).unmarked) TryAgain (Holder by) t
+        (LookRefused-update m s kind (asked s.op) TryAgain (Holder by) updates own.kind (held_by m shapes inv k at.entry at.found at.made by holds s held (holder_other m shapes inv s _ held is k at.entry.active by) own.kept (λ e. IsSome e.active) (ap is_some at.active))) done
 
-    -- an update that has made no marks meets a hold
-    on_hold_goes : (kind : ActiveKind) → driver_of s ≡ drivers.Active (record { call = call; ckpt = k; kind = kind; marks = None }) → is_update kind ≡ true → (by : CallId) → at.entry.hold ≡ Some by → (t : Told) → IsDone m s (End (Refused TryAgain (Holder by))) t → Goes m s (driver_of s) t
-    on_hold_goes kind is updates by holds t done =
-        let plain : is_plain (driver_of s) s.snapshot ≡ true = ap (λ d. is_plain d s.snapshot) is in
-        look_goes m shapes inv s held plain TryAgain (Holder by) t
-        (LookRefused-held m s kind (asked s.op) by updates (at_active kind is).kind (held_by m shapes inv k at.entry at.found at.made by holds s held plain (at_active kind is).kept (λ e. IsSome e.active) (ap is_some at.active))) done
-
-    by_hold : (kind : ActiveKind) → driver_of s ≡ drivers.Active (record { call = call; ckpt = k; kind = kind; marks = None }) → is_update kind ≡ true → (next : Next) (t : Told) → (at.entry.hold ≡ None → IsDone m s next t → Goes m s (driver_of s) t)
+    by_hold : (kind : ActiveKind) (made : Option MarksMade) → driver_of s ≡ drivers.Active (record { call = call; ckpt = k; kind = kind; marks = made }) → is_update kind ≡ true → (next : Next) (t : Told) → (at.entry.hold ≡ None → IsDone m s next t → Goes m s (driver_of s) t)
         → (hold : Option CallId) → at.entry.hold ≡ hold → IsDone m s (unless_on_hold kind hold next) t → Goes m s (driver_of s) t
-    by_hold kind is updates next t goes None free done = goes free done
-    by_hold kind is updates next t goes (Some by) holds done = on_hold_goes kind is updates by holds t (subst (λ b. IsDone m s (cond b (End (Refused TryAgain (Holder by))) next) t) updates done)
+    by_hold kind made is updates next t goes None free done = goes free done
+    by_hold kind made is updates next t goes (Some by) holds done = on_hold_goes kind made is updates by holds t (subst (λ b. IsDone m s (cond b (End (Refused TryAgain (Holder by))) next) t) updates done)
+
+    -- the generation is another than that in which it made its marks: they are gone
+    changed_goes : (n : ℕ) (w : MarksMade) → driver_of s ≡ drivers.Active (record { call = call; ckpt = k; kind = kinds.Weak n; marks = Some w }) → at.entry.hold ≡ None → (w.generation == at.entry.generation) ≡ false → (t : Told) → IsDone m s (End (Refused TryAgain (Generations w.generation at.entry.generation))) t → Goes m s (driver_of s) t
+    changed_goes n w is free other t done =
+        let own = at_made (kinds.Weak n) (Some w) is in
+        unmarked_goes (kinds.Weak n) (Some w) is (λ e found. own.marks at.entry at.found ∙ other) TryAgain (Generations w.generation at.entry.generation) t
+        (LookRefused-update m s (kinds.Weak n) (asked s.op) TryAgain (Generations w.generation at.entry.generation) refl own.kind (
+          subst (λ o. OnLed m o (λ e. (e.hold ≡ None) × (e.generation ≡ at.entry.generation))) (sym own.kept) (IsSomeAnd-from (entry_of k m.cluster.entries) (λ e. IsSome e.active × ((e.hold ≡ None) × (e.generation ≡ at.entry.generation))) at.entry at.found (ap is_some at.active, (free, refl))),
+          own.made_by,
+          other,
+        )) done
 
     -- what is no update goes on beside a hold
     not_held : (kind : ActiveKind) (hold : Option CallId) (next : Next) → is_update kind ≡ false → unless_on_hold kind hold next ≡ next
@@ -289,38 +298,36 @@ module _ (m : Machine) (shapes : ℕ → Shape) (inv : InvariantIn shapes m) (s 
     there_goes kinds.Status None is rooms t has done = status_goes is t (subst (λ next. IsDone m s next t) (not_held kinds.Status at.entry.hold _ refl) done)
     there_goes (kinds.Iterate choice) None is rooms t has done = iterate_by choice is rooms.iterations t (ap (λ (r : Rooms). r.iterations) has) (subst (λ next. IsDone m s (cond (not rooms.iterations) (End (Refused NoResources (Count 8))) next) t) (not_held (kinds.Iterate choice) at.entry.hold _ refl) done)
     there_goes kinds.Next None is rooms t has done = next_by is t (subst (λ next. IsDone m s next t) (not_held kinds.Next at.entry.hold _ refl) done) (given (ids_asked m s) m.cluster.moment at.replica.sections) refl
-    there_goes kinds.Apply None is rooms t has done = by_hold kinds.Apply is refl _ t (λ free done. apply_goes m shapes inv s call k held at free is t done) at.entry.hold refl done
-    there_goes (kinds.Weak n) None is rooms t has done = by_hold (kinds.Weak n) is refl _ t (λ free done. mark_goes m shapes inv s call k n None held at free is refl t done) at.entry.hold refl done
+    there_goes kinds.Apply None is rooms t has done = by_hold kinds.Apply None is refl _ t (λ free done. apply_goes m shapes inv s call k held at free is t done) at.entry.hold refl done
+    there_goes (kinds.Weak n) None is rooms t has done = by_hold (kinds.Weak n) None is refl _ t (λ free done. mark_goes m shapes inv s call k n None held at free is refl t done) at.entry.hold refl done
     there_goes (kinds.Weak n) (Some w) is rooms t has done =
-        let free = marked_free (kinds.Weak n) w is at.entry.hold refl in
-        marked_goes m shapes inv s call k n (Some w) held at free is w refl t
-        (subst (λ b. IsDone m s (cond b (Serve at.node (request_by call k (kinds.Weak n) (Some w))) (End (Refused TryAgain (Generations w.generation at.entry.generation)))) t) (same_generation (kinds.Weak n) w is)
-        (subst (λ hold. IsDone m s (unless_on_hold (kinds.Weak n) hold (unless_changed (Some w) at.entry.generation (Serve at.node (request_by call k (kinds.Weak n) (Some w))))) t) free done))
+        by_hold (kinds.Weak n) (Some w) is refl _ t (λ free done. by_generation free (w.generation == at.entry.generation) refl done) at.entry.hold refl done
+      where
+        by_generation : at.entry.hold ≡ None → (b : Bool) → (w.generation == at.entry.generation) ≡ b → IsDone m s (cond b (Serve at.node (request_by call k (kinds.Weak n) (Some w))) (End (Refused TryAgain (Generations w.generation at.entry.generation)))) t → Goes m s (driver_of s) t
+        by_generation free true same done = marked_goes m shapes inv s call k n (Some w) held at free is w refl same t done
+        by_generation free false other done = changed_goes n w is free other t done
     there_goes kind (Some w) is rooms t has done = absurd (fit_of kind (Some w) is)
 
   no_active : (ckpt : Option ℕ) → ckpt ≡ Some k → HasNoActive (entry_of k m.cluster.entries) → NoActiveLook m ckpt NotExist Plain
   no_active ckpt kept none = subst (λ o. NoActiveLook m o NotExist Plain) (sym kept) none
 
-  -- its checkpoint is gone: it is refused, and has nothing then
+  -- its checkpoint is gone
   gone_goes : (kind : ActiveKind) (made : Option MarksMade) → driver_of s ≡ drivers.Active (record { call = call; ckpt = k; kind = kind; marks = made }) → entry_of k m.cluster.entries ≡ None → (t : Told) → IsDone m s (End (Refused NotExist Plain)) t → Goes m s (driver_of s) t
   gone_goes kind made is gone t done =
       let at = at_made kind made is in
-      look_ends m shapes inv s held NotExist Plain t (LookRefused-active m s kind (asked s.op) at.kind (no_active s.kept.ckpt at.kept (subst (λ o. HasNoActive o) (sym gone) tt))) (ap making_in is) (gone_ends m shapes inv s _ held is gone) done
+      unmarked_goes kind made is (λ e found. absurd (let w : None ≡ Some e = sym gone ∙ found in cc w)) NotExist Plain t (LookRefused-active m s kind (asked s.op) at.kind (no_active s.kept.ckpt at.kept (subst (λ o. HasNoActive o) (sym gone) tt))) done
 
-  -- it has no active: a call that has made no marks there is refused
+  -- it has no active, so no marks stand
   unled_goes : (kind : ActiveKind) (made : Option MarksMade) → driver_of s ≡ drivers.Active (record { call = call; ckpt = k; kind = kind; marks = made }) → (e : Entry) → entry_of k m.cluster.entries ≡ Some e → e.active ≡ None → (t : Told) → IsDone m s (End (Refused NotExist Plain)) t → Goes m s (driver_of s) t
-  unled_goes kind None is e found none t done =
-      let at = at_made kind None is in
-      look_goes m shapes inv s held (ap (λ d. is_plain d s.snapshot) is) NotExist Plain t (LookRefused-active m s kind (asked s.op) at.kind (no_active s.kept.ckpt at.kept (subst (λ o. HasNoActive o) (sym found) none))) done
-  unled_goes kind (Some w) is e found none t done =
-      let at = at_made kind (Some w) is in
+  unled_goes kind made is e found none t done =
+      let at = at_made kind made is in
       let made_is : e.making ≡ None = subst (λ o. IfSome o (λ (e : Entry). e.making ≡ None)) found at.made.made in
       let spread : IsSpread m k (shapes k) e = subst (IsGoodIn m k (shapes k) e) made_is (inv.entries k e found) in
-      absurd (by_marks (shapes k).marks refl (at.marks e found ∙ eq-eqb w.generation e.generation (at.present refl e found)) spread)
+      unmarked_goes kind made is (λ f there. by_marks (shapes k).marks refl spread) NotExist Plain t (LookRefused-active m s kind (asked s.op) at.kind (no_active s.kept.ckpt at.kept (subst (λ o. HasNoActive o) (sym found) none))) done
     where
-      by_marks : (o : Option Marked) → (shapes k).marks ≡ o → is_marked_by s.call o ≡ true → IsSpread m k (shapes k) e → ⊥
-      by_marks None stand of_it spread = cc of_it
-      by_marks (Some marks) stand of_it spread = let w : false ≡ true = sym (ap is_some none) ∙ spread.led marks stand in cc w
+      by_marks : (o : Option Marked) → (shapes k).marks ≡ o → IsSpread m k (shapes k) e → is_marked_by s.call o ≡ false
+      by_marks None stand spread = refl
+      by_marks (Some marks) stand spread = absurd (let w : false ≡ true = sym (ap is_some none) ∙ spread.led marks stand in cc w)
 
   -- the next step of a call to the active
   pub active_goes : (kind : ActiveKind) (made : Option MarksMade) → driver_of s ≡ drivers.Active (record { call = call; ckpt = k; kind = kind; marks = made }) → (rooms : Rooms) (t : Told) → rooms_of m s ≡ rooms

@@ -9,6 +9,7 @@ use Rattle.weak_marks.specs.Marks.{Marked}
 use Rattle.cluster_record.specs.declared.entries.Entry.{Entry}
 use Rattle.cluster_record.specs.DueActive.{ActiveState}
 use Rattle.cluster_record.specs.Places.{put, put2}
+use Rattle.cluster_record.specs.Calls.{same_call}
 use Rattle.cluster_record.specs.RecordState.{entry_of}
 use Rattle.ckpt_machine.specs.Drivers as drivers
 use Rattle.ckpt_machine.specs.InHand.{is_marked_by, IsDoneIn, IsInHand}
@@ -18,6 +19,7 @@ use Rattle.cluster_record.specs.Placement.{is_all}
 use Rattle.ckpt_machine.specs.Shape.{Shape, IsCompleteOn, IsApart, IsShapedBy, is_owner, IsOwner, IsMarker, IsHolder, IsSpread}
 use Rattle.ckpt_machine.specs.Due.{driver_of}
 use Rattle.ckpt_machine.proofs.ActiveNode.{active_complete}
+use Rattle.ckpt_machine.proofs.Actors.{same_call-refl}
 use Rattle.ckpt_machine.proofs.CallsKept.{IsSameCall, same_call-None, apart_from, calls_left}
 use Rattle.ckpt_machine.proofs.OnComplete.{present_generation, put_complete}
 use Rattle.ckpt_machine.proofs.OptionLemmas.{IsSomeAnd-from}
@@ -43,7 +45,7 @@ module _ (m : Machine) (shapes : ℕ → Shape) (inv : InvariantIn shapes m) (s 
   maker_other : (j : ℕ) (d : CallId) (own : IsMaker m j d) → same_who (who own.state) (who s) ≡ false
   maker_other j d own = other_by_driver own.state own.in_hand (λ same. let w : drivers.Open own.driver ≡ drivers.Active a = sym own.driver_is ∙ same in cc w)
 
-  holder_other : (j : ℕ) (active : Option ℕ) (d : CallId) (own : IsHolder m j active d) → same_who (who own.state) (who s) ≡ false
+  pub holder_other : (j : ℕ) (active : Option ℕ) (d : CallId) (own : IsHolder m j active d) → same_who (who own.state) (who s) ≡ false
   holder_other j active d own = other_by_driver own.state own.in_hand (λ same. let w : drivers.Sync own.driver ≡ drivers.Active a = sym own.driver_is ∙ same in cc w)
 
   -- so are the marks on another checkpoint
@@ -63,19 +65,21 @@ module _ (m : Machine) (shapes : ℕ → Shape) (inv : InvariantIn shapes m) (s 
   -- another checkpoint is as it was
   IsGoodIn-other : (f : ℕ → ℕ → Option ReplicaState) (o : Option CallState) → LivesOn m (with_step f o) → ((j q : ℕ) → (j == a.ckpt) ≡ false → f j q ≡ m.replicas j q) → (j : ℕ) (sh : Shape) (e : Entry) (maker : Option CallId) → (j == a.ckpt) ≡ false → IsGoodIn m j sh e maker → IsGoodIn (with_step f o) j sh e maker
   IsGoodIn-other f o lives stays j sh e maker other good = IsGoodIn-alike m (with_step f o) j lives sh e (λ q there. stays j q other)
-      (λ d own. put_who-other m.in_hand (who s) o (who own.state) (owner_other j sh d own)) (λ marks own. put_who-other m.in_hand (who s) o (who own.state) (marker_other j marks other own)) (λ active d own. put_who-other m.in_hand (who s) o (who own.state) (holder_other j active d own)) (λ d own. put_who-other m.in_hand (who s) o (who own.state) (maker_other j d own)) maker good
+      (λ d own. put_who-other m.in_hand (who s) o (who own.state) (owner_other j sh d own)) (λ marks stand own. put_who-other m.in_hand (who s) o (who own.state) (marker_other j marks other own)) (λ active d own. put_who-other m.in_hand (who s) o (who own.state) (holder_other j active d own)) (λ d own. put_who-other m.in_hand (who s) o (who own.state) (maker_other j d own)) maker good
 
-  -- ---- its checkpoint is gone, and it ends
+  -- ---- it ends, where no marks of it stand, or its checkpoint is gone
 
-  pub gone_ends : entry_of a.ckpt m.cluster.entries ≡ None → InvariantIn shapes (record m { in_hand = put_who m.in_hand (who s) None })
-  gone_ends gone = record {
+  pub unmarked_ends : ((e : Entry) → entry_of a.ckpt m.cluster.entries ≡ Some e → is_marked_by s.call (shapes a.ckpt).marks ≡ false) → InvariantIn shapes (record m { in_hand = put_who m.in_hand (who s) None })
+  unmarked_ends unmarked = record {
     up = inv.up;
     first_up = inv.first_up;
     none_live = inv.none_live;
     rises = inv.rises;
     up_to = inv.up_to;
     swept = inv.swept;
-    entries = λ j e found. IsGoodIn-other m.replicas None (lives_on-fewer m (record m { in_hand = put_who m.in_hand (who s) None }) shapes shapes inv (λ d. refl) refl refl hands_left was_held) (λ j q other. refl) j (shapes j) e e.making (apart j e found (j == a.ckpt) refl) (inv.entries j e found);
+    entries = λ j e found. IsGoodIn-alike m (record m { in_hand = put_who m.in_hand (who s) None }) j (lives_on-fewer m (record m { in_hand = put_who m.in_hand (who s) None }) shapes shapes inv (λ d. refl) refl refl hands_left was_held) (shapes j) e (λ q there. refl)
+        (λ d own. put_who-other m.in_hand (who s) None (who own.state) (owner_other j (shapes j) d own)) (λ marks stand own. put_who-other m.in_hand (who s) None (who own.state) (another j e found marks stand own))
+        (λ active d own. put_who-other m.in_hand (who s) None (who own.state) (holder_other j active d own)) (λ d own. put_who-other m.in_hand (who s) None (who own.state) (maker_other j d own)) e.making (inv.entries j e found);
     replicas = inv.replicas;
     reserves = inv.reserves;
     handles = inv.handles;
@@ -95,9 +99,15 @@ module _ (m : Machine) (shapes : ℕ → Shape) (inv : InvariantIn shapes m) (s 
       hands_left : (b : Who) (z : CallState) → put_who m.in_hand (who s) None b ≡ Some z → IsInHand (record m { in_hand = put_who m.in_hand (who s) None }) shapes b z
       hands_left b z left = let was = inv.hands b z (was_held b z left) in record { whose = was.whose; client = was.client; number = was.number; built = was.built; driven = was.driven; live = was.live; home = was.home; here = IsIn-apart m shapes m.next m.pending (put_who m.in_hand (who s) None) z (driver_of z) was.here }
 
-      apart : (j : ℕ) (e : Entry) → entry_of j m.cluster.entries ≡ Some e → (b : Bool) → (j == a.ckpt) ≡ b → (j == a.ckpt) ≡ false
-      apart j e found false other = other
-      apart j e found true same = absurd (let w : None ≡ Some e = sym gone ∙ ap (λ n. entry_of n m.cluster.entries) (sym (eqb-true j a.ckpt same)) ∙ found in cc w)
+      -- whose marks stand is another call
+      another : (j : ℕ) (e : Entry) → entry_of j m.cluster.entries ≡ Some e → (marks : Marked) → (shapes j).marks ≡ Some marks → (own : IsMarker m j marks) → same_who (who own.state) (who s) ≡ false
+      another j e found marks stand own = apart_states m.in_hand own.state s own.in_hand held (λ same.
+          let both : drivers.Active own.driver ≡ drivers.Active a = sym own.driver_is ∙ ap driver_of same ∙ is in
+          let driver : own.driver ≡ a = cc both in
+          let ckpt : j ≡ a.ckpt = sym own.ckpt ∙ ap (λ (x : ActiveState). x.ckpt) driver in
+          let call : marks.call ≡ s.call = sym own.call_is ∙ ap (λ (z : CallState). z.call) same in
+          let w : false ≡ true = sym (unmarked e (ap (λ n. entry_of n m.cluster.entries) (sym ckpt) ∙ found)) ∙ ap (is_marked_by s.call) (ap (λ n. (shapes n).marks) (sym ckpt) ∙ stand) ∙ ap (λ c. same_call c s.call) call ∙ same_call-refl s.call in
+          cc w)
 
   -- ---- its checkpoint is there
 

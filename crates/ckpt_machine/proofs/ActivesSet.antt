@@ -50,18 +50,13 @@ use Rattle.ckpt_machine.proofs.EntrySteps.{entry_here, record_is, left_snapshots
 use Rattle.ckpt_machine.proofs.HeldIn.{IsHeldIn, held_in}
 use Rattle.ckpt_machine.proofs.Histories.{on_replica-there, run_history}
 use Rattle.ckpt_machine.proofs.OpenReady.{client_live}
-use Rattle.ckpt_machine.proofs.OptionLemmas.{IsSomeAnd-at, IsSomeAnd-from, IfSome-at}
+use Rattle.ckpt_machine.proofs.OptionLemmas.{IsSomeAnd-at, IsSomeAnd-from, IfSome-at, what_is}
 use Rattle.ckpt_machine.proofs.Propagated.{complete_there}
 use Rattle.ckpt_machine.proofs.Refusing.{row_at_ckpt, at_node, at_none, at_node_alone}
 use Rattle.ckpt_machine.proofs.Runs.{last-push, run_before, run_front}
 use Rattle.ckpt_machine.proofs.HeldIdentity.{with_active-identity}
 use Rattle.ckpt_machine.proofs.SettingHeld.{IsSettingOf, all_setting}
 use Rattle.ckpt_machine.proofs.SyncSteps.{drives_setting}
-
--- what is there
-what_is : {X : Type 0} (o : Option X) → IsSome o → (x : X) × (o ≡ Some x)
-what_is None none = absurd (cc none)
-what_is (Some x) some = (x, refl)
 
 -- ---- the step of the record
 
@@ -125,7 +120,7 @@ module _ (m : Machine) (inv : Invariant m) (s : CallState) (held : m.in_hand (wh
 
   -- where nothing is in its hand, no other node was the active
   no_other : (k r : ℕ) (e : Entry) (o : Option CallId) → MayLead s.call r o e.active → IsHeldIn m k s e o → s.snapshot ≡ None → (e.active ≡ None) ⊎ (e.active ≡ Some r)
-  no_other k r e (Some holder) may copy empty = absurd (let w : None ≡ Some _ = sym empty ∙ copy.in_hand in cc w)
+  no_other k r e (Some holder) may held empty = absurd (let w : true ≡ false = sym held.0 ∙ ap (λ o. is_some o) empty in cc w)
   no_other k r e None may none empty = by_active e.active refl may
     where
       by_active : (o : Option ℕ) → e.active ≡ o → MayLead s.call r None o → (e.active ≡ None) ⊎ (e.active ≡ Some r)

@@ -17,7 +17,7 @@ use Rattle.call_dispatch.specs.PendingCalls.{PendingCalls, given_by}
 use Rattle.call_dispatch.specs.declared.async_call.EndedCall.{EndedCall}
 use Rattle.client_handles.specs.declared.begun.BegunIteration.{BegunIteration}
 use Rattle.client_handles.specs.declared.handle_view.HandleView.{HandleView}
-use Rattle.client_handles.proofs.LentLaws.{KeepsSome, NoneLent-new, NoneLent-released, NoneLent-ended, NoneLent-added}
+use Rattle.client_handles.proofs.LentLaws.{KeepsSome, NoneLent-new, NoneLent-released, NoneLent-ended, NoneLent-added, NoneLent-opened_at}
 use Rattle.ckpt_machine.specs.Machine.{no_tables}
 use Rattle.ckpt_machine.specs.Tables.{handle_given, with_iteration, started, with_next, gone_on, closing, registering, place_set, places_set, ended_at_once}
 
@@ -64,10 +64,6 @@ NoneLent-gone_on ask next t none = none
 pub NoneLent-closing : (ask : Ask) (t : ClientState) → NoneLent t → NoneLent (closing ask t)
 NoneLent-closing (asks.Close place) t none = NoneLent-released (slice_index t.places place) t none
 NoneLent-closing ask t none = none
-
--- with a place set to a handle that is open
-NoneLent-opened_at : (place number : ℕ) (t : ClientState) → NoneLent t → NoneLent (opened_at place number t)
-NoneLent-opened_at place number t none = elim (can_stand_for place number t) as (λ b. NoneLent (cond b (bound place number t) t)) [ true ↦ none | false ↦ none ]
 
 NoneLent-place_set : (call : EndedCall) (t : ClientState) → NoneLent t → NoneLent (place_set call t)
 NoneLent-place_set call t none = by_kind call.asked.kind refl

@@ -69,6 +69,7 @@ use Rattle.ckpt_machine.specs.Whose.{same_who, put_who}
 use Rattle.node_msgs.specs.declared.details.Details.{Details}
 use Rattle.ckpt_machine.specs.Options.{is_weak, if_declared}
 use Rattle.cluster_record.specs.Placement.{is_all}
+use Rattle.cluster_record.proofs.ClientLaws.{IsClient-number}
 
 -- ---- what a beginning that goes on has passed
 
@@ -151,11 +152,6 @@ change_fits true (updates.Write elements) good = ltb-false 64 (length elements) 
 change_fits true update good = tt
 change_fits false (updates.Write elements) good = tt
 change_fits false update good = tt
-
--- a client's number is below 100
-client_within : (a : ActorName) → IsClient a → number_of a < client_numbers
-client_within (Client c) is = is
-client_within (Node r) is = absurd is
 
 -- ---- where a call begins
 
@@ -257,7 +253,7 @@ module _ (m : Machine) (shapes : ℕ → Shape) (inv : InvariantIn shapes m) (ca
       handle = subst (λ (o : Option HandleView). IsSome o) (sym named) refl;
       marks = λ e found. has_no_marks x.id e found (subst (λ o. IfSome o (λ (e : Entry). e.making ≡ None)) found (asked_made op x named).made);
       generation = λ e found. tt;
-      present = λ none e found. tt;
+      made_by = tt;
     };
     live = λ others. live;
   }
@@ -282,7 +278,7 @@ module _ (m : Machine) (shapes : ℕ → Shape) (inv : InvariantIn shapes m) (ca
         at = record {
           caller = client;
           client = refl;
-          within = client_within call.actor client;
+          within = IsClient-number call.actor client;
           node = node_up live;
           home = refl;
           asks = record { place = place; flags = flags; timeout = timeout; asks = on.is };

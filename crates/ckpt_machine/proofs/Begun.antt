@@ -121,7 +121,7 @@ module _ (m : Machine) (shapes : ℕ → Shape) (inv : InvariantIn shapes m) (ca
     rises = inv.rises;
     up_to = inv.up_to;
     swept = inv.swept;
-    entries = λ k e found. IsGoodIn-apart m shapes then_next pending (put_who m.in_hand w o) lives (λ k sh d own. stays own.state own.in_hand) (λ k marks own. stays own.state own.in_hand) (λ k active d own. stays own.state own.in_hand) (λ k d own. stays own.state own.in_hand)
+    entries = λ k e found. IsGoodIn-apart m shapes then_next pending (put_who m.in_hand w o) lives (λ k sh d own. stays own.state own.in_hand) (λ k sh marks stand own. stays own.state own.in_hand) (λ k active d own. stays own.state own.in_hand) (λ k d own. stays own.state own.in_hand)
         k (shapes k) e e.making (inv.entries k e found);
     replicas = inv.replicas;
     reserves = inv.reserves;

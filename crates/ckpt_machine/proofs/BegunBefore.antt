@@ -26,7 +26,7 @@ use Rattle.ckpt_machine.specs.Due.{IsDue}
 use Rattle.ckpt_machine.proofs.Quiet.{quiet}
 use Rattle.ckpt_machine.proofs.Histories.{run_history, HasHistory, follows}
 use Rattle.ckpt_machine.proofs.Runs.{along}
-use Rattle.ckpt_machine.proofs.Starting.{first_kept, begun_as}
+use Rattle.ckpt_machine.proofs.Starting.{first_kept, begun_as, begun_goes}
 
 -- each call that this state has in hand began in the log
 abbrev pub AllBegan : List Label → Machine → Type 0
@@ -56,20 +56,12 @@ begun_more log more call op k begun = record {
   ckpt_is = begun.ckpt_is;
 }
 
--- a call that is in hand behind its beginning goes on
-goes_where_begun : (end : Option Outcome) (call : CallId) (op : Op) (kept : Kept) (s : CallState) → call_begun end call op kept ≡ Some s → goes_on (word_of_op op) end ≡ true
-goes_where_begun end call op kept s is = by_test (goes_on (word_of_op op) end) is
-  where
-    by_test : (b : Bool) → cond b (option_map (started_call call op kept) (driver_start call (asked op) kept)) None ≡ Some s → b ≡ true
-    by_test true there = refl
-    by_test false none = absurd (cc none)
-
 -- a call that begins and goes on begins there
 begins_there : (log : List Label) (call : CallId) (op : Op) (end : Option Outcome) (details : Details) (s : CallState) → call_begun end call op (first_kept (last log) call op) ≡ Some s → HasBegun (log ++ labels.Began call op end details ∷ []) s.call s.op s.kept.ckpt
 begins_there log call op end details s is =
     let (d, driven, same) = begun_as end call op (first_kept (last log) call op) s is in
     subst (λ (z : CallState). HasBegun (log ++ labels.Began call op end details ∷ []) z.call z.op z.kept.ckpt) same
-    (record { before = log; behind = []; end = end; details = details; log_is = refl; goes = goes_where_begun end call op (first_kept (last log) call op) s is; ckpt_is = refl })
+    (record { before = log; behind = []; end = end; details = details; log_is = refl; goes = begun_goes end call op (first_kept (last log) call op) s is; ckpt_is = refl })
 
 -- a call that goes on after a step is the one that took it
 left_same : (log : List Label) (s : CallState) (steps : List StepDone) (created : Option (List ℕ)) (snapshot : Option Snapshot) (end : Option Outcome) (z : CallState) → HasBegun log s.call s.op s.kept.ckpt → left end (record s { steps = steps; created = created; snapshot = snapshot }) ≡ Some z → HasBegun log z.call z.op z.kept.ckpt

@@ -79,7 +79,7 @@ module _ (m : Machine) (shapes : ℕ → Shape) (inv : InvariantIn shapes m) (a 
     rises = inv.rises;
     up_to = inv.up_to;
     swept = inv.swept;
-    entries = λ k e found. IsGoodIn-alike m then_machine k lives (shapes k) e (λ r there. refl) (λ d own. refl) (λ marks own. refl) (λ active d own. refl) (λ d own. refl) e.making (inv.entries k e found);
+    entries = λ k e found. IsGoodIn-alike m then_machine k lives (shapes k) e (λ r there. refl) (λ d own. refl) (λ marks stand own. refl) (λ active d own. refl) (λ d own. refl) e.making (inv.entries k e found);
     replicas = inv.replicas;
     reserves = inv.reserves;
     handles = λ b h. elim (same_actor b a) as (λ t. same_actor b a ≡ t → Contains (cond t (change (m.tables a)) (m.tables b)).handles h → IsGoodHandle m.cluster b h) [ true ↦ λ same among. subst (λ c. IsGoodHandle m.cluster c h) (sym (same_actor-true b a same)) (good h among) | false ↦ λ other among. inv.handles b h among ] refl;

@@ -30,7 +30,7 @@ use Rattle.ckpt_machine.specs.Due.{driver_of}
 use Rattle.ckpt_machine.specs.Tables.{handle_closed}
 use Rattle.ckpt_machine.proofs.Actors.{same_actor-true}
 use Rattle.ckpt_machine.proofs.AsyncCalls.{ended_idle}
-use Rattle.ckpt_machine.proofs.AsyncNames.{own_name, async_named}
+use Rattle.ckpt_machine.proofs.AsyncNames.{own_name, async_named, goes_with-actor}
 use Rattle.ckpt_machine.proofs.CallsPending.{calls_closed}
 use Rattle.ckpt_machine.proofs.DroppedCalls.{without_those, dropped_keeps, pending_keeps}
 use Rattle.ckpt_machine.proofs.EndedTables.{closing_keeps}
@@ -59,11 +59,6 @@ module _ (m : Machine) (shapes : ℕ → Shape) (z : CallState) (place : ℕ) (t
   sync_plain (drivers.Sync u) at = by_kind u u.kind at
 
 -- ---- those that go with a handle
-
--- no call goes with it for which its actor waits
-goes_with-actor : (handle : Option ℕ) (a : ActorName) (p : PendingCalls) (b : ActorName) → goes_with handle a p (Actor b) ≡ false
-goes_with-actor None a p b = refl
-goes_with-actor (Some handle) a p b = refl
 
 -- what is over a handle is a synchronisation
 is_over-sync : (handle : ℕ) (o : Option AsyncCall) → is_over handle o ≡ true → IsSomeAnd o (λ c. is_sync c.kind ≡ true)

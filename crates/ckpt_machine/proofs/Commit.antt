@@ -56,7 +56,7 @@ pub not_own : (c d : CallId) → d ≢ c → is_owner d (Some c) ≡ false
 not_own c d other = same_call-false c d (λ same. other (sym same))
 
 -- whose slot it is, by its owner
-owns_slot-by : (z : Shape) (call : CallId) (o : Option CallId) → owns_slot call (slot_by z o) ≡ is_owner call o
+pub owns_slot-by : (z : Shape) (call : CallId) (o : Option CallId) → owns_slot call (slot_by z o) ≡ is_owner call o
 owns_slot-by z call None = refl
 owns_slot-by z call (Some d) = refl
 

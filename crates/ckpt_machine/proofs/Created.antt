@@ -113,7 +113,7 @@ module _ (m : Machine) (shapes : ℕ → Shape) (inv : InvariantIn shapes m) (s 
   -- a checkpoint that was there is as it was
   IsGoodIn-then : LivesOn m then_machine → (j : ℕ) (sh : Shape) (e : Entry) (maker : Option CallId) → entry_of j m.cluster.entries ≡ Some e → IsGoodIn m j sh e maker → IsGoodIn then_machine j sh e maker
   IsGoodIn-then lives j sh e maker found was = IsGoodIn-alike m then_machine j lives sh e (λ r there. replica_other j r e found there)
-      (λ d own. put_who-other m.in_hand (who s) (Some w) (who own.state) (owner_apart m shapes inv s held plain j sh d own)) (λ marks own. put_who-other m.in_hand (who s) (Some w) (who own.state) (marker_apart m shapes inv s held plain j marks own))
+      (λ d own. put_who-other m.in_hand (who s) (Some w) (who own.state) (owner_apart m shapes inv s held plain j sh d own)) (λ marks stand own. put_who-other m.in_hand (who s) (Some w) (who own.state) (marker_apart m shapes inv s held plain j marks own))
       (λ active d own. put_who-other m.in_hand (who s) (Some w) (who own.state) (holder_apart m shapes inv s held plain j active d own)) (λ d own. put_who-other m.in_hand (who s) (Some w) (who own.state) (maker_apart m shapes inv s held plain j d own)) maker was
 
   -- the new one is as it was created

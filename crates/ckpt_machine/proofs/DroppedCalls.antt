@@ -38,8 +38,8 @@ module _ (m : Machine) (shapes : ℕ → Shape) (inv : InvariantIn shapes m) whe
     owner_stays : (k : ℕ) (sh : Shape) (d : CallId) (own : IsOwner m k sh d) → (without_those gone m).in_hand (who own.state) ≡ m.in_hand (who own.state)
     owner_stays k sh d own = stays (who own.state) own.state own.in_hand (ap (λ d. is_plain d own.state.snapshot) own.driver_is)
 
-    marker_stays : (k : ℕ) (marks : Marked) (own : IsMarker m k marks) → (without_those gone m).in_hand (who own.state) ≡ m.in_hand (who own.state)
-    marker_stays k marks own = stays (who own.state) own.state own.in_hand (ap (λ d. is_plain d own.state.snapshot) own.driver_is ∙ ap (λ w. not (is_some w)) own.made_is)
+    marker_stays : (k : ℕ) (sh : Shape) (marks : Marked) → sh.marks ≡ Some marks → (own : IsMarker m k marks) → (without_those gone m).in_hand (who own.state) ≡ m.in_hand (who own.state)
+    marker_stays k sh marks stand own = stays (who own.state) own.state own.in_hand (ap (λ d. is_plain d own.state.snapshot) own.driver_is ∙ ap (λ w. not (is_some w)) own.made_is)
 
     holder_stays : (k : ℕ) (active : Option ℕ) (d : CallId) (own : IsHolder m k active d) → (without_those gone m).in_hand (who own.state) ≡ m.in_hand (who own.state)
     holder_stays k active d own = stays (who own.state) own.state own.in_hand (ap (λ d. is_plain d own.state.snapshot) own.driver_is ∙ ap (λ kind. is_plain_sync kind own.state.snapshot) own.kind ∙ ap not own.some)
@@ -82,7 +82,7 @@ module _ (m : Machine) (shapes : ℕ → Shape) (inv : InvariantIn shapes m) whe
     rises = inv.rises;
     up_to = inv.up_to;
     swept = inv.swept;
-    entries = λ k e found. IsGoodIn-apart m shapes m.next pending m.in_hand (lives_on-fewer m (record m { pending = pending }) shapes shapes inv (λ d. refl) refl refl (hands_still pending) (λ w z held. held)) (λ k sh d own. refl) (λ k marks own. refl) (λ k active d own. refl) (λ k d own. refl) k (shapes k) e e.making (inv.entries k e found);
+    entries = λ k e found. IsGoodIn-apart m shapes m.next pending m.in_hand (lives_on-fewer m (record m { pending = pending }) shapes shapes inv (λ d. refl) refl refl (hands_still pending) (λ w z held. held)) (λ k sh d own. refl) (λ k sh marks stand own. refl) (λ k active d own. refl) (λ k d own. refl) k (shapes k) e e.making (inv.entries k e found);
     replicas = inv.replicas;
     reserves = inv.reserves;
     handles = inv.handles;

@@ -56,7 +56,7 @@ use Rattle.ckpt_machine.proofs.Generations.{generation_there}
 use Rattle.ckpt_machine.proofs.Histories.{HasHistory, shaped_there, on_replica-there, follows, run_history}
 use Rattle.ckpt_machine.proofs.Installed.{after_install}
 use Rattle.ckpt_machine.proofs.Joining.{collocated_apart, opened_with-identity}
-use Rattle.ckpt_machine.proofs.OneReplica.{StepsOn, DeclaresAll, IsActiveOf, CanBeMarked, IsMarkedFor, Grows, committed_generation, element_generation, committed_more, no_marks_at, grows_same, update_word}
+use Rattle.ckpt_machine.proofs.OneReplica.{StepsOn, DeclaresAll, IsActiveOf, CanBeMarked, IsMarkedFor, Grows, committed_generation, element_generation, committed_more, grows_same, update_word}
 use Rattle.ckpt_machine.proofs.OptionLemmas.{IsSomeAnd-at, IsSomeAnd-from, IfSome-from, IfSome-at}
 use Rattle.ckpt_machine.proofs.OwnMaking.{making_there}
 use Rattle.ckpt_machine.proofs.Prefixes.{prefix_of_same, prefix_of_none, prefix_then}
@@ -70,6 +70,7 @@ use Rattle.ckpt_types.specs.OpWord.{stepped_as, word_of_op}
 use Rattle.ckpt_machine.specs.After.{with_closed}
 use Rattle.ckpt_machine.proofs.Whose.{put_who-cases}
 use Rattle.ckpt_machine.proofs.StaysMade.{StaysMade, StaysMade-same, StaysMade-kept, GoesOnMade, StaysMade-goes, held_made, held-identity, released_made, opened_made, MadeOn, MadeOn-swept, changed_on, filter_on, departed_on, created_for_on, retained_for_on, finished_on}
+use Rattle.ckpt_machine.proofs.MarksAt.{none_elsewhere}
 
 -- ---- snapshots in hands
 
@@ -386,7 +387,7 @@ module _ (Q : Option Entry → ℕ → ReplicaState → Type 0) (S : Entry → S
     put_apart : (k r : ℕ) (x : ReplicaState) (on : IsPutOn m k r x) → IsApart None x
     put_apart k r x on =
         let shaped = (shaped_there m inv.shapes inv.holds history.bare k r x on.entry on.there on.found).shaped in
-        subst (λ marks. IsApart marks x) (no_marks_at on.entry.active (inv.shapes k).marks r on.other) (subst (λ all. IsShapedBy all (inv.shapes k) on.entry.active r x) on.alone shaped)
+        subst (λ marks. IsApart marks x) (none_elsewhere on.entry.active (inv.shapes k).marks r on.other) (subst (λ all. IsShapedBy all (inv.shapes k) on.entry.active r x) on.alone shaped)
 
     -- a replica that takes a snapshot
     put_each : (k r : ℕ) (s : Snapshot) (x : ReplicaState) → MayHave m k s → TakesOver m k r s x → Each (record m { replicas = put2 m.replicas k r (Some (replica_from s x)) })

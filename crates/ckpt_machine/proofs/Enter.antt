@@ -41,11 +41,7 @@ use Rattle.ckpt_machine.proofs.DueStep.{Goes}
 use Rattle.ckpt_machine.proofs.StepLabels.{IsEvent-told}
 use Rattle.ckpt_machine.proofs.EntryLists.{find_key-push}
 use Rattle.ckpt_machine.proofs.NodeLists.{is_up-none}
-
--- what is not some is none
-none_of : {X : Type 0} (o : Option X) → is_some o ≡ false → o ≡ None
-none_of None is = refl
-none_of (Some x) is = absurd (cc is)
+use Rattle.ckpt_machine.proofs.OptionLemmas.{none_of}
 
 module _ (m : Machine) (shapes : ℕ → Shape) (inv : InvariantIn shapes m) (s : CallState) (r : ℕ) (held : m.in_hand (who s) ≡ Some s) (is : driver_of s ≡ drivers.Once (Enter r)) where
   abbrev c : ℕ

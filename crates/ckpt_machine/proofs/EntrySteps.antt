@@ -72,7 +72,7 @@ module _ (m : Machine) (shapes : ℕ → Shape) (inv : InvariantIn shapes m) (s 
     entries = λ j e found.
         let other = apart j e found (j == u.ckpt) refl in
         IsGoodIn-alike m (record m { in_hand = hands }) j lives (shapes j) e (λ q there. refl)
-        (λ d own. put_who-other m.in_hand (who s) None (who own.state) (owner_other j (shapes j) d own)) (λ marks own. put_who-other m.in_hand (who s) None (who own.state) (marker_other j marks own))
+        (λ d own. put_who-other m.in_hand (who s) None (who own.state) (owner_other j (shapes j) d own)) (λ marks stand own. put_who-other m.in_hand (who s) None (who own.state) (marker_other j marks own))
         (λ active d own. put_who-other m.in_hand (who s) None (who own.state) (holder_other j active d other own)) (λ d own. put_who-other m.in_hand (who s) None (who own.state) (maker_other j d own)) e.making (inv.entries j e found);
     replicas = inv.replicas;
     reserves = inv.reserves;
@@ -237,7 +237,7 @@ module _ (m : Machine) (shapes : ℕ → Shape) (inv : InvariantIn shapes m) (s 
       -- another checkpoint is as it was
       IsGoodIn-other : LivesOn m then_machine → (j : ℕ) (g : Entry) (maker : Option CallId) → (j == u.ckpt) ≡ false → IsGoodIn m j (shapes j) g maker → IsGoodIn then_machine j (shapes j) g maker
       IsGoodIn-other lives j g maker other good = IsGoodIn-alike m then_machine j lives (shapes j) g (λ q there. elsewhere j q other)
-          (λ d own. put_who-other m.in_hand (who s) o (who own.state) (owner_other j (shapes j) d own)) (λ marks own. put_who-other m.in_hand (who s) o (who own.state) (marker_other j marks own))
+          (λ d own. put_who-other m.in_hand (who s) o (who own.state) (owner_other j (shapes j) d own)) (λ marks stand own. put_who-other m.in_hand (who s) o (who own.state) (marker_other j marks own))
           (λ active d own. put_who-other m.in_hand (who s) o (who own.state) (holder_other j active d other own)) (λ d own. put_who-other m.in_hand (who s) o (who own.state) (maker_other j d own)) maker good
 
       -- another call makes what it made

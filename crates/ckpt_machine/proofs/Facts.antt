@@ -46,7 +46,6 @@ use Rattle.ckpt_machine.specs.Shape.{Shape, marks_at, IsSpread}
 use Rattle.ckpt_machine.specs.Tables.{takes_copy}
 use Rattle.section_iter.specs.Room.{room_declared}
 use Rattle.cluster_record.specs.LookUps.{declared_in}
-use Rattle.ckpt_machine.proofs.Active.{marked_free}
 use Rattle.ckpt_machine.proofs.ActiveNode.{AsksOf, by_kind as asks_of_kind, is_change, ActiveOf, active_of, active_seen, active_next-there}
 use Rattle.ckpt_machine.proofs.ActiveBy.{active_by-complete}
 use Rattle.ckpt_machine.proofs.Actors.{same_call-true, same_call-refl}
@@ -169,37 +168,34 @@ module _ (m : Machine) (shapes : ℕ → Shape) (inv : InvariantIn shapes m) (s 
 
     by_kind : (x : ActiveKind) → kind ≡ x → AsksOf s.kept.weak x (asked s.op) → MarksFit x made → (b : Bool) → IsDueReady m s driver (cond b (End (Refused NoResources (Count 8))) (unless_on_hold x at.entry.hold (unless_changed made at.entry.generation (Serve at.node (request_by call k x made)))))
     by_kind x kind_is asks fit true = tt
-    by_kind x kind_is asks fit false = by_hold at.entry.hold
+    by_kind x kind_is asks fit false = by_hold at.entry.hold refl
       where
-        by_made : (x : ActiveKind) → kind ≡ x → AsksOf s.kept.weak x (asked s.op) → (o : Option MarksMade) → made ≡ o → MarksFit x o → IsDueReady m s driver (unless_changed o at.entry.generation (Serve at.node (request_by call k x o)))
-        by_made kinds.Read kind_is asks None none fit = (at.within, seen_there (requests.Read k) refl tt, tt, tt, tt)
-        by_made kinds.Status kind_is asks None none fit = (at.within, seen_there (requests.Status k) refl tt, tt, tt, tt)
-        by_made (kinds.Iterate choice) kind_is asks None none fit = (at.within, seen_there (requests.Iterate call k choice) refl tt, tt, tt, is_starting choice asks)
-        by_made kinds.Next kind_is asks None none fit = (at.within, seen_there (requests.Next call k) refl tt, tt, tt, is_going_on asks)
-        by_made kinds.Apply kind_is asks None none fit = (at.within, seen_there (requests.Apply call k) refl (free (ap is_change kind_is)), tt, tt, tt)
-        by_made (kinds.Weak n) kind_is asks None none fit = (at.within, seen_there (requests.Mark call k) refl (free (ap is_change kind_is)), tt, tt, subst (λ a. IsWrite (update_asked a)) (sym asks.2) tt)
-        by_made (kinds.Weak n) kind_is asks (Some w) made_is fit = by_generation (w.generation == at.entry.generation)
+        -- an update is asked for only where no call holds the checkpoint
+        by_made : (x : ActiveKind) → (is_update x ≡ true → at.entry.hold ≡ None) → kind ≡ x → AsksOf s.kept.weak x (asked s.op) → (o : Option MarksMade) → made ≡ o → MarksFit x o → IsDueReady m s driver (unless_changed o at.entry.generation (Serve at.node (request_by call k x o)))
+        by_made kinds.Read free_then kind_is asks None none fit = (at.within, seen_there (requests.Read k) refl tt, tt, tt, tt)
+        by_made kinds.Status free_then kind_is asks None none fit = (at.within, seen_there (requests.Status k) refl tt, tt, tt, tt)
+        by_made (kinds.Iterate choice) free_then kind_is asks None none fit = (at.within, seen_there (requests.Iterate call k choice) refl tt, tt, tt, is_starting choice asks)
+        by_made kinds.Next free_then kind_is asks None none fit = (at.within, seen_there (requests.Next call k) refl tt, tt, tt, is_going_on asks)
+        by_made kinds.Apply free_then kind_is asks None none fit = (at.within, seen_there (requests.Apply call k) refl (free (ap is_change kind_is)), tt, tt, tt)
+        by_made (kinds.Weak n) free_then kind_is asks None none fit = (at.within, seen_there (requests.Mark call k) refl (free (ap is_change kind_is)), tt, tt, subst (λ a. IsWrite (update_asked a)) (sym asks.2) tt)
+        by_made (kinds.Weak n) free_then kind_is asks (Some w) made_is fit = by_generation (w.generation == at.entry.generation) refl
           where
-            -- no call holds a checkpoint on which its marks stand
-            free_then : at.entry.hold ≡ None
-            free_then = marked_free m shapes inv s call k held at (kinds.Weak n) w (is ∙ (λ i. drivers.Active (record { call = call; ckpt = k; kind = kind_is i; marks = made_is i }))) at.entry.hold refl
+            by_left : (w.generation == at.entry.generation) ≡ true → (b : Bool) → (w.left == 0) ≡ b → IsDueReady m s driver (Serve at.node (cond b (requests.Unmark call k) (requests.Element call k)))
+            by_left same true none = (at.within, seen_there (requests.Unmark call k) refl (marks_ready m shapes inv s call k n made held at (free_then refl) (is ∙ ap (λ x. drivers.Active (record { call = call; ckpt = k; kind = x; marks = made })) kind_is) w made_is same true none), tt, tt, tt)
+            by_left same false some = (at.within, seen_there (requests.Element call k) refl (marks_ready m shapes inv s call k n made held at (free_then refl) (is ∙ ap (λ x. drivers.Active (record { call = call; ckpt = k; kind = x; marks = made })) kind_is) w made_is same false some), tt, tt, tt)
 
-            by_left : (b : Bool) → (w.left == 0) ≡ b → IsDueReady m s driver (Serve at.node (cond b (requests.Unmark call k) (requests.Element call k)))
-            by_left true none = (at.within, seen_there (requests.Unmark call k) refl (marks_ready m shapes inv s call k n made held at free_then (is ∙ ap (λ x. drivers.Active (record { call = call; ckpt = k; kind = x; marks = made })) kind_is) w made_is true none), tt, tt, tt)
-            by_left false some = (at.within, seen_there (requests.Element call k) refl (marks_ready m shapes inv s call k n made held at free_then (is ∙ ap (λ x. drivers.Active (record { call = call; ckpt = k; kind = x; marks = made })) kind_is) w made_is false some), tt, tt, tt)
+            by_generation : (b : Bool) → (w.generation == at.entry.generation) ≡ b → IsDueReady m s driver (cond b (Serve at.node (request_by call k (kinds.Weak n) (Some w))) (End (Refused TryAgain (Generations w.generation at.entry.generation))))
+            by_generation true same = by_left same (w.left == 0) refl
+            by_generation false other = tt
+        by_made x free_then kind_is asks (Some w) made_is fit = absurd fit
 
-            by_generation : (b : Bool) → IsDueReady m s driver (cond b (Serve at.node (request_by call k (kinds.Weak n) (Some w))) (End (Refused TryAgain (Generations w.generation at.entry.generation))))
-            by_generation true = by_left (w.left == 0) refl
-            by_generation false = tt
-        by_made x kind_is asks (Some w) made_is fit = absurd fit
+        by_update : (b : Bool) → is_update x ≡ b → (o : Outcome) → IsDueReady m s driver (cond b (End o) (unless_changed made at.entry.generation (Serve at.node (request_by call k x made))))
+        by_update true updates o = tt
+        by_update false none o = by_made x (λ updates. absurd (let w : false ≡ true = sym none ∙ updates in cc w)) kind_is asks made refl fit
 
-        by_update : (b : Bool) (o : Outcome) → IsDueReady m s driver (cond b (End o) (unless_changed made at.entry.generation (Serve at.node (request_by call k x made))))
-        by_update true o = tt
-        by_update false o = by_made x kind_is asks made refl fit
-
-        by_hold : (hold : Option CallId) → IsDueReady m s driver (unless_on_hold x hold (unless_changed made at.entry.generation (Serve at.node (request_by call k x made))))
-        by_hold None = by_made x kind_is asks made refl fit
-        by_hold (Some holder) = by_update (is_update x) (Refused TryAgain (Holder holder))
+        by_hold : (hold : Option CallId) → at.entry.hold ≡ hold → IsDueReady m s driver (unless_on_hold x hold (unless_changed made at.entry.generation (Serve at.node (request_by call k x made))))
+        by_hold None free_then = by_made x (λ updates. free_then) kind_is asks made refl fit
+        by_hold (Some holder) holds = by_update (is_update x) refl (Refused TryAgain (Holder holder))
 
   active_ready : (rooms : Rooms) → IsDueReady m s driver (driver_next m.cluster rooms driver)
   active_ready rooms = by_entry (entry_of k m.cluster.entries) refl

@@ -33,7 +33,7 @@ use Rattle.ckpt_machine.specs.Dead.{is_enter}
 use Rattle.ckpt_machine.specs.Drivers.{Driver}
 use Rattle.ckpt_machine.specs.Drivers as drivers
 use Rattle.ckpt_machine.specs.Entries.{WasMade}
-use Rattle.ckpt_machine.specs.InHand.{IsInPlaceUnder, IsOnceAt, IsOpenIn, IsMakingIn, IsUpdateUnder, PhaseKeeps, IsActiveUnder, IsSyncBy, IsInHandUnder, HasServedActive, is_marked_by, are_present, is_held_by, attributes_asked}
+use Rattle.ckpt_machine.specs.InHand.{IsInPlaceUnder, IsOnceAt, IsOpenIn, IsMakingIn, IsUpdateUnder, PhaseKeeps, IsActiveIn, IsSyncBy, IsInHandUnder, HasServedActive, is_marked_by, are_present, is_held_by, attributes_asked}
 use Rattle.ckpt_machine.specs.Invariant.{InvariantUnder, IsGoodUnder}
 use Rattle.ckpt_machine.specs.Machine.{Machine, Snapshot, CallState}
 use Rattle.ckpt_machine.specs.Options.{is_weak}
@@ -306,7 +306,7 @@ module _ (failures : Bool) (m : Machine) (shapes : ℕ → Shape) (inv : Invaria
     older_then e f rises (Some marks) older = let at_most : marks.generation ≤ e.generation = older in let more : e.generation ≤ f.generation = rises in omega (arith, at_most, more)
 
     -- a call to the active
-    active_then : is_live m.cluster s.call ≡ true → (a : ActiveState) → IsActiveUnder failures m shapes s a → IsActiveUnder true n shapes_then s a
+    active_then : is_live m.cluster s.call ≡ true → (a : ActiveState) → IsActiveIn m shapes s a → IsActiveIn n shapes_then s a
     active_then live a at = record {
       call = at.call;
       kind = at.kind;
@@ -319,7 +319,7 @@ module _ (failures : Bool) (m : Machine) (shapes : ℕ → Shape) (inv : Invaria
       handle = handle_then at.handle;
       marks = λ f found. (let it = was_entry a.ckpt f found in ap (λ (z : Shape). is_marked_by s.call z.marks) it.shape ∙ by_active f it (is_active it.e.active r) refl);
       generation = λ f found. (let it = was_entry a.ckpt f found in older_then it.e f (failed_rises (counts it.e.identity) goes r it.e f it.left) a.marks (at.generation it.e it.was));
-      present = λ none. absurd (cc none);
+      made_by = at.made_by;
     }
       where
         by_active : (f : Entry) (it : WasEntry a.ckpt f) (b : Bool) → is_active it.e.active r ≡ b → is_marked_by s.call (cond (is_active it.e.active r) None (marks_left R (shapes a.ckpt).marks)) ≡ are_present f a.marks

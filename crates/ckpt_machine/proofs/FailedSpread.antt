@@ -15,11 +15,11 @@ use Rattle.cluster_record.specs.Placement.{is_all, is_collocated}
 use Rattle.cluster_record.specs.RecordState.{RecordState, entry_of, complete_of, first_complete, is_active, is_live}
 use Rattle.weak_marks.specs.Marks.{Marked}
 use Rattle.ckpt_machine.specs.Dead.{IsDead, is_enter}
-use Rattle.ckpt_machine.specs.InHand.{IsInPlaceUnder, IsUpdateUnder, IsActiveUnder, IsSyncBy, IsSettingIn, active_kind}
+use Rattle.ckpt_machine.specs.InHand.{IsInPlaceUnder, IsUpdateUnder, IsActiveIn, IsSyncBy, IsSettingIn, active_kind}
 use Rattle.ckpt_machine.specs.Invariant.{InvariantUnder, IsGoodUnder, IsOfGeneration}
 use Rattle.ckpt_machine.specs.Machine.{Machine, ReplicaState, who}
 use Rattle.ckpt_machine.specs.Propagation.{on_node, copied}
-use Rattle.ckpt_machine.specs.Shape.{Shape, IsCompleteOn, IsShapedBy, IsOwner, IsLeft, IsMarker, IsHolder, IsOnHoldUnder, IsSpreadUnder, IsActiveBy, PhaseFits, marks_at}
+use Rattle.ckpt_machine.specs.Shape.{Shape, IsCompleteOn, IsShapedBy, IsOwner, IsLeft, IsMarker, IsHolder, IsOnHold, IsSpreadUnder, IsActiveBy, PhaseFits, marks_at}
 use Rattle.ckpt_machine.specs.Failing.{is_of_node, enters_on, failed_at, replica_left}
 use Rattle.ckpt_machine.specs.After.{replica_under, replicas_under, opened_state}
 use Rattle.ckpt_machine.specs.Due.{driver_of}
@@ -168,7 +168,7 @@ module _ (failures : Bool) (m : Machine) (shapes : ℕ → Shape) (inv : Invaria
   marker_then : (marks : Marked) → is_live R marks.call ≡ true → IsMarker m k marks → IsMarker n k marks
   marker_then marks live own =
       let hand = inv.hands (who own.state) own.state own.in_hand in
-      let at : IsActiveUnder failures m shapes own.state own.driver = subst (IsInPlaceUnder failures m shapes own.state) own.driver_is hand.here in
+      let at : IsActiveIn m shapes own.state own.driver = subst (IsInPlaceUnder failures m shapes own.state) own.driver_is hand.here in
       let stays = live_left failures m shapes inv r own.state hand.client (ap (is_live R) own.call_is ∙ live) in
       record {
         state = own.state;
@@ -219,7 +219,7 @@ module _ (failures : Bool) (m : Machine) (shapes : ℕ → Shape) (inv : Invaria
       same_generation false x same = refl
 
   -- the holder is in hand still, and has what the active has
-  holder_then : (d : CallId) → f.hold ≡ Some d → IsOnHoldUnder true n k sh f d
+  holder_then : (d : CallId) → f.hold ≡ Some d → IsOnHold n k sh f d
   holder_then d holds =
       let (held, others) = hold_was d holds in
       let on = spread.held d held in
@@ -230,7 +230,6 @@ module _ (failures : Bool) (m : Machine) (shapes : ℕ → Shape) (inv : Invaria
       let stays : is_of_node m.cluster r own.state.call.actor ≡ false = of_node_client m.cluster r own.state.call.actor hand.client ∙ sym (of_those (goes_with_node m.cluster r) own.state.call hand.client) ∙ ap (λ c. is_of_those (goes_with_node m.cluster r) (Some c)) own.call_is ∙ others in
       record {
         collocated = ap is_collocated left.attributes ∙ on.collocated;
-        led = λ none. absurd (cc none);
         unmarked = none_left R r e.active z on.unmarked;
         holder = record {
           state = own.state;
@@ -246,7 +245,7 @@ module _ (failures : Bool) (m : Machine) (shapes : ℕ → Shape) (inv : Invaria
         };
       }
     where
-      by_test : (on : IsOnHoldUnder failures m k z e d) (own : IsHolder m k e.active d) → IsSome f.active → (b : Bool) → is_active e.active r ≡ b → own.state.snapshot ≡ option_map copied (on_node (n.replicas k) f.active)
+      by_test : (on : IsOnHold m k z e d) (own : IsHolder m k e.active d) → IsSome f.active → (b : Bool) → is_active e.active r ≡ b → own.state.snapshot ≡ option_map copied (on_node (n.replicas k) f.active)
       by_test on own led true gone = absurd (let none : f.active ≡ None = (left.gone gone).0 ∙ ap (λ b. cond b None (cond (is_all e.attributes) (first_complete 0 f.complete) (most_updated counts 0 f.complete))) on.collocated in let w : false ≡ true = ap is_some (sym none) ∙ led in cc w)
       by_test on own led false stays =
           own.copies (ap is_some (sym (same_active stays)) ∙ led)

@@ -122,7 +122,7 @@ module _ (m : Machine) (shapes : ℕ → Shape) (inv : InvariantIn shapes m) (s 
       ∙ (λ i. cond (there i) None (cond (there i) (Some (opened_state g)) (m.replicas j r)))
 
   IsGoodIn-then : LivesOn m then_machine → (j : ℕ) (sh : Shape) (g : Entry) (maker : Option CallId) → (j == making.ckpt) ≡ false → entry_of j m.cluster.entries ≡ Some g → IsGoodIn m j sh g maker → IsGoodIn then_machine j sh g maker
-  IsGoodIn-then lives j sh g maker other was good = IsGoodIn-alike m then_machine j lives sh g (λ r there. replica_other j r g other was there) (owner_stays j sh) (marker_stays j) (holder_stays j) (λ d own. maker_stays j d other own) maker good
+  IsGoodIn-then lives j sh g maker other was good = IsGoodIn-alike m then_machine j lives sh g (λ r there. replica_other j r g other was there) (owner_stays j sh) (λ marks stand own. marker_stays j marks own) (holder_stays j) (λ d own. maker_stays j d other own) maker good
 
   -- ---- the checkpoint that is made
 

@@ -26,6 +26,14 @@ among_filtered q (y ∷ ys) x among = elim (q y) as (λ b. Contains (cond b (y �
   | false ↦ λ among. among_others y ys x (among_filtered q ys x among)
 ] among
 
+-- what is left passes
+pub passes_filtered : {X : Type 0} (q : X → Bool) (xs : List X) (x : X) → Contains (filter q xs) x → q x ≡ true
+passes_filtered q [] x among = absurd (among_none x among)
+passes_filtered q (y ∷ ys) x among = elim (q y) as (λ b. q y ≡ b → Contains (cond b (y ∷ filter q ys) (filter q ys)) x → q x ≡ true) [
+  | true ↦ λ passes among. elim (Contains-cases y (filter q ys) x among) [ inl here ↦ ap q (sym here) ∙ passes | inr there ↦ passes_filtered q ys x there ]
+  | false ↦ λ fails among. passes_filtered q ys x among
+] refl among
+
 pub among_dropped : {X : Type 0} (n : ℕ) (xs : List X) (x : X) → Contains (drop n xs) x → Contains xs x
 among_dropped zero xs x among = among
 among_dropped (suc n) [] x among = among

@@ -125,6 +125,7 @@ pub mod ActiveAhead
 pub mod EffectsTell
 pub mod OnlyAsked
 pub mod OwnersInHand
+pub mod UnderWay
 pub mod SameClients
 pub mod SettingHeld
 pub mod ActivesSet
@@ -141,6 +142,7 @@ pub mod FailedActive
 pub mod FailedShape
 pub mod FailedSpread
 pub mod FailedHands
+pub mod FailureApart
 pub mod FailureLaw
 pub mod FailureExamples
 pub mod Asking

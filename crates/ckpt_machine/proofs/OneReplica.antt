@@ -108,14 +108,6 @@ committed_more (Some e) x = by_slot x.slot
     by_slot None = prefix_same x.effects
     by_slot (Some slot) = (effect_of slot ∷ [], refl)
 
--- no marks stand on a node that is not the active
-pub no_marks_at : (active : Option ℕ) (marks : Option Marked) (r : ℕ) → is_active active r ≡ false → marks_at active marks r ≡ None
-no_marks_at None marks r other = refl
-no_marks_at (Some active) marks r other = elim (r == active) as (λ b. (r == active) ≡ b → cond b marks None ≡ None) [
-  | true ↦ λ is. absurd (not_active (Some active) r other (ap Some (sym (eqb-true r active is))))
-  | false ↦ λ is. refl
-] refl
-
 -- where its effects and its generation stay
 pub grows_same : (m : Machine) (k r : ℕ) (x y : ReplicaState) → y.effects ≡ x.effects → y.generation ≡ x.generation → Grows m k r x y
 grows_same m k r x y same generation = record { generation = generation; more = prefix_of_same x.effects y.effects same; other = λ e found alone. inr same }

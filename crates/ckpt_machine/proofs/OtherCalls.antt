@@ -258,7 +258,7 @@ module _ (m n : Machine) (shapes then_shapes : ℕ → Shape) (z : CallState) (a
         let (e, was, look) = alike.later a.ckpt at.made f is in
         alike.marks a.ckpt at.made ∙ marks_alike (shapes a.ckpt).marks e f look a.marks (at.marks e was) (at.generation e was));
     generation = λ f is. let (e, was, look) = alike.later a.ckpt at.made f is in generation_alike (shapes a.ckpt).marks e f look a.marks (at.generation e was);
-    present = λ none f is. let (e, was, look) = alike.later a.ckpt at.made f is in present_alike (shapes a.ckpt).marks e f look a.marks (at.marks e was) (at.present none e was);
+    made_by = at.made_by;
   }
     where
       -- marks that it has made stand where they are of the present generation, which stays with them
@@ -280,10 +280,6 @@ module _ (m n : Machine) (shapes then_shapes : ℕ → Shape) (z : CallState) (a
       generation_alike : (stand : Option Marked) (e f : Entry) → LooksLater z stand e f → (o : Option MarksMade) → IfSome o (λ marks. marks.generation ≤ e.generation) → IfSome o (λ marks. marks.generation ≤ f.generation)
       generation_alike stand e f look None within = tt
       generation_alike stand e f look (Some made) within = let rises : e.generation ≤ f.generation = look.rises in let at_most : made.generation ≤ e.generation = within in omega (arith, rises, at_most)
-
-      present_alike : (stand : Option Marked) (e f : Entry) → LooksLater z stand e f → (o : Option MarksMade) → is_marked_by z.call stand ≡ are_present e o → IfSome o (λ marks. marks.generation ≡ e.generation) → IfSome o (λ marks. marks.generation ≡ f.generation)
-      present_alike stand e f look None own was = tt
-      present_alike stand e f look (Some made) own was = was ∙ sym (look.generation (own ∙ eq-eqb made.generation e.generation was))
   IsIn-alike (drivers.Sync u) at = IsSync-alike u u.kind at
 
   -- and all holds of it that did
@@ -336,8 +332,8 @@ module _ (m n : Machine) (k : ℕ) where
   abbrev pub OwnersStay : Shape → Type 0
   OwnersStay sh = (d : CallId) (own : IsOwner m k sh d) → n.in_hand (who own.state) ≡ m.in_hand (who own.state)
 
-  abbrev pub MarkersStay : Type 0
-  MarkersStay = (marks : Marked) (own : IsMarker m k marks) → n.in_hand (who own.state) ≡ m.in_hand (who own.state)
+  abbrev pub MarkersStay : Shape → Type 0
+  MarkersStay sh = (marks : Marked) → sh.marks ≡ Some marks → (own : IsMarker m k marks) → n.in_hand (who own.state) ≡ m.in_hand (who own.state)
 
   abbrev pub HoldersStay : Type 0
   HoldersStay = (active : Option ℕ) (d : CallId) (own : IsHolder m k active d) → n.in_hand (who own.state) ≡ m.in_hand (who own.state)
@@ -347,7 +343,7 @@ module _ (m n : Machine) (k : ℕ) where
 
   -- the checkpoint is as it was, where its replicas stay, a node on which it is complete now has the opening one, and those who own its slots, have marks on it, hold it or are making it stay
   pub IsGoodIn-later : LivesOn m n → (sh : Shape) (e f : Entry) → IsLaterEntry m.cluster.up e f → ((r : ℕ) → IsCompleteOn e r → n.replicas k r ≡ m.replicas k r) → ((r : ℕ) → (slice_index e.complete r == 0) ≡ true → IsCompleteOn f r → n.replicas k r ≡ Some (opened_state f))
-      → OwnersStay sh → MarkersStay → HoldersStay → MakersStay
+      → OwnersStay sh → MarkersStay sh → HoldersStay → MakersStay
       → (maker : Option CallId) → (IsSome maker → f.complete ≡ e.complete) → IsGoodIn m k sh e maker → IsGoodIn n k sh f maker
   IsGoodIn-later lives sh e f later replicas joins owners markers holders makers None unmade was = record {
     nodes = later.nodes ∙ was.nodes;
@@ -363,12 +359,11 @@ module _ (m n : Machine) (k : ℕ) where
     owned = λ r d owns. owned_alike lives sh d (owners d) (was.owned r d owns);
     live = λ none r d owns. let own = owner_in m k sh d (was.owned r d owns) (was.live none r d owns) in lives.owners k sh d (IsOwner-alike lives sh d own (owners d own));
     led = λ marks is. ap is_some later.active ∙ was.led marks is;
-    marked = λ marks is. let own = was.marked marks is in IsMarker-alike marks own (markers marks own);
+    marked = λ marks is. let own = was.marked marks is in IsMarker-alike marks own (markers marks is own);
     held = λ d is. (
         let own = was.held d (sym later.hold ∙ is) in
         record {
           collocated = ap is_collocated later.attributes ∙ own.collocated;
-          led = λ none. ap is_some later.active ∙ own.led none;
           unmarked = own.unmarked;
           holder = subst (λ active. IsHolder n k active d) (sym later.active) (IsHolder-alike e.active d own.holder (holders e.active d own.holder) (active_stays e replicas was.active));
         });
@@ -405,7 +400,7 @@ module _ (m n : Machine) (k : ℕ) where
   )
 
   -- the checkpoint is as it was, where its entry and its replicas are and where those who own its slots, have marks on it, hold it or are making it stay
-  pub IsGoodIn-alike : LivesOn m n → (sh : Shape) (e : Entry) → ((r : ℕ) → IsCompleteOn e r → n.replicas k r ≡ m.replicas k r) → OwnersStay sh → MarkersStay → HoldersStay → MakersStay
+  pub IsGoodIn-alike : LivesOn m n → (sh : Shape) (e : Entry) → ((r : ℕ) → IsCompleteOn e r → n.replicas k r ≡ m.replicas k r) → OwnersStay sh → MarkersStay sh → HoldersStay → MakersStay
       → (maker : Option CallId) → IsGoodIn m k sh e maker → IsGoodIn n k sh e maker
   IsGoodIn-alike lives sh e replicas owners markers holders makers maker was = IsGoodIn-later lives sh e e (IsLaterEntry-refl m.cluster.up e) replicas (λ r none there. absurd (let w : true ≡ false = sym none ∙ there in cc w)) owners markers holders makers maker (λ some. refl) was
 
@@ -434,6 +429,6 @@ module _ (m : Machine) (shapes : ℕ → Shape) (next : ActorName → ℕ) (pend
   IsIn-apart z d at = IsIn-alike m with_hands shapes shapes z (looks_apart z) d at
 
   -- a checkpoint is as it was, where those who own its slots, have marks on it, hold it or are making it stay
-  pub IsGoodIn-apart : LivesOn m with_hands → ((k : ℕ) (sh : Shape) → OwnersStay m with_hands k sh) → ((k : ℕ) → MarkersStay m with_hands k) → ((k : ℕ) → HoldersStay m with_hands k) → ((k : ℕ) → MakersStay m with_hands k)
+  pub IsGoodIn-apart : LivesOn m with_hands → ((k : ℕ) (sh : Shape) → OwnersStay m with_hands k sh) → ((k : ℕ) (sh : Shape) → MarkersStay m with_hands k sh) → ((k : ℕ) → HoldersStay m with_hands k) → ((k : ℕ) → MakersStay m with_hands k)
       → (k : ℕ) (sh : Shape) (e : Entry) (maker : Option CallId) → IsGoodIn m k sh e maker → IsGoodIn with_hands k sh e maker
-  IsGoodIn-apart lives owners markers holders makers k sh e maker was = IsGoodIn-alike m with_hands k lives sh e (λ r there. refl) (owners k sh) (markers k) (holders k) (makers k) maker was
+  IsGoodIn-apart lives owners markers holders makers k sh e maker was = IsGoodIn-alike m with_hands k lives sh e (λ r there. refl) (owners k sh) (markers k sh) (holders k) (makers k) maker was

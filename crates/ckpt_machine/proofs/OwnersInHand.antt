@@ -1,7 +1,10 @@
 -- Each slot, each mark, each making and each hold is of a call in hand.
 use Rattle.std.proofs.Common.{◌≡◌, ℕ, Option, Some, None, refl, sym, subst, ◌∙◌}
-use Rattle.std.specs.Prelude.{IsSome, IsSomeAnd}
+use Rattle.std.specs.Prelude.{IsSome, IsSomeAnd, Contains}
+use Rattle.ckpt_types.specs.declared.identities.ActorName.{ActorName}
 use Rattle.ckpt_types.specs.declared.identities.CallId.{CallId}
+use Rattle.call_dispatch.specs.declared.async_call.AsyncCall.{AsyncCall}
+use Rattle.call_dispatch.specs.PendingCalls.{PendingCalls}
 use Rattle.cluster_record.specs.declared.entries.Entry.{Entry}
 use Rattle.cluster_record.specs.RecordState.{entry_of}
 use Rattle.ckpt_machine.specs.Invariant.{IsMaker, IsGoodIn, Invariant}
@@ -13,8 +16,9 @@ use Rattle.ckpt_machine.specs.Shape.{Shape, IsOwner, IsMarker, IsHolder}
 use Rattle.ckpt_machine.proofs.Histories.{HasHistory, slot_owned, marks_owned, run_history}
 use Rattle.ckpt_machine.proofs.OptionLemmas.{IsSomeAnd-at, IsSomeAnd-from}
 use Rattle.ckpt_machine.proofs.Runs.{run_front}
+use Rattle.ckpt_machine.proofs.UnderWay.{under_way_held}
 
-module _ (m : Machine) (inv : Invariant m) (history : HasHistory m) where
+module _ (m : Machine) (inv : Invariant m) (history : HasHistory m) (under_way : (a : ActorName) (c : AsyncCall) → Contains (m.pending a).unfinished c → IsCallInHand m c.call) where
   -- each of them has its call in hand
   owner_held : (k : ℕ) (sh : Shape) (call : CallId) → IsOwner m k sh call → IsCallInHand m call
   owner_held k sh call by = record { name = who by.state; state = by.state; in_hand = by.in_hand; call_is = by.call_is }
@@ -52,8 +56,12 @@ module _ (m : Machine) (inv : Invariant m) (history : HasHistory m) where
     makes = makes;
     holds = holds;
     reserves = reserves;
+    under_way = under_way;
   }
 
 -- THE LAW: after each front of a run
 pub owners_in_hand : OfEachRun OwnersInHandThroughout
-owners_in_hand log run front back is = let (inv, history) = run_history front (run_front log front back is run) in in_hand (last front) inv history
+owners_in_hand log run front back is =
+    let there = run_front log front back is run in
+    let (inv, history) = run_history front there in
+    in_hand (last front) inv history (under_way_held front there)

@@ -165,7 +165,7 @@ module _ (m : Machine) (shapes : ℕ → Shape) (inv : InvariantIn shapes m) (s 
     up_to = inv.up_to;
     swept = inv.swept;
     entries = λ k e found. IsGoodIn-apart m shapes m.next m.pending (put_who m.in_hand (who s) o) lives
-        (λ k sh d own. put_who-other m.in_hand (who s) o (who own.state) (owner_apart k sh d own)) (λ k marks own. put_who-other m.in_hand (who s) o (who own.state) (marker_apart k marks own)) (λ k active d own. put_who-other m.in_hand (who s) o (who own.state) (holder_apart k active d own)) (λ k d own. put_who-other m.in_hand (who s) o (who own.state) (maker_apart k d own))
+        (λ k sh d own. put_who-other m.in_hand (who s) o (who own.state) (owner_apart k sh d own)) (λ k sh marks stand own. put_who-other m.in_hand (who s) o (who own.state) (marker_apart k marks own)) (λ k active d own. put_who-other m.in_hand (who s) o (who own.state) (holder_apart k active d own)) (λ k d own. put_who-other m.in_hand (who s) o (who own.state) (maker_apart k d own))
         k (shapes k) e e.making (inv.entries k e found);
     replicas = inv.replicas;
     reserves = inv.reserves;

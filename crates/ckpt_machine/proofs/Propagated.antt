@@ -115,7 +115,7 @@ module _ (m : Machine) (shapes : ℕ → Shape) (inv : InvariantIn shapes m) (f 
     live = good.live;
     led = good.led;
     marked = λ marks is. IsMarker-alike m then_machine j marks (good.marked marks is) refl;
-    held = λ d is. (let own = good.held d is in record { collocated = own.collocated; led = own.led; unmarked = own.unmarked; holder = IsHolder-alike m then_machine j e.active d own.holder refl (active_same e.active refl) });
+    held = λ d is. (let own = good.held d is in record { collocated = own.collocated; unmarked = own.unmarked; holder = IsHolder-alike m then_machine j e.active d own.holder refl (active_same e.active refl) });
   }
     where
       -- the replica of its active is the one that was

@@ -70,7 +70,7 @@ module _ (m : Machine) (shapes : ℕ → Shape) (inv : InvariantIn shapes m) (R 
   }
 
   IsGoodIn-kept : (k : ℕ) (sh : Shape) (e f : Entry) (maker : Option CallId) → entry_of k m.cluster.entries ≡ Some e → entry_of k R.entries ≡ Some f → IsLaterEntry m.cluster.up e f → (IsSome maker → f.complete ≡ e.complete) → IsGoodIn m k sh e maker → IsGoodIn then_machine k sh f maker
-  IsGoodIn-kept k sh e f maker was is later unmade good = IsGoodIn-later m then_machine k lives sh e f later (λ r there. replica_by k r e f false was is (later.grows r there) there) (λ r none there. replica_by k r e f true was is there none) (after_it.owners k sh) (λ marks own. after_it.markers k marks (subst (λ o. IsSome o) (sym is) refl) own) (λ active d own. after_it.holders k active d (subst (λ o. IsSome o) (sym is) refl) own) (λ d own. after_it.makers k d (subst (λ o. IsSome o) (sym is) refl) own) maker unmade good
+  IsGoodIn-kept k sh e f maker was is later unmade good = IsGoodIn-later m then_machine k lives sh e f later (λ r there. replica_by k r e f false was is (later.grows r there) there) (λ r none there. replica_by k r e f true was is there none) (after_it.owners k sh) (λ marks stand own. after_it.markers k marks (subst (λ o. IsSome o) (sym is) refl) own) (λ active d own. after_it.holders k active d (subst (λ o. IsSome o) (sym is) refl) own) (λ d own. after_it.makers k d (subst (λ o. IsSome o) (sym is) refl) own) maker unmade good
 
   -- ---- where a call is
 

@@ -51,6 +51,7 @@ use Rattle.call_dispatch.specs.PendingCalls.{PendingCalls, ended_in}
 use Rattle.client_handles.specs.declared.handle_view.HandleView.{HandleView}
 use Rattle.ckpt_types.specs.OpWord.{word_of_op, is_async, stepped_as}
 use Rattle.ckpt_machine.proofs.Whose.{put_who-other, put_who-here}
+use Rattle.ckpt_machine.proofs.ByActor.{put_actor-same}
 
 -- ---- what is not so
 
@@ -273,13 +274,6 @@ refusal_ends_none (Some NoMemory) ask p t refused = refl
 refusal_ends_none (Some o) ask p t refused = absurd refused
 refusal_ends_none None ask p t refused = absurd refused
 
--- what is put there where it is already changes nothing
-put_same : {X : Type 0} (f : ActorName → X) (a : ActorName) (t : X) → t ≡ f a → (b : ActorName) → put_actor f a t b ≡ f b
-put_same f a t same b = elim (same_actor b a) as (λ is. same_actor b a ≡ is → cond is t (f b) ≡ f b) [
-  | true ↦ λ is. same ∙ ap f (sym (same_actor-true b a is))
-  | false ↦ λ is. refl
-] refl
-
 -- where the call that steps is the one in hand
 leaves_at : (m : Machine) (call : CallId) (op : OpWord) (verb : Verb) (k r : Option ℕ) (reply : StepReply) (end : Option Outcome) (P : CallId → OpWord → Machine → Type 0) (s : CallState) → m.in_hand (stepped_as call op) ≡ Some s → s.call ≡ call → word_of_op s.op ≡ op
     → P s.call (word_of_op s.op) (stepped_behind m s verb k r reply end) → P call op (step_of m (m.in_hand (stepped_as call op)) verb k r reply end)
@@ -305,8 +299,8 @@ refusal_leaves m (labels.Began call op end details) allowed refused = record {
   replicas = λ k r. refl;
   reserved = λ k r. refl;
   snapshots = λ k. refl;
-  tables = put_same m.tables call.actor _ (refusal_ends_none end (asked op) (m.pending call.actor) (m.tables call.actor) refused);
-  pending = put_same m.pending call.actor _ (begins_no_other end call op (asked_handle m call.actor op) (m.pending call.actor) refused);
+  tables = put_actor-same m.tables call.actor _ (refusal_ends_none end (asked op) (m.pending call.actor) (m.tables call.actor) refused);
+  pending = put_actor-same m.pending call.actor _ (begins_no_other end call op (asked_handle m call.actor op) (m.pending call.actor) refused);
   next = λ a. refl;
   others = λ w other. put_who-other m.in_hand (stepped_as call (word_of_op op)) _ w other;
   ended = put_who-here m.in_hand (stepped_as call (word_of_op op)) _ ∙ none_begun end call op _ refused;

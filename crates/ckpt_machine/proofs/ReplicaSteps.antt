@@ -71,7 +71,7 @@ module _ (m : Machine) (shapes : ℕ → Shape) (inv : InvariantIn shapes m) (s 
 
   IsGoodIn-other : (f : ℕ → ℕ → Option ReplicaState) (o : Option CallState) → LivesOn m (with_step f o) → StaysElsewhere f → (j : ℕ) (sh : Shape) (e : Entry) (maker : Option CallId) → (j == u.ckpt) ≡ false → IsGoodIn m j sh e maker → IsGoodIn (with_step f o) j sh e maker
   IsGoodIn-other f o lives stays j sh e maker other good = IsGoodIn-alike m (with_step f o) j lives sh e (λ q there. stays j q other)
-      (λ call own. put_who-other m.in_hand (who s) o (who own.state) (other_owner j sh call other own)) (λ marks own. put_who-other m.in_hand (who s) o (who own.state) (marker_other j marks own)) (λ active call own. put_who-other m.in_hand (who s) o (who own.state) (holder_other j active call own)) (λ call own. put_who-other m.in_hand (who s) o (who own.state) (maker_other j call own)) maker good
+      (λ call own. put_who-other m.in_hand (who s) o (who own.state) (other_owner j sh call other own)) (λ marks stand own. put_who-other m.in_hand (who s) o (who own.state) (marker_other j marks own)) (λ active call own. put_who-other m.in_hand (who s) o (who own.state) (holder_other j active call own)) (λ call own. put_who-other m.in_hand (who s) o (who own.state) (maker_other j call own)) maker good
 
   -- ---- the other calls in hand
 

@@ -87,7 +87,7 @@ module _ (m : Machine) (shapes : ℕ → Shape) (inv : InvariantIn shapes m) (s 
     live = good.live;
     led = good.led;
     marked = λ marks is. IsMarker-then j marks (good.marked marks is);
-    held = λ d is. (let own = good.held d is in record { collocated = own.collocated; led = own.led; unmarked = own.unmarked; holder = IsHolder-then j e.active d own.holder });
+    held = λ d is. (let own = good.held d is in record { collocated = own.collocated; unmarked = own.unmarked; holder = IsHolder-then j e.active d own.holder });
   }
   IsGoodIn-then lives j sh e (Some d) good = (good.0, IsMaker-then j d good.1)
 

@@ -48,18 +48,13 @@ use Rattle.ckpt_machine.proofs.Joining.{collocated_apart}
 use Rattle.ckpt_machine.proofs.MarksAt.{marks_here, none_marked}
 use Rattle.ckpt_machine.proofs.OnComplete.{present_generation}
 use Rattle.ckpt_machine.proofs.OnTheActive.{marker_live}
-use Rattle.ckpt_machine.proofs.OptionLemmas.{IsSomeAnd-at, IsSomeAnd-from, IfSome-at}
+use Rattle.ckpt_machine.proofs.OptionLemmas.{IsSomeAnd-at, IsSomeAnd-from, IfSome-at, none_of}
 use Rattle.ckpt_machine.proofs.OtherCalls.{LooksLater, IsMarker-alike}
-use Rattle.ckpt_machine.proofs.PlainCalls.{is_plain_sync, is_plain, look_ends, look_goes, plain_ends}
+use Rattle.ckpt_machine.proofs.PlainCalls.{is_plain_sync, is_plain, holder_apart, look_ends, look_goes, plain_ends}
 use Rattle.ckpt_machine.proofs.StepLabels.{Told-is, unhindered-told, IsEvent-told}
 use Rattle.ckpt_machine.specs.Whose.{put_who}
 use Rattle.ckpt_machine.proofs.Whose.{put_who-other, put_who-here}
 use Rattle.ckpt_machine.proofs.HeldIdentity.{with_hold-identity, with_active-identity}
-
--- what is not there is none
-none_of : {X : Type 0} (o : Option X) → is_some o ≡ false → o ≡ None
-none_of None none = refl
-none_of (Some x) none = absurd (cc none)
 
 -- the generation rises where the active changes, and only there
 pub generation_under-rises : (r : ℕ) (e : Entry) → e.generation ≤ generation_under r e
@@ -138,7 +133,7 @@ module _ (m : Machine) (shapes : ℕ → Shape) (inv : InvariantIn shapes m) (s 
     other_goes : (by : CallId) → e.hold ≡ Some by → same_call by s.call ≡ false → (t : Told) → IsDone m s (End (Refused TryAgain (Holder by))) t → Goes m s (driver_of s) t
     other_goes by holds other t done =
         let plain : is_plain (driver_of s) s.snapshot ≡ true = plain_unless (ap (is_held_by s.call) holds ∙ other) in
-        look_goes m shapes inv s held plain TryAgain (Holder by) t (subst (λ ask. LookRefused m s ask TryAgain (Holder by)) (sym at_setting.asks) (held_by m shapes inv k e found made by holds s held plain at_setting.kept (λ e. Unit {0}) tt)) done
+        look_goes m shapes inv s held plain TryAgain (Holder by) t (subst (λ ask. LookRefused m s ask TryAgain (Holder by)) (sym at_setting.asks) (held_by m shapes inv k e found made by holds s held (holder_apart m shapes inv s held plain k e.active by) at_setting.kept (λ e. Unit {0}) tt)) done
 
     -- ---- it is held
 
@@ -214,7 +209,7 @@ module _ (m : Machine) (shapes : ℕ → Shape) (inv : InvariantIn shapes m) (s 
           live = spread.live;
           led = spread.led;
           marked = λ marks stand. absurd (let w : Some marks ≡ None = sym stand ∙ unmarked in cc w);
-          held = λ d holds. record { collocated = collocated; led = λ none. ap is_some active; unmarked = unmarked; holder = subst (IsHolder held_machine k e.active) (same_Some s.call d holds) holder_then };
+          held = λ d holds. record { collocated = collocated; unmarked = unmarked; holder = subst (IsHolder held_machine k e.active) (same_Some s.call d holds) holder_then };
         }
 
         looks_then : (z : CallState) → z.call ≢ s.call → LooksLater z (shapes k).marks e held_entry

@@ -49,15 +49,10 @@ use Rattle.ckpt_machine.proofs.Owning.{never_held, never_unled, is_owner-here, o
 use Rattle.ckpt_machine.proofs.OnAll.{shaped_replicas, by_shape}
 use Rattle.ckpt_machine.proofs.StagedMoment.{none_owned, moment_first, moment_later}
 use Rattle.ckpt_machine.proofs.Stage.{Stages, IfSome-more, on_complete, sections-undone, stage_row, stage_leads}
-use Rattle.ckpt_machine.proofs.Commit.{Commits, commit_row, commit_leads, commit_is}
+use Rattle.ckpt_machine.proofs.Commit.{Commits, commit_row, commit_leads, commit_is, owns_slot-by}
 pub use Rattle.ckpt_machine.proofs.DueStep.{Moves, Goes}
 use Rattle.ckpt_machine.proofs.OwnMaking.{making_is}
 use Rattle.ckpt_machine.proofs.StepLabels.{IsServed-told}
-
--- whose slot it is, by its owner
-slot_owner : (z : Shape) (call : CallId) (o : Option CallId) → owns_slot call (slot_by z o) ≡ is_owner call o
-slot_owner z call None = refl
-slot_owner z call (Some d) = refl
 
 module _ (m : Machine) (shapes : ℕ → Shape) (inv : InvariantIn shapes m) (s : CallState) (u : UpdateState) (held : m.in_hand (who s) ≡ Some s) (is : driver_of s ≡ drivers.Update u) where
   abbrev z : Shape
@@ -187,7 +182,7 @@ module _ (m : Machine) (shapes : ℕ → Shape) (inv : InvariantIn shapes m) (s 
                     free = slot;
                     none_own = on_complete m u.ckpt e found (λ y. owns_slot s.call y.slot ≡ false) (λ q there.
                         IfSome-more (m.replicas u.ckpt q) (IsShaped (shapes u.ckpt) ((shapes u.ckpt).owners q)) (λ y. owns_slot s.call y.slot ≡ false)
-                        (λ y is. ap (owns_slot s.call) is.slot ∙ slot_owner (shapes u.ckpt) s.call ((shapes u.ckpt).owners q) ∙ sym (owns_at q there) ∙ last_having-None 0 e.complete u.owned same_length none q) (shaped_replicas m u.ckpt (shapes u.ckpt) e was (all_is m shapes inv s u held is e found) q there));
+                        (λ y is. ap (owns_slot s.call) is.slot ∙ owns_slot-by (shapes u.ckpt) s.call ((shapes u.ckpt).owners q) ∙ sym (owns_at q there) ∙ last_having-None 0 e.complete u.owned same_length none q) (shaped_replicas m u.ckpt (shapes u.ckpt) e was (all_is m shapes inv s u held is e found) q there));
                     why = why;
                     refused = ap (λ l. outcome e.attributes (update_of s.op) (kept_moment l m.cluster.moment u.moment) x.sections) (sym none) ∙ gives;
                     answer = refl;

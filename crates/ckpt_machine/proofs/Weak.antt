@@ -1,5 +1,6 @@
 -- A weak write: its marks, its elements one after the other, and the end of its marks.
-use Rattle.std.proofs.Common.{◌≡◌, ◌≢◌, ℕ, zero, suc, ◌+◌, ◌-◌, ◌<◌, ◌≤◌, List, ◌∷◌, length, Option, Some, None, Result, Ok, Err, Bool, true, false, cond, not, ◌==◌, refl, sym, ap, subst, ◌∙◌, arith}
+use Rattle.std.proofs.Common.{◌≡◌, ◌≢◌, ℕ, zero, suc, ◌+◌, ◌-◌, ◌<◌, ◌≤◌, List, ◌∷◌, length, Option, Some, None, Result, Ok, Err, Bool, true, false, cond, not, ◌||◌, ◌==◌, refl, sym, ap, subst, ◌∙◌, arith}
+use Rattle.std.specs.List.{list_any}
 use Rattle.std.specs.Prelude.{IsOk, IsSomeAnd, IfSome}
 use Rattle.std.proofs.lemmas.Bool.{lt-ltb, le-ltb, eqb-true, eq-eqb}
 use Rattle.std.proofs.lemmas.Option.{same_Some}
@@ -32,7 +33,7 @@ use Rattle.node_core.specs.Seen.{record_seen}
 use Rattle.node_core.specs.Serving.{reply_at, reply_unless, details_at}
 use Rattle.ckpt_machine.specs.Drivers as drivers
 use Rattle.ckpt_machine.specs.Driving.{driver_taken}
-use Rattle.ckpt_machine.specs.ActiveGuards.{AreMarksOf}
+use Rattle.ckpt_machine.specs.ActiveGuards.{AreMarksOf, marks_in, HasMarkedIn}
 use Rattle.ckpt_machine.specs.InHand.{are_present, is_enter, is_marked_by, MarksFit, IsInPlace, IsActiveIn, IsInHand}
 use Rattle.ckpt_machine.specs.Invariant.{InvariantIn, Invariant}
 use Rattle.ckpt_machine.specs.Left.{steps_left}
@@ -91,7 +92,7 @@ module _ (m : Machine) (shapes : ℕ → Shape) (inv : InvariantIn shapes m) (s 
   then_state verb = record s { steps = done verb ∷ s.steps }
 
   module _ (verb : Verb) (y : ReplicaState) (marks : Marked) (w : MarksMade) (y_generation : y.generation ≡ at.entry.generation) (y_free : y.slot ≡ None) (y_marks : y.marks ≡ Some marks) (own : marks.call ≡ s.call) (update : marks.update ≡ update_of s.op)
-      (left : marks.done + w.left ≡ length (elements_in marks.update)) (few : w.left ≤ n) (generation : w.generation ≡ at.entry.generation) (takes : driver_taken (done verb) (driver_of s) ≡ drivers.Active (driving (Some w)))
+      (left : marks.done + w.left ≡ length (elements_in marks.update)) (few : w.left ≤ n) (generation : w.generation ≡ at.entry.generation) (marked : HasMarkedIn (then_state verb) w.generation) (takes : driver_taken (done verb) (driver_of s) ≡ drivers.Active (driving (Some w)))
       (others : (d : CallId) → d ≢ s.call → is_marked_by d (shapes k).marks ≡ false) where
     abbrev then_machine : Machine
     then_machine = record m { replicas = put2 m.replicas k at.node (Some y); in_hand = put_who m.in_hand (who s) (Some (then_state verb)) }
@@ -137,7 +138,7 @@ module _ (m : Machine) (shapes : ℕ → Shape) (inv : InvariantIn shapes m) (s 
       handle = its.handle;
       marks = λ e found. ap (λ (sh : Shape). is_marked_by s.call sh.marks) shape_then ∙ ap (λ c. same_call c s.call) own ∙ same_call-refl s.call ∙ sym (eq-eqb w.generation e.generation (present_then e found));
       generation = λ e found. let present = present_then e found in omega (arith, present);
-      present = λ none. present_then;
+      made_by = marked;
     }
 
     goes_on_keeps : Invariant then_machine
@@ -168,8 +169,8 @@ module _ (m : Machine) (shapes : ℕ → Shape) (inv : InvariantIn shapes m) (s 
     update : marks.update ≡ update_of s.op
     left : marks.done + w.left ≡ length (elements_in marks.update)
 
-  own_marks : (w : MarksMade) → made ≡ Some w → OwnMarks w
-  own_marks w made_is = by_marks (shapes k).marks refl (its.marks at.entry at.found ∙ ap (are_present at.entry) made_is ∙ eq-eqb w.generation at.entry.generation (subst (λ o. IfSome o (λ (v : MarksMade). v.generation ≡ at.entry.generation)) made_is (its.present refl at.entry at.found)))
+  own_marks : (w : MarksMade) → made ≡ Some w → (w.generation == at.entry.generation) ≡ true → OwnMarks w
+  own_marks w made_is present = by_marks (shapes k).marks refl (its.marks at.entry at.found ∙ ap (are_present at.entry) made_is ∙ present)
     where
       by_marks : (o : Option Marked) → (shapes k).marks ≡ o → is_marked_by s.call o ≡ true → OwnMarks w
       by_marks None none of_it = absurd (cc of_it)
@@ -222,7 +223,7 @@ module _ (m : Machine) (shapes : ℕ → Shape) (inv : InvariantIn shapes m) (s 
     mark_takes = ap (driver_taken (done verbs.Mark)) is ∙ ap (λ o. drivers.Active (driving (Some (record { generation = generation_in o; left = n })))) at.found
 
     holds_marked : (shapes k).marks ≡ None → Invariant (record m { replicas = put2 m.replicas k at.node (Some marked); in_hand = put_who m.in_hand (who s) (Some (then_state verbs.Mark)) })
-    holds_marked unmarked = goes_on_keeps verbs.Mark marked new_marks new_made at.generation free refl refl refl (let e = elements_are in omega (arith, e)) (omega arith) refl mark_takes (λ d other. ap (is_marked_by d) unmarked)
+    holds_marked unmarked = goes_on_keeps verbs.Mark marked new_marks new_made at.generation free refl refl refl (let e = elements_are in omega (arith, e)) (omega arith) refl (ap (λ b. b || list_any (marks_in at.entry.generation) s.steps) (eq-eqb (generation_in (entry_of k m.cluster.entries)) at.entry.generation (ap generation_in at.found))) mark_takes (λ d other. ap (is_marked_by d) unmarked)
 
     mark_by : (t : Told) → IsServed m s at.node to_mark t → (o : Option Marked) → (shapes k).marks ≡ o → (r : Result (List Section) Refusal) → Gives r → Goes m s (driver_of s) t
     mark_by t served None stand (Ok sections) gives = subst (Goes m s (driver_of s)) (sym (IsServed-told m s at.node to_mark t _ (replies.Done answers.Nothing) served is (answered t served None (Ok sections) stand gives))) (record {
@@ -254,11 +255,11 @@ module _ (m : Machine) (shapes : ℕ → Shape) (inv : InvariantIn shapes m) (s 
     pub mark_goes : (t : Told) → IsServed m s at.node to_mark t → Goes m s (driver_of s) t
     mark_goes t served = mark_by t served (shapes k).marks refl (outcome at.entry.attributes (update_of s.op) m.cluster.moment at.replica.sections) refl
 
-  -- ---- an element, and the end
+  -- ---- an element, and the end, where they are of the present generation
 
-  module _ (w : MarksMade) (made_is : made ≡ Some w) where
+  module _ (w : MarksMade) (made_is : made ≡ Some w) (present : (w.generation == at.entry.generation) ≡ true) where
     abbrev its_own : OwnMarks w
-    its_own = own_marks w made_is
+    its_own = own_marks w made_is present
 
     -- they stand on the active
     stand_there : at.replica.marks ≡ Some its_own.marks
@@ -309,7 +310,7 @@ module _ (m : Machine) (shapes : ℕ → Shape) (inv : InvariantIn shapes m) (s 
       holds_written : Invariant (record m { replicas = put2 m.replicas k at.node (Some (with_next_element (entry_of k m.cluster.entries) at.replica)); in_hand = put_who m.in_hand (who s) (Some (then_state verbs.Element)) })
       holds_written = subst (λ y. Invariant (record m { replicas = put2 m.replicas k at.node (Some y); in_hand = put_who m.in_hand (who s) (Some (then_state verbs.Element)) })) (sym element_is)
           (goes_on_keeps verbs.Element written next_marks next_made at.generation free next_done its_own.own its_own.update (let l = its_own.left in let above = positive w.left left_some in omega (arith, l, above)) (let f = few_left in omega (arith, f))
-          ((subst (λ o. IfSome o (λ (v : MarksMade). v.generation ≡ at.entry.generation)) made_is (its.present refl at.entry at.found))) element_takes others_unmarked)
+          (eqb-true w.generation at.entry.generation present) (subst (λ o. IfSome o (λ (v : MarksMade). HasMarkedIn s v.generation)) made_is its.made_by) element_takes others_unmarked)
 
       element_goes : (t : Told) → IsServed m s at.node to_do t → Goes m s (driver_of s) t
       element_goes t served = subst (Goes m s (driver_of s)) (sym (IsServed-told m s at.node to_do t _ (replies.Done answers.Nothing) served is

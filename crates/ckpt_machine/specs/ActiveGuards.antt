@@ -99,6 +99,19 @@ UnmarkRow m call update k r t words.Ok =
     OnActive m update true k r (λ e x. IsSomeAnd x.marks (AreMarksOf call update false)) × (t.end ≡ Some (Done answers.Nothing)) × (t.details ≡ beside.Nothing)
 UnmarkRow m call update k r t reply = ⊥
 
+-- the step has made the marks of a weak write
+abbrev pub is_marking : Verb → StepReply → Bool
+is_marking verbs.Mark words.Ok = true
+is_marking verb reply = false
+
+-- and this was the generation
+abbrev pub marks_in : ℕ → StepDone → Bool
+marks_in generation d = is_marking d.verb d.reply && (d.generation == generation)
+
+-- the call has made its marks in this generation
+abbrev pub HasMarkedIn : CallState → ℕ → Type 0
+HasMarkedIn s generation = list_any (marks_in generation) s.steps ≡ true
+
 -- ---- reads, on the active
 
 -- the active reads, or refuses as `read` does

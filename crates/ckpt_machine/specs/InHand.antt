@@ -34,7 +34,7 @@ use Rattle.ckpt_types.specs.Asks.{Ask, asked, update_of, IsBuilt}
 use Rattle.ckpt_types.specs.Asks as asking
 use Rattle.ckpt_machine.specs.Beginning.{name_is_bad}
 use Rattle.ckpt_machine.specs.Guards.{AsksToOpen}
-use Rattle.ckpt_machine.specs.ActiveGuards.{serves}
+use Rattle.ckpt_machine.specs.ActiveGuards.{serves, HasMarkedIn}
 use Rattle.ckpt_machine.specs.GuardTerms.{deadline_of}
 use Rattle.ckpt_machine.specs.Tables.{choice_of}
 use Rattle.ckpt_machine.specs.Machine.{Machine, Snapshot, CallState, who}
@@ -166,7 +166,7 @@ MarksFit kind None = Unit {0}
 MarksFit kind (Some marks) = ⊥
 
 -- a call to the active is of the kind of its operation, on a checkpoint that was made, and its handle is there
-pub record IsActiveUnder (failures : Bool) (m : Machine) (shapes : ℕ → Shape) (s : CallState) (a : ActiveState) : Type 0 where
+pub record IsActiveIn (m : Machine) (shapes : ℕ → Shape) (s : CallState) (a : ActiveState) : Type 0 where
   pub call : a.call ≡ s.call
   pub kind : active_kind s.kept.all s.kept.weak (asked s.op) ≡ Some a.kind
   pub fit : MarksFit a.kind a.marks
@@ -180,12 +180,8 @@ pub record IsActiveUnder (failures : Bool) (m : Machine) (shapes : ℕ → Shape
   -- and has its marks just where it has made some in the present generation, and none of a later one
   pub marks : (e : Entry) → entry_of a.ckpt m.cluster.entries ≡ Some e → is_marked_by s.call (shapes a.ckpt).marks ≡ are_present e a.marks
   pub generation : (e : Entry) → entry_of a.ckpt m.cluster.entries ≡ Some e → IfSome a.marks (λ marks. marks.generation ≤ e.generation)
-  -- while no node fails they are of the present one
-  pub present : failures ≡ false → (e : Entry) → entry_of a.ckpt m.cluster.entries ≡ Some e → IfSome a.marks (λ marks. marks.generation ≡ e.generation)
-
--- where no node has failed
-abbrev pub IsActiveIn : Machine → (ℕ → Shape) → CallState → ActiveState → Type 0
-IsActiveIn m shapes s a = IsActiveUnder false m shapes s a
+  -- it made them by one of its steps
+  pub made_by : IfSome a.marks (λ marks. HasMarkedIn s marks.generation)
 
 -- what a call keeps of a pull: the generation of what it has pulled, and the count of its updates
 abbrev pub pulled_as : Snapshot → PulledAt
@@ -272,7 +268,7 @@ abbrev pub IsInPlaceUnder : Bool → Machine → (ℕ → Shape) → CallState �
 IsInPlaceUnder failures m shapes s (drivers.Once x) = IsOnceAt m s x
 IsInPlaceUnder failures m shapes s (drivers.Open o) = IsOpenIn m s o
 IsInPlaceUnder failures m shapes s (drivers.Update u) = IsUpdateUnder failures m shapes s u
-IsInPlaceUnder failures m shapes s (drivers.Active a) = IsActiveUnder failures m shapes s a
+IsInPlaceUnder failures m shapes s (drivers.Active a) = IsActiveIn m shapes s a
 IsInPlaceUnder failures m shapes s (drivers.Sync u) = IsSyncBy m s u u.kind
 
 -- where no node has failed

@@ -14,6 +14,7 @@ use Rattle.cluster_record.specs.StepDone.{done_of, counting}
 use Rattle.ckpt_machine.specs.Invariant.{Invariant, InvariantUnder, InvariantAmidFailures}
 use Rattle.ckpt_machine.specs.Driving.{driver_taken}
 use Rattle.ckpt_machine.specs.Endings.{EndsKnown}
+use Rattle.ckpt_machine.specs.Entries.{AreApart}
 use Rattle.ckpt_machine.specs.Facts.{Facts}
 use Rattle.ckpt_machine.specs.Failing.{failed_at}
 use Rattle.ckpt_machine.specs.Guards.{Allowed}
@@ -72,6 +73,11 @@ EndsAsItMay = (m : Machine) (l : Label) → Allowed m l → EndsKnown l
 abbrev pub FailuresKeep : Type 0
 FailuresKeep = (failures : Bool) (shapes : ℕ → Shape) (m : Machine) (r : ℕ)
     → InvariantUnder failures shapes m → is_up r m.cluster ≡ true → InvariantAmidFailures (failed_at r m)
+
+-- where updates go to the actives alone, it holds whole behind that, and they still do: so what is due behind any number of failures is allowed
+abbrev pub FailuresKeepApart : Type 0
+FailuresKeepApart = (m : Machine) (r : ℕ) → Invariant m → AreApart m.cluster.entries → is_up r m.cluster ≡ true
+    → Invariant (failed_at r m) × AreApart (failed_at r m).cluster.entries
 
 -- a claim about a log holds of each run
 abbrev pub OfEachRun : (List Label → Type 0) → Type 0

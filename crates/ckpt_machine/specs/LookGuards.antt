@@ -23,7 +23,7 @@ use Rattle.ckpt_types.specs.Asks as asks
 use Rattle.ckpt_machine.specs.Machine.{Machine, Snapshot, CallState}
 use Rattle.ckpt_machine.specs.Due.{rooms_of}
 use Rattle.ckpt_machine.specs.GuardTerms.{IsInTime, deadline_of}
-use Rattle.ckpt_machine.specs.ActiveGuards.{all_served}
+use Rattle.ckpt_machine.specs.ActiveGuards.{all_served, HasMarkedIn}
 
 -- ---- what the record and the client's tables decide
 
@@ -118,9 +118,11 @@ OnHeldBy m s by P =
     IsSomeAnd s.kept.ckpt (λ k. IsSomeAnd (entry_of k m.cluster.entries) (λ e. (e.hold ≡ Some by) × P e)) × (is_live m.cluster by ≡ true)
     × (same_call by s.call ≡ false)
 
--- an update of the active alone: there is no active; or another call holds the checkpoint
+-- an update of the active alone: there is no active; or another call holds the checkpoint; or the generation is another than that of its own marks
 abbrev pub ActiveLook : Machine → CallState → AisError → Cause → Type 0
 ActiveLook m s errors.TryAgain (Holder by) = OnHeldBy m s by (λ e. IsSome e.active)
+ActiveLook m s errors.TryAgain (Generations old present) =
+    OnLed m s.kept.ckpt (λ e. (e.hold ≡ None) × (e.generation ≡ present)) × HasMarkedIn s old × ((old == present) ≡ false)
 ActiveLook m s error cause = NoActiveLook m s.kept.ckpt error cause
 
 -- an update on all replicas is refused where its checkpoint is gone

@@ -1,9 +1,13 @@
--- Whose slots, marks, makings and holds there are: of calls in hand alone, so a call that has ended leaves none.
-use Rattle.std.specs.Prelude.{◌≡◌, ℕ, List, ◌++◌, Some, IsSomeAnd}
+-- Whose slots, marks, makings and holds there are: of calls in hand alone, so a call that has ended leaves none. And which calls are in hand: each
+-- asynchronous one that is under way, so none is lost.
+use Rattle.std.specs.Prelude.{◌≡◌, ℕ, List, ◌++◌, Some, IsSomeAnd, Contains}
+use Rattle.ckpt_types.specs.declared.identities.ActorName.{ActorName}
 use Rattle.ckpt_types.specs.declared.identities.CallId.{CallId}
 use Rattle.ckpt_types.specs.declared.identities.Who.{Who}
 use Rattle.run_labels.specs.declared.labels.Label.{Label}
 use Rattle.weak_marks.specs.Marks.{Marked}
+use Rattle.call_dispatch.specs.declared.async_call.AsyncCall.{AsyncCall}
+use Rattle.call_dispatch.specs.PendingCalls.{PendingCalls}
 use Rattle.cluster_record.specs.declared.entries.Entry.{Entry}
 use Rattle.cluster_record.specs.RecordState.{entry_of}
 use Rattle.ckpt_machine.specs.Machine.{Machine, Staged, ReplicaState, CallState}
@@ -23,6 +27,8 @@ pub record OwnersInHand (m : Machine) : Type 0 where
   pub makes : (k : ℕ) (e : Entry) (call : CallId) → entry_of k m.cluster.entries ≡ Some e → e.making ≡ Some call → IsCallInHand m call
   pub holds : (k : ℕ) (e : Entry) (call : CallId) → entry_of k m.cluster.entries ≡ Some e → e.hold ≡ Some call → IsCallInHand m call
   pub reserves : (k r n : ℕ) → m.reserved k r ≡ Some n → IsSomeAnd (entry_of k m.cluster.entries) (λ e. IsSomeAnd e.making (IsCallInHand m))
+  -- and an asynchronous call is in hand that its client is to be told of and that has not ended
+  pub under_way : (a : ActorName) (c : AsyncCall) → Contains (m.pending a).unfinished c → IsCallInHand m c.call
 
 -- AT EVERY TIME OF A RUN: it is so after each front of the log
 abbrev pub OwnersInHandThroughout : List Label → Type 0

@@ -167,16 +167,10 @@ pub record IsHolder (m : Machine) (k : ℕ) (active : Option ℕ) (call : CallId
   pub copies : IsSome active → state.snapshot ≡ option_map copied (on_node (m.replicas k) active)
 
 -- a checkpoint that a call holds is collocated, no marks stand on its active, and the call has a copy of it in its hand
-pub record IsOnHoldUnder (failures : Bool) (m : Machine) (k : ℕ) (sh : Shape) (e : Entry) (call : CallId) : Type 0 where
+pub record IsOnHold (m : Machine) (k : ℕ) (sh : Shape) (e : Entry) (call : CallId) : Type 0 where
   pub collocated : is_collocated e.attributes ≡ true
-  -- while no node fails it has an active
-  pub led : failures ≡ false → IsSome e.active
   pub unmarked : sh.marks ≡ None
   pub holder : IsHolder m k e.active call
-
--- where no node has failed
-abbrev pub IsOnHold : Machine → ℕ → Shape → Entry → CallId → Type 0
-IsOnHold m k sh e call = IsOnHoldUnder false m k sh e call
 
 -- ---- the whole
 
@@ -201,7 +195,7 @@ pub record IsSpreadUnder (failures : Bool) (m : Machine) (k : ℕ) (sh : Shape) 
   pub live : failures ≡ false → (r : ℕ) (call : CallId) → sh.owners r ≡ Some call → is_live m.cluster call ≡ true
   pub led : (marks : Marked) → sh.marks ≡ Some marks → IsSome e.active
   pub marked : (marks : Marked) → sh.marks ≡ Some marks → IsMarker m k marks
-  pub held : (call : CallId) → e.hold ≡ Some call → IsOnHoldUnder failures m k sh e call
+  pub held : (call : CallId) → e.hold ≡ Some call → IsOnHold m k sh e call
 
 -- where no node has failed
 abbrev pub IsSpread : Machine → ℕ → Shape → Entry → Type 0

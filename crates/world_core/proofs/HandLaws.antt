@@ -21,6 +21,7 @@ use Rattle.world_core.specs.Alone.{calls_gone, syncs_gone}
 use Rattle.world_core.specs.HandsState.{HandsState, HasAlone, alone_in, alone_with, hand_at, set_at, with_alone, with_alone_in, without_call, without_those}
 use Rattle.world_core.specs.TablesState.{pending_by}
 use Rattle.ckpt_machine.proofs.NodeLists.{list_again}
+use Rattle.ckpt_machine.proofs.AsyncNames.{goes_with-actor}
 
 -- ---- two calls
 
@@ -192,11 +193,6 @@ with_alone-at h hands has none =
     let xs = alone_in hands.alone h.call.actor in
     at_each h.call.actor (λ xs. xs ++ Some h ∷ []) hands (λ lacks. absurd (lacks_none h.call.actor hands has lacks)) (λ u. same_who u (Call h.call)) (Some h) (λ b. refl)
     (by_call (λ z. found_alone z (xs ++ Some h ∷ [])) (λ z. found_alone z xs) h.call (Some h) (added-own h xs none) (λ other apart. added-other h other apart xs)) (apart_call h.call)
-
--- no call that is stepped by its actor's name goes with a handle
-goes_with-actor : (handle : Option ℕ) (a : ActorName) (p : PendingCalls) (b : ActorName) → goes_with handle a p (Actor b) ≡ false
-goes_with-actor None a p b = refl
-goes_with-actor (Some handle) a p b = refl
 
 -- nor does a call of another actor
 goes_with-apart : (handle : Option ℕ) (a : ActorName) (p : PendingCalls) (other : CallId) → same_actor other.actor a ≡ false → goes_with handle a p (Call other) ≡ false

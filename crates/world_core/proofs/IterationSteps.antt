@@ -52,6 +52,7 @@ use Rattle.world_core.specs.TablesState.{kept_by, table_changed, at_client}
 use Rattle.ckpt_machine.proofs.GoingOn.{gone_on-told}
 use Rattle.world_core.proofs.LiveRooms.{rooms_client}
 use Rattle.ckpt_machine.proofs.RequestRows.{tables_moved}
+use Rattle.ckpt_machine.proofs.OptionLemmas.{what_is}
 use Rattle.world_core.proofs.TableFields.{change_is}
 
 -- ---- a table that is changed twice
@@ -110,14 +111,10 @@ pub record GoesOnWith (ask : Ask) (t : ClientState) : Type 0 where
   pub kept_is : kept_at place t ≡ Some kept
   pub none_lent : NoneLent t
 
-there_is_one : {X : Type 0} (o : Option X) → IsSome o → (x : X) × (o ≡ Some x)
-there_is_one None some = absurd (cc some)
-there_is_one (Some x) some = (x, refl)
-
 pub goes_on_with : (ask : Ask) (t : ClientState) (place : ℕ) → ask ≡ asks.Next place → place < places_max → IsSome (iteration_at place t) → NoneLent t → GoesOnWith ask t
 goes_on_with ask t place asks within stands none =
-    let (it, is) = there_is_one (iteration_at place t) stands in
-    let (kept, keeps) = there_is_one it.kept (numbered-All iteration_number (λ (x : BegunIteration). IsSome x.kept) _ t.iterations it none is) in
+    let (it, is) = what_is (iteration_at place t) stands in
+    let (kept, keeps) = what_is it.kept (numbered-All iteration_number (λ (x : BegunIteration). IsSome x.kept) _ t.iterations it none is) in
     record { place = place; asks = asks; within = within; stands = stands; kept = kept; kept_is = ap (option_and_then (λ (x : BegunIteration). x.kept)) is ∙ keeps; none_lent = none }
 
 module _ (ask : Ask) (t : ClientState) (goes : GoesOnWith ask t) where

@@ -1,6 +1,7 @@
 use Rattle.ckpt_machine.proofs.Counting.{counts_empty, counts_up}
 use Rattle.ckpt_machine.proofs.Endings.{ends_as_it_may}
 use Rattle.ckpt_machine.proofs.Facts.{facts}
+use Rattle.ckpt_machine.proofs.FailureApart.{failures_keep_apart}
 use Rattle.ckpt_machine.proofs.FailureLaw.{failures_keep}
 use Rattle.ckpt_machine.proofs.FewSteps.{steps_are_few}
 use Rattle.ckpt_machine.proofs.Lawful.{lawful}
@@ -40,6 +41,9 @@ returns-clause-ends c = ends_as_it_may
 
 pub returns-clause-failures : goal.returns-clause-failures
 returns-clause-failures c = failures_keep
+
+pub returns-clause-failures_apart : goal.returns-clause-failures_apart
+returns-clause-failures_apart c = failures_keep_apart
 
 pub returns-clause-promises : goal.returns-clause-promises
 returns-clause-promises c = promises_kept
