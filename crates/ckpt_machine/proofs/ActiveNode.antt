@@ -14,7 +14,7 @@ use Rattle.cluster_record.specs.declared.entries.Entry.{Entry}
 use Rattle.cluster_record.specs.DueActive.{unless_changed, unless_on_hold, active_on, on_active, request_by, starts_iteration}
 use Rattle.cluster_record.specs.declared.calls.MarksMade.{MarksMade}
 use Rattle.weak_marks.specs.Marks.{Marked}
-use Rattle.cluster_record.specs.Placement.{is_collocated}
+use Rattle.cluster_record.specs.Placement.{is_collocated, is_all}
 use Rattle.cluster_record.specs.RecordState.{entry_of}
 use Rattle.ckpt_types.specs.Asks.{Ask}
 use Rattle.ckpt_types.specs.Asks as asks
@@ -29,7 +29,6 @@ use Rattle.ckpt_types.specs.declared.update.IoElement.{IoElement}
 use Rattle.ckpt_types.specs.declared.update.Update.{Update}
 use Rattle.ckpt_types.specs.declared.update.Update.TheVariants as updates
 use Rattle.ckpt_machine.specs.Options.{is_by_element}
-use Rattle.cluster_record.specs.Placement.{is_all}
 use Rattle.ckpt_machine.specs.Machine.{Machine, ReplicaState}
 use Rattle.ckpt_machine.specs.Seen.{seen, seen_at, seen_by}
 use Rattle.ckpt_machine.specs.GuardTerms.{OnReplica}

@@ -42,7 +42,7 @@ use Rattle.cluster_record.specs.DueActive.{active_begun}
 use Rattle.cluster_record.specs.DueOnce as once
 use Rattle.cluster_record.specs.DueSync.{sync_begun}
 use Rattle.cluster_record.specs.declared.calls.SyncKind.TheVariants.{Synchronize, ActiveSet}
-use Rattle.cluster_record.specs.Placement.{is_collocated}
+use Rattle.cluster_record.specs.Placement.{is_collocated, is_all}
 use Rattle.moment_rules.specs.Times.{sum_until_end}
 use Rattle.cluster_record.specs.DueUpdate.{update_begun}
 use Rattle.ckpt_machine.specs.Driving.{Kept, driver_start, active_start, deadline_from, kind_of_change, change_start}
@@ -68,7 +68,6 @@ use Rattle.ckpt_machine.proofs.Whose.{put_who-here, put_who-other, stepped_as-pl
 use Rattle.ckpt_machine.specs.Whose.{same_who, put_who}
 use Rattle.node_msgs.specs.declared.details.Details.{Details}
 use Rattle.ckpt_machine.specs.Options.{is_weak, if_declared}
-use Rattle.cluster_record.specs.Placement.{is_all}
 use Rattle.cluster_record.proofs.ClientLaws.{IsClient-number}
 
 -- ---- what a beginning that goes on has passed

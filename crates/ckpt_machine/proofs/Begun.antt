@@ -36,12 +36,13 @@ use Rattle.ckpt_machine.specs.After.{started_call}
 use Rattle.ckpt_machine.specs.Due.{driver_of, IsDriven, kept_at_beginning, declares_at}
 use Rattle.ckpt_machine.specs.Whose.{put_who}
 use Rattle.ckpt_machine.proofs.Actors.{same_actor-true}
-use Rattle.ckpt_machine.proofs.NodeLists.{has-none, slice_index-replicate}
+use Rattle.ckpt_machine.proofs.NodeLists.{has-none}
 use Rattle.ckpt_machine.proofs.Lives.{LivesOn, owner_in}
 use Rattle.ckpt_machine.proofs.OtherCalls.{IsIn-apart, IsGoodIn-apart}
 use Rattle.ckpt_machine.proofs.Owning.{is_owner-true}
 use Rattle.ckpt_machine.proofs.ByActor.{put_actor-here}
 use Rattle.ckpt_machine.proofs.Whose.{put_who-cases, put_who-other, held_by_other}
+use Rattle.ckpt_types.proofs.Lists.{slice_index-replicate}
 
 -- ---- a client that is live, and its calls
 

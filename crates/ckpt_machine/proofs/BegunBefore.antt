@@ -8,7 +8,7 @@ use Rattle.node_msgs.specs.declared.details.Details.{Details}
 use Rattle.ckpt_types.specs.Asks.{asked}
 use Rattle.ckpt_types.specs.OpWord.{word_of_op, stepped_as}
 use Rattle.ckpt_machine.specs.Driving.{Kept, driver_start}
-use Rattle.ckpt_machine.specs.After.{goes_on, started_call}
+use Rattle.ckpt_machine.specs.After.{goes_on, started_call, call_begun, kept_behind, changed, step_of, after}
 use Rattle.ckpt_types.specs.declared.answers.Outcome.{Outcome}
 use Rattle.ckpt_types.specs.declared.identities.CallId.{CallId}
 use Rattle.ckpt_types.specs.declared.operation.Op.{Op}
@@ -21,7 +21,6 @@ use Rattle.ckpt_machine.specs.Invariant.{Invariant}
 use Rattle.ckpt_machine.specs.Machine.{Machine, Snapshot, CallState, who}
 use Rattle.ckpt_machine.specs.Runs.{last, IsRun}
 use Rattle.cluster_record.specs.StepDone.{StepDone}
-use Rattle.ckpt_machine.specs.After.{call_begun, kept_behind, changed, step_of, after}
 use Rattle.ckpt_machine.specs.Due.{IsDue}
 use Rattle.ckpt_machine.proofs.Quiet.{quiet}
 use Rattle.ckpt_machine.proofs.Histories.{run_history, HasHistory, follows}

@@ -13,7 +13,8 @@ use Rattle.ckpt_machine.specs.Invariant.{IsGoodClient, IsGoodIn, InvariantIn}
 use Rattle.ckpt_machine.proofs.Handles.{IsGoodHandle-later}
 use Rattle.ckpt_machine.proofs.OtherCalls.{LooksAlike, LooksLater-refl, IsInHand-alike, IsMaker-alike}
 use Rattle.ckpt_machine.proofs.EndedTables.{live_alike}
-use Rattle.ckpt_machine.proofs.NodeLists.{is_up-none, first_complete-some, slice_index-replicate}
+use Rattle.ckpt_machine.proofs.NodeLists.{is_up-none, first_complete-some}
+use Rattle.ckpt_types.proofs.Lists.{slice_index-replicate}
 
 module _ (m : Machine) (shapes : ℕ → Shape) (inv : InvariantIn shapes m) (n : ℕ) (none : m.cluster.up ≡ no_nodes) where
   abbrev then_machine : Machine

@@ -1,7 +1,7 @@
 -- A due request is of the call itself: a law of the definitions.
 use Rattle.cluster_record.specs.declared.calls.ActiveKind.{ActiveKind}
 use Rattle.cluster_record.specs.declared.calls.ActiveKind.TheVariants as kinds
-use Rattle.ckpt_machine.specs.Drivers.{Rooms}
+use Rattle.ckpt_machine.specs.Drivers.{Rooms, Driver}
 use Rattle.std.proofs.Common.{◌≡◌, ℕ, List, [], ◌∷◌, Bool, true, false, cond, ◌==◌, refl, subst, ◌∙◌}
 use Rattle.std.specs.Prelude.{Option, Some, None, IfSome}
 use Rattle.ckpt_types.specs.declared.identities.CallId.{CallId}
@@ -15,13 +15,11 @@ use Rattle.node_msgs.specs.declared.steps.Verb.{Verb}
 use Rattle.node_msgs.specs.declared.steps.Verb.TheVariants as verbs
 use Rattle.node_msgs.specs.declared.steps.StepReply.{StepReply}
 use Rattle.node_msgs.specs.declared.steps.StepReply.TheVariants as words
-use Rattle.ckpt_machine.specs.Drivers.{Driver}
 use Rattle.ckpt_machine.specs.Drivers as drivers
-use Rattle.cluster_record.specs.DueUpdate.{UpdateState}
+use Rattle.cluster_record.specs.DueUpdate.{UpdateState, update_taken_by}
 use Rattle.cluster_record.specs.RecordState.{RecordState}
 use Rattle.cluster_record.specs.StepDone.{StepDone}
 use Rattle.ckpt_machine.specs.Driving.{Kept, on_kept, driver_start, driver_state, driver_taken, driver_next, change_start, kind_of_change}
-use Rattle.cluster_record.specs.DueUpdate.{update_taken_by}
 use Rattle.cluster_record.specs.DueActive.{weak_request, request_by, active_request}
 use Rattle.cluster_record.specs.declared.calls.MarksMade.{MarksMade}
 use Rattle.ckpt_machine.specs.Machine.{CallState}

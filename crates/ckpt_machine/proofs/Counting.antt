@@ -44,13 +44,12 @@ use Rattle.ckpt_machine.specs.Machine.{Machine, Applied, ReplicaState, Snapshot,
 use Rattle.ckpt_machine.specs.Laws.{CountsUp}
 use Rattle.ckpt_machine.specs.Propagation.{source_at, copied, with_pulled, target_at, replica_from, with_put}
 use Rattle.ckpt_machine.specs.Runs.{Counts}
-use Rattle.ckpt_machine.specs.After.{given_at, chosen_at, with_pending, with_closed, goes_with, without_syncs, left_over, left_in_hand, ended_calls}
+use Rattle.ckpt_machine.specs.After.{given_at, chosen_at, with_pending, with_closed, goes_with, without_syncs, left_over, left_in_hand, ended_calls, with_record, record_step, with_tables, with_given, with_started, with_gone_on, created_for, retained_for, change_replica, with_committed, committed_slot, with_applied, with_marks, without_marks, marks_ended, with_installed, with_lead, effect_of, after_beginning, begun_call, call_begun, changed, pulled_by, kept_behind, step_of, on_ok, on_look, without_making, at_some, replica_under, snapshot_under, opened_state}
 use Rattle.ckpt_machine.specs.Whose.{is_of}
 use Rattle.call_dispatch.specs.PendingCalls.{PendingCalls, no_pending, given_by}
 use Rattle.call_dispatch.specs.declared.async_call.EndedCall.{EndedCall}
 use Rattle.ckpt_types.specs.declared.calls.AsyncKind.{AsyncKind}
 use Rattle.ckpt_types.specs.declared.calls.AsyncKind.TheVariants as kinds
-use Rattle.ckpt_machine.specs.After.{with_record, record_step, with_tables, with_given, with_started, with_gone_on, created_for, retained_for, change_replica, with_committed, committed_slot, with_applied, with_marks, without_marks, marks_ended, with_installed, with_lead, effect_of, after_beginning, begun_call, call_begun, changed, pulled_by, kept_behind, step_of, on_ok, on_look, without_making, at_some, replica_under, snapshot_under, opened_state}
 use Rattle.ckpt_machine.specs.Due.{ids_asked}
 use Rattle.ckpt_machine.specs.Seen.{seen_at}
 use Rattle.ckpt_machine.specs.Tables.{handle_given, handle_closed, registering, place_set, places_set, with_iteration, started, with_next, gone_on, closing, ended_at_once}
@@ -58,7 +57,6 @@ use Rattle.ckpt_machine.proofs.References.{released-identity, released_all-ident
 use Rattle.ckpt_machine.proofs.Joining.{opened_with-identity}
 use Rattle.ckpt_machine.proofs.Entries.{ComesOf, ComesOf-filter, ComesOf-change_key, ComesOf-map}
 use Rattle.ckpt_machine.proofs.Follows.{element_effects}
-use Rattle.ckpt_machine.proofs.NodeLists.{slice_index-replicate}
 use Rattle.ckpt_machine.proofs.Propagated.{source_there}
 use Rattle.ckpt_machine.proofs.Dropped.{left_was, held_as}
 use Rattle.ckpt_machine.proofs.Starting.{first_kept, begun_as}
@@ -66,6 +64,7 @@ use Rattle.ckpt_types.specs.OpWord.{stepped_as, word_of_op}
 use Rattle.ckpt_types.specs.declared.identities.Who.{Who}
 use Rattle.ckpt_machine.proofs.Whose.{put_who-cases}
 use Rattle.ckpt_machine.proofs.Sync.{left_is}
+use Rattle.ckpt_types.proofs.Lists.{slice_index-replicate}
 
 -- ---- what counts up
 

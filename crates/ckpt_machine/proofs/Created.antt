@@ -30,7 +30,6 @@ use Rattle.ckpt_machine.specs.Machine.{Machine, CallState, who}
 use Rattle.ckpt_machine.specs.After.{with_record, replica_under, reservation_under, opened_state}
 use Rattle.ckpt_machine.specs.Due.{driver_of}
 use Rattle.ckpt_machine.specs.Shape.{Shape, IsCompleteOn}
-use Rattle.ckpt_machine.proofs.NodeLists.{slice_index-replicate}
 use Rattle.ckpt_machine.proofs.EntryLists.{entry_of-given, find_key-push, AllStay-push}
 use Rattle.ckpt_machine.proofs.Handles.{IsGoodHandle-later}
 use Rattle.ckpt_machine.proofs.Lives.{LivesOn, lives_on-one}
@@ -41,6 +40,7 @@ use Rattle.ckpt_machine.proofs.ReservedUnder.{was_reserved}
 use Rattle.ckpt_machine.specs.Whose.{put_who}
 use Rattle.ckpt_machine.proofs.Whose.{put_who-cases, put_who-other, put_who-here}
 use Rattle.ckpt_machine.proofs.PlainCalls.{is_plain, owner_apart, marker_apart, holder_apart, maker_apart}
+use Rattle.ckpt_types.proofs.Lists.{slice_index-replicate}
 
 module _ (m : Machine) (shapes : ℕ → Shape) (inv : InvariantIn shapes m) (s : CallState) (held : m.in_hand (who s) ≡ Some s) (plain : is_plain (driver_of s) s.snapshot ≡ true) (name : List ℕ) (a : CreationAttributes) (good : is_malformed a ≡ false)
     (w : CallState) (call_is : w.call ≡ s.call) (op_is : w.op ≡ s.op) (client : IsClient s.call.actor) (room : length (m.tables s.call.actor).handles + makings_of (client_of s.call) m.cluster.entries < handles_max) (v : OpenState) (driver_is : driver_of w ≡ drivers.Open v) (making : Making) (makes : v.making ≡ Some making) (ckpt : making.ckpt ≡ m.cluster.last_identity + 1) where

@@ -19,7 +19,7 @@ use Rattle.node_msgs.specs.declared.steps.StepReply.TheVariants as words
 use Rattle.run_labels.specs.declared.labels.Label.{Label}
 use Rattle.run_labels.specs.declared.labels.Label.TheVariants as labels
 use Rattle.ckpt_types.specs.declared.attributes.CreationAttributes.{CreationAttributes}
-use Rattle.cluster_record.specs.Placement.{is_collocated}
+use Rattle.cluster_record.specs.Placement.{is_collocated, is_all}
 use Rattle.cluster_record.specs.declared.entries.Entry.{Entry}
 use Rattle.cluster_record.specs.Calls.{client_of, left}
 use Rattle.cluster_record.specs.Makings.{making_of}
@@ -36,12 +36,11 @@ use Rattle.ckpt_machine.specs.GuardTerms.{OnAll, OnActive}
 use Rattle.ckpt_machine.specs.Invariant.{Invariant}
 use Rattle.ckpt_machine.specs.Machine.{Machine, Effect, Applied, ReplicaState, Snapshot, CallState, who}
 use Rattle.ckpt_machine.specs.Options.{is_weak, is_by_element}
-use Rattle.cluster_record.specs.Placement.{is_all}
 use Rattle.ckpt_machine.specs.Propagation.{copied, replica_from}
 use Rattle.ckpt_machine.specs.Replays.{IsPrefix}
 use Rattle.ckpt_machine.specs.Runs.{last, IsRun}
 use Rattle.ckpt_machine.specs.Shape.{IsCompleteOn, IsApart, IsShapedBy}
-use Rattle.ckpt_machine.specs.After.{with_record, record_step, created_for, retained_for, change_replica, having_taken, committed_slot, with_committed, with_applied, with_slot, with_marks, next_element_written, with_next_element, marks_ended, without_marks, with_lead, changed, on_ok, on_look, without_making, at_some, replica_under, snapshot_under, opened_state, pulled_by, kept_behind, step_of, call_begun, after_beginning, staged_moment, after}
+use Rattle.ckpt_machine.specs.After.{with_record, record_step, created_for, retained_for, change_replica, having_taken, committed_slot, with_committed, with_applied, with_slot, with_marks, next_element_written, with_next_element, marks_ended, without_marks, with_lead, changed, on_ok, on_look, without_making, at_some, replica_under, snapshot_under, opened_state, pulled_by, kept_behind, step_of, call_begun, after_beginning, staged_moment, after, with_closed}
 use Rattle.ckpt_machine.specs.Due.{Told, IsDone, IsDue, due}
 use Rattle.ckpt_machine.proofs.Activating.{Leads, leader, with_leader, made_where_complete, led_by, led_goes, found_led, led_made, led_entry, leader-cases, after_activate}
 use Rattle.ckpt_machine.proofs.ActiveNode.{active_complete}
@@ -59,6 +58,8 @@ use Rattle.ckpt_machine.proofs.Joining.{collocated_apart, opened_with-identity}
 use Rattle.ckpt_machine.proofs.OneReplica.{StepsOn, DeclaresAll, IsActiveOf, CanBeMarked, IsMarkedFor, Grows, committed_generation, element_generation, committed_more, grows_same, update_word}
 use Rattle.ckpt_machine.proofs.OptionLemmas.{IsSomeAnd-at, IsSomeAnd-from, IfSome-from, IfSome-at}
 use Rattle.ckpt_machine.proofs.OwnMaking.{making_there}
+pub use Rattle.ckpt_machine.proofs.PulledInHand.{PulledInHand}
+use Rattle.ckpt_machine.proofs.PulledInHand.{begun_empty}
 use Rattle.ckpt_machine.proofs.Prefixes.{prefix_of_same, prefix_of_none, prefix_then}
 use Rattle.ckpt_machine.proofs.References.{released-identity}
 use Rattle.ckpt_machine.proofs.Runs.{along}
@@ -67,24 +68,9 @@ use Rattle.ckpt_machine.proofs.Sync.{left_is}
 use Rattle.ckpt_machine.specs.Whose.{put_who}
 use Rattle.ckpt_types.specs.declared.identities.Who.{Who}
 use Rattle.ckpt_types.specs.OpWord.{stepped_as, word_of_op}
-use Rattle.ckpt_machine.specs.After.{with_closed}
 use Rattle.ckpt_machine.proofs.Whose.{put_who-cases}
 use Rattle.ckpt_machine.proofs.StaysMade.{StaysMade, StaysMade-same, StaysMade-kept, GoesOnMade, StaysMade-goes, held_made, held-identity, released_made, opened_made, MadeOn, MadeOn-swept, changed_on, filter_on, departed_on, created_for_on, retained_for_on, finished_on}
 use Rattle.ckpt_machine.proofs.MarksAt.{none_elsewhere}
-
--- ---- snapshots in hands
-
--- a call in hand, on this checkpoint, has pulled this snapshot
-pub record PulledInHand (hands : Who → Option CallState) (k : ℕ) (s : Snapshot) : Type 0 where
-  pub name : Who
-  pub state : CallState
-  pub in_hand : hands name ≡ Some state
-  pub ckpt : state.kept.ckpt ≡ Some k
-  pub snapshot : state.snapshot ≡ Some s
-
--- a call that has begun has pulled nothing
-begun_empty : (end : Option Outcome) (call : CallId) (op : Op) (kept : Kept) (z : CallState) (s : Snapshot) → call_begun end call op kept ≡ Some z → z.snapshot ≡ Some s → ⊥
-begun_empty end call op kept z s is pulled = let (d, driven, same) = begun_as end call op kept z is in let w : None ≡ Some s = ap (λ (z : CallState). z.snapshot) same ∙ pulled in cc w
 
 -- a replica follows the active of a checkpoint of this generation: where this is not collocated any does, and else one of that generation
 abbrev pub FollowsBy : Bool → ℕ → ReplicaState → Type 0

@@ -47,6 +47,7 @@ use Rattle.ckpt_machine.proofs.KeptLists.{among_filtered, found_front}
 use Rattle.ckpt_machine.proofs.PlainCalls.{ending}
 use Rattle.ckpt_machine.proofs.Whose.{put_who-here}
 use Rattle.ckpt_machine.proofs.Handles.{IsGivable, IsGoodHandle-given}
+use Rattle.ckpt_types.proofs.Lists.{length-filter_le}
 
 -- two clients have two numbers
 pub other_number : (a b : ActorName) → IsClient a → IsClient b → same_actor a b ≡ false → (number_of a == number_of b) ≡ false
@@ -68,10 +69,6 @@ live_alike R S call client same = by_actor call.actor call.number client same wh
 
 -- ---- lengths
 
--- what is left of a list is no longer
-length-filter_fewer : {X : Type 0} (p : X → Bool) (xs : List X) → length (filter p xs) ≤ length xs
-length-filter_fewer p xs = let counted = length-filter p xs in let within = count_by-le-length p xs in omega (arith, counted, within)
-
 -- one more
 length-push : {X : Type 0} (xs : List X) (x : X) → length (xs ++ x ∷ []) ≡ length xs + 1
 length-push [] x = refl
@@ -86,7 +83,7 @@ closing-handles ask t h among = among
 
 -- there are no more of them
 closing-few : (ask : Ask) (t : ClientState) → length (closing ask t).handles ≤ length t.handles
-closing-few (asks.Close place) t = length-filter_fewer _ t.handles
+closing-few (asks.Close place) t = length-filter_le _ t.handles
 closing-few ask t = omega arith
 
 -- other callbacks leave them

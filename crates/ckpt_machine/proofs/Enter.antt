@@ -41,7 +41,7 @@ use Rattle.ckpt_machine.proofs.DueStep.{Goes}
 use Rattle.ckpt_machine.proofs.StepLabels.{IsEvent-told}
 use Rattle.ckpt_machine.proofs.EntryLists.{find_key-push}
 use Rattle.ckpt_machine.proofs.NodeLists.{is_up-none}
-use Rattle.ckpt_machine.proofs.OptionLemmas.{none_of}
+use Rattle.ckpt_types.proofs.Options.{none_of}
 
 module _ (m : Machine) (shapes : ℕ → Shape) (inv : InvariantIn shapes m) (s : CallState) (r : ℕ) (held : m.in_hand (who s) ≡ Some s) (is : driver_of s ≡ drivers.Once (Enter r)) where
   abbrev c : ℕ

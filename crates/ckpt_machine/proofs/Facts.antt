@@ -35,7 +35,7 @@ use Rattle.ckpt_machine.specs.Drivers as drivers
 use Rattle.ckpt_machine.specs.Driving.{driver_next}
 use Rattle.ckpt_machine.specs.Machine.{Machine, CallState, who}
 use Rattle.node_core.specs.Fitting.{IsReadyFor}
-use Rattle.cluster_record.specs.Placement.{is_all}
+use Rattle.cluster_record.specs.Placement.{is_all, is_collocated}
 use Rattle.ckpt_machine.specs.Due.{due, driver_of, room_in, room_at, rooms_of}
 use Rattle.ckpt_machine.specs.Seen.{seen_at, seen, seen_slot}
 use Rattle.ckpt_machine.specs.Facts.{IsActive, IsAtRest, IsLeadable, IsServable, IsEventReady, IsStarting, IsGoingOn, HasCopyRoom, HasLiveMarker, Facts}
@@ -53,7 +53,6 @@ use Rattle.ckpt_machine.proofs.MarksAt.{marks_here, none_marked}
 use Rattle.ckpt_machine.proofs.NodeLists.{index-within}
 use Rattle.ckpt_machine.proofs.SettingActive.{at_setting, spread, collocated, on_complete, complete_here, own_hold}
 use Rattle.cluster_record.specs.Calls.{same_call}
-use Rattle.cluster_record.specs.Placement.{is_collocated}
 use Rattle.std.proofs.lemmas.Option.{same_Some}
 use Rattle.ckpt_machine.proofs.Deadlines.{in_time-either}
 use Rattle.ckpt_machine.proofs.Installing.{below, free_there}

@@ -12,7 +12,7 @@ use Rattle.cluster_record.specs.RecordState.{RecordState, client_key, is_up, is_
 use Rattle.cluster_record.specs.Failing.{goes_with_node, lives_on, is_of_those, failed}
 use Rattle.ckpt_machine.specs.Failing.{is_of_node}
 use Rattle.ckpt_machine.proofs.NodeLists.{index-other}
-use Rattle.ckpt_machine.proofs.NodeGone.{index-zero}
+use Rattle.ckpt_types.proofs.Lists.{slice_index-cleared}
 
 -- ---- lists
 
@@ -53,7 +53,7 @@ module _ (counts : ℕ → ℕ → ℕ) (r : ℕ) (R : RecordState) where
 
   -- the node itself is not
   pub up_gone : is_up r then_record ≡ false
-  up_gone = and_right (nat_lt r 8) _ (ap (λ n. not (n == 0)) (index-zero R.up r))
+  up_gone = and_right (nat_lt r 8) _ (ap (λ n. not (n == 0)) (slice_index-cleared R.up r))
 
   -- a client that is found stays
   pub found_then : (c : ℕ) → find_key client_key c then_record.clients ≡ cond (goes_with_node R r c) None (find_key client_key c R.clients)

@@ -48,10 +48,11 @@ use Rattle.ckpt_machine.proofs.OptionLemmas.{IsSomeAnd-at, IsSomeAnd-from, IfSom
 use Rattle.ckpt_machine.proofs.NodeLists.{index-other}
 use Rattle.ckpt_machine.proofs.FailedEntries.{IsFailedEntry, failed_rises, Failed, found_failed, making_left}
 use Rattle.ckpt_machine.proofs.OpenReady.{client_live}
-use Rattle.ckpt_machine.proofs.NodeGone.{index-zero, no_node, complete_was, complete_still}
+use Rattle.ckpt_machine.proofs.NodeGone.{no_node, complete_was, complete_still}
 use Rattle.ckpt_machine.proofs.FailedClients.{up_other, found_staying, live_staying, of_node_client, of_those, home_elsewhere}
 use Rattle.ckpt_machine.proofs.FailedCalls.{left_is, left_stays, left_enters}
 use Rattle.ckpt_machine.proofs.FailedShape.{shape_left, shape_then, marks_left, owner_left, owner_stays}
+use Rattle.ckpt_types.proofs.Lists.{slice_index-cleared}
 
 module _ (failures : Bool) (m : Machine) (shapes : ℕ → Shape) (inv : InvariantUnder failures shapes m) (r : ℕ) where
   -- the machine behind the failure
@@ -206,7 +207,7 @@ module _ (failures : Bool) (m : Machine) (shapes : ℕ → Shape) (inv : Invaria
 
             reserved_at : (q : ℕ) → has (slice_index R.up q) (slice_index making.reserved q) ≡ true → (b : Bool) → (q == r) ≡ b → cond b None (m.reserved making.ckpt q) ≡ Some (slice_index R.up q)
             reserved_at q had true same = absurd (
-                let gone : slice_index R.up q ≡ 0 = ap (λ (p : ℕ). slice_index R.up p) (eqb-true q r same) ∙ index-zero m.cluster.up r in
+                let gone : slice_index R.up q ≡ 0 = ap (λ (p : ℕ). slice_index R.up p) (eqb-true q r same) ∙ slice_index-cleared m.cluster.up r in
                 let v : true ≡ false = sym had ∙ ap (λ (i : ℕ). has i (slice_index making.reserved q)) gone in
                 cc v)
             reserved_at q had false other =

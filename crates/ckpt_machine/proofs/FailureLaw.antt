@@ -38,10 +38,11 @@ use Rattle.ckpt_machine.proofs.KeptLists.{among_none}
 use Rattle.ckpt_machine.proofs.FailedEntries.{failed_rises, then_rises, then_up_to}
 use Rattle.ckpt_machine.proofs.FailedClients.{up_other, found_then, found_staying, of_node_client, of_those, home_elsewhere}
 use Rattle.ckpt_machine.proofs.FailedCalls.{left_is, still, left_stays, by_client}
-use Rattle.ckpt_machine.proofs.NodeGone.{set-zeros, complete_was, complete_still}
+use Rattle.ckpt_machine.proofs.NodeGone.{complete_was, complete_still}
 use Rattle.ckpt_machine.proofs.FailedShape.{generation_led}
 use Rattle.ckpt_machine.proofs.FailedSpread.{spread_then}
 use Rattle.ckpt_machine.proofs.FailedHands.{shapes_then, WasEntry, was_entry, made_then, hand_then}
+use Rattle.ckpt_types.proofs.Lists.{slice_set-replicate}
 
 module _ (failures : Bool) (m : Machine) (shapes : ℕ → Shape) (inv : InvariantUnder failures shapes m) (r : ℕ) where
   -- the machine behind the failure
@@ -76,7 +77,7 @@ module _ (failures : Bool) (m : Machine) (shapes : ℕ → Shape) (inv : Invaria
           let good : IsGoodUnder failures m k (shapes k) it.e (Some d) = subst (IsGoodUnder failures m k (shapes k) it.e) by_it (inv.entries k it.e it.was) in
           let stays : is_active it.e.active r ≡ false = ap (λ o. is_active o r) good.0.unled in (
             record {
-              complete = it.left.complete ∙ ap (λ cs. slice_set cs r 0) good.0.complete ∙ set-zeros 8 r;
+              complete = it.left.complete ∙ ap (λ cs. slice_set cs r 0) good.0.complete ∙ slice_set-replicate 8 r;
               generation = (it.left.led stays).1 ∙ good.0.generation;
               unled = (it.left.led stays).0 ∙ good.0.unled;
               free = it.left.hold ∙ ap (λ o. cond (is_of_those goes o) None o) good.0.free;
@@ -253,7 +254,7 @@ module _ (failures : Bool) (m : Machine) (shapes : ℕ → Shape) (inv : Invaria
   pub failure_keeps : InvariantUnder true (shapes_then failures m shapes inv r) n
   failure_keeps = record {
     up = length-slice_set m.cluster.up r 0 ∙ inv.up;
-    first_up = λ none. ap (λ up. slice_set up r 0) (inv.first_up none) ∙ set-zeros 8 r;
+    first_up = λ none. ap (λ up. slice_set up r 0) (inv.first_up none) ∙ slice_set-replicate 8 r;
     none_live = none_then;
     rises = then_rises counts r m.cluster inv.rises;
     up_to = then_up_to counts r m.cluster inv.rises m.cluster.last_identity inv.up_to;

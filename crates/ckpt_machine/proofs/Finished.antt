@@ -30,7 +30,7 @@ use Rattle.ckpt_machine.proofs.OtherCalls.{LooksAlike, LooksLater-refl, making_s
 use Rattle.ckpt_machine.proofs.OptionLemmas.{IsSomeAnd-at, IsSomeAnd-from}
 use Rattle.ckpt_machine.proofs.MarksAt.{none_marked}
 use Rattle.ckpt_machine.proofs.Targets.{targets-length, target-up}
-use Rattle.cluster_record.specs.Placement.{is_collocated, targets}
+use Rattle.cluster_record.specs.Placement.{is_collocated, targets, is_all}
 use Rattle.ckpt_machine.proofs.CallsKept.{apart_from, same_call-None, calls_left}
 use Rattle.ckpt_machine.proofs.OwnMaking.{owner_apart, marker_apart, holder_apart, maker_same}
 use Rattle.ckpt_types.specs.declared.identities.ActorName.TheVariants.{Client}
@@ -40,10 +40,9 @@ use Rattle.cluster_record.proofs.MakingCounts.{makings_of-finished}
 use Rattle.ckpt_machine.proofs.EntryLists.{find_key-change_key}
 use Rattle.ckpt_machine.proofs.OnComplete.{under_complete}
 use Rattle.ckpt_machine.proofs.ReservedUnder.{was_reserved}
-use Rattle.ckpt_machine.proofs.NodeLists.{slice_index-replicate}
 use Rattle.ckpt_machine.specs.Whose.{put_who}
 use Rattle.ckpt_machine.proofs.Whose.{same_who-false, put_who-cases, put_who-other}
-use Rattle.cluster_record.specs.Placement.{is_all}
+use Rattle.ckpt_types.proofs.Lists.{slice_index-replicate}
 
 -- the first active is one by the complete nodes
 first_active_by : (collocated all : Bool) (cs : List ℕ) → IsSome (first_complete 0 cs) → IsActiveBy collocated all cs (cond collocated None (first_complete 0 cs))

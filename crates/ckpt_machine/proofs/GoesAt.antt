@@ -8,9 +8,9 @@ use Rattle.replica.specs.Replicas.{Replica, opened_replica}
 use Rattle.cluster_record.specs.RecordState.{complete_of, no_nodes}
 use Rattle.ckpt_machine.specs.Machine.{Effect}
 use Rattle.ckpt_machine.specs.After.{opened_state, replica_under, reservation_under, snapshot_under}
-use Rattle.ckpt_machine.proofs.NodeLists.{slice_index-replicate}
 use Rattle.snap_copy.specs.Snapshots.{Snapshot}
 use Rattle.ckpt_machine.specs.Shown.{FitsReplica, shown_replica, shown_reservation, shown_snapshot, where_complete}
+use Rattle.ckpt_types.proofs.Lists.{slice_index-replicate}
 
 -- the node is up with one of these incarnations
 abbrev pub IsUpIn : List ℕ → ℕ → Type 0

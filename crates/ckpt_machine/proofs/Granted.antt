@@ -20,11 +20,6 @@ use Rattle.ckpt_machine.specs.RecordReady.{HasFound, IsGrantedAt, IsOpenedAs, Is
 pub granted_ok : (R : RecordState) (x : Driver) (step : RecordStep) (r : Result (Option ℕ) CallId) (k : Option ℕ) → r ≡ Ok k → IsGrantedAt R x step r → (event_refusal R step x ≡ None) × (k ≡ event_ckpt R x step)
 granted_ok R x step r k is granted = subst (IsGrantedAt R x step) is granted
 
--- no step by which a client becomes live is on a checkpoint
-pub no_ckpt : (R : RecordState) (x : Driver) → None ≡ event_ckpt R x events.Enter
-no_ckpt R (drivers.Once (once.Enter r)) = refl
-no_ckpt R x = refl
-
 -- the checkpoint that an open opens is the one that was found
 pub has_found : (call : CallId) (R : RecordState) (x : Driver) (step : RecordStep) (k : Option ℕ) → k ≡ event_ckpt R x step → IdentitiesRise R.entries → IsRecordReady call R x step → HasFound R x step k
 has_found call R (drivers.Open o) events.Open k is rises (asks, (j, added, name_is, answer_is)) =

@@ -56,13 +56,13 @@ use Rattle.ckpt_machine.proofs.Start.{invariant_empty}
 use Rattle.ckpt_machine.proofs.Starting.{first_kept, begun_as}
 use Rattle.ckpt_machine.proofs.Actors.{same_actor-true}
 use Rattle.ckpt_machine.proofs.Lives.{owner_in}
-use Rattle.ckpt_machine.proofs.NodeLists.{slice_index-replicate}
 use Rattle.ckpt_machine.proofs.Owning.{owner_origin}
 use Rattle.ckpt_machine.specs.Whose.{same_who}
 use Rattle.ckpt_types.specs.OpWord.{stepped_as, word_of_op}
 use Rattle.ckpt_machine.proofs.Dropped.{held_as}
 use Rattle.ckpt_machine.proofs.Whose.{same_who-refl, put_who-cases, one_call}
 use Rattle.ckpt_machine.proofs.OptionLemmas.{IsSomeAnd-at, IsSomeAnd-from}
+use Rattle.ckpt_types.proofs.Lists.{slice_index-replicate}
 
 -- what drives the call commits an update of this checkpoint
 pub record IsCommittingAt (k : ℕ) (d : Driver) : Type 0 where

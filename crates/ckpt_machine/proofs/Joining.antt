@@ -7,11 +7,10 @@ use Rattle.ckpt_types.specs.declared.identities.CallId.{CallId}
 use Rattle.ckpt_types.specs.Attributes.{has_flag}
 use Rattle.ckpt_types.specs.Limits.{wr_all_replicas, checkpoint_collocated}
 use Rattle.cluster_record.specs.declared.entries.Entry.{Entry}
-use Rattle.cluster_record.specs.Placement.{is_collocated, adds}
+use Rattle.cluster_record.specs.Placement.{is_collocated, adds, is_all}
 use Rattle.cluster_record.specs.RecordState.{joined, opened_with}
 use Rattle.cluster_record.proofs.IdentityLaws.{KeepsIdentity}
 use Rattle.ckpt_machine.specs.Later.{IsLaterEntry}
-use Rattle.cluster_record.specs.Placement.{is_all}
 use Rattle.ckpt_machine.specs.Shape.{NodesAreUp, IsCompleteOn}
 use Rattle.ckpt_machine.proofs.NodeLists.{index-within, index-set, index-other, length-slice_set}
 

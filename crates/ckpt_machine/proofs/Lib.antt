@@ -115,6 +115,7 @@ pub mod ElementsDone
 pub mod Prefixes
 pub mod Installed
 pub mod EachReplica
+pub mod PulledInHand
 pub mod Generations
 pub mod EffectsOnce
 pub mod Growing

@@ -1,5 +1,5 @@
 -- What is next of a call: a look, a step of the record, a reservation, or what its driver asks of a replica.
-use Rattle.ckpt_machine.specs.Drivers.{Rooms}
+use Rattle.ckpt_machine.specs.Drivers.{Rooms, Driver}
 use Rattle.std.proofs.Common.{ℕ, Bool, true, false, ℤ, cond, ◌==◌}
 use Rattle.std.specs.Prelude.{Option, Some, None, is_some, not, ◌&&◌, nat_le, length}
 use Rattle.ckpt_types.specs.declared.answers.Outcome.{Outcome}
@@ -10,7 +10,6 @@ use Rattle.node_msgs.specs.declared.next.RecordStep.{RecordStep}
 use Rattle.node_msgs.specs.declared.next.RecordStep.TheVariants.{Enter, Leave, Open, Create, Finish, Undo, Close, Unlink, Retain, Hold, Activate}
 use Rattle.node_msgs.specs.declared.next.Next.{Next}
 use Rattle.node_msgs.specs.declared.next.Next.TheVariants.{Serve, Event, End}
-use Rattle.ckpt_machine.specs.Drivers.{Driver}
 use Rattle.ckpt_machine.specs.Drivers as drivers
 use Rattle.cluster_record.specs.declared.calls.Making.{Making}
 use Rattle.cluster_record.specs.declared.calls.MarksMade.{MarksMade}
@@ -19,19 +18,16 @@ use Rattle.cluster_record.specs.declared.calls.SyncKind.{SyncKind}
 use Rattle.cluster_record.specs.declared.calls.SyncKind.TheVariants.{Synchronize, ActiveSet}
 use Rattle.cluster_record.specs.Calls.{same_call}
 use Rattle.cluster_record.specs.DueSync.{SyncState, first_unserved, install_next, unless_stale, lead_next, unless_held, synchronize_next, kind_next, sync_on}
-use Rattle.cluster_record.specs.DueOpen.{OpenState}
-use Rattle.cluster_record.specs.DueActive.{ActiveState}
+use Rattle.cluster_record.specs.DueOpen.{OpenState, accepts, create_next, entry_by, entry_next, on_named, reserve_or_finish, targets_of, on_making, by_making}
+use Rattle.cluster_record.specs.DueActive.{ActiveState, unless_changed, unless_on_hold, is_update, on_active, active_on, active_request, starts_iteration}
 use Rattle.cluster_record.specs.declared.entries.Entry.{Entry}
-use Rattle.cluster_record.specs.DueUpdate.{UpdateState}
+use Rattle.cluster_record.specs.DueUpdate.{UpdateState, commit_at, commit_first, stage_at, by_phase, update_led, update_on}
 use Rattle.cluster_record.specs.declared.calls.UpdatePhase.{UpdatePhase}
 use Rattle.cluster_record.specs.declared.calls.UpdatePhase.TheVariants.{Staging, Committing}
 use Rattle.cluster_record.specs.RecordState.{RecordState, entry_of, named}
 use Rattle.cluster_record.specs.StepDone.{first_lacking, last_having}
 use Rattle.ckpt_machine.specs.Driving.{driver_next}
-use Rattle.cluster_record.specs.DueOpen.{accepts, create_next, entry_by, entry_next, on_named, reserve_or_finish, targets_of, on_making, by_making}
 use Rattle.ckpt_types.specs.declared.calls.OpenAsk.{OpenAsk}
-use Rattle.cluster_record.specs.DueUpdate.{commit_at, commit_first, stage_at, by_phase, update_led, update_on}
-use Rattle.cluster_record.specs.DueActive.{unless_changed, unless_on_hold, is_update, on_active, active_on, active_request, starts_iteration}
 use Rattle.cluster_record.specs.DueOnce.{OneStep, once_next, close_of, unlink_of_making, unlink_of, retain_of}
 use Rattle.cluster_record.specs.DueOnce as once
 use Rattle.ckpt_machine.proofs.Deadlines.{in_time-either}

@@ -2,28 +2,17 @@
 use Rattle.std.proofs.Common.{◌≡◌, ℕ, zero, suc, List, [], ◌∷◌, true, false, ◌==◌, refl, sym, ap, ◌∙◌, replicate}
 use Rattle.std.specs.Prelude.{slice_set, slice_index}
 use Rattle.std.proofs.lemmas.Bool.{eqb-true}
-use Rattle.ckpt_machine.proofs.NodeLists.{index-other, slice_index-replicate}
-
--- the node is in the list no more
-pub index-zero : (xs : List ℕ) (r : ℕ) → slice_index (slice_set xs r 0) r ≡ 0
-index-zero [] r = refl
-index-zero (x ∷ xs) zero = refl
-index-zero (x ∷ xs) (suc r) = index-zero xs r
-
--- of no nodes none goes
-pub set-zeros : (n r : ℕ) → slice_set {A = ℕ} (replicate n 0) r 0 ≡ replicate n 0
-set-zeros zero r = refl
-set-zeros (suc n) zero = refl
-set-zeros (suc n) (suc r) = ap (λ xs. 0 ∷ xs) (set-zeros n r)
+use Rattle.ckpt_machine.proofs.NodeLists.{index-other}
+use Rattle.ckpt_types.proofs.Lists.{slice_index-replicate, slice_set-replicate, slice_index-cleared}
 
 -- nor is there one then
 pub no_node : (n r q : ℕ) → (slice_index (slice_set (replicate n 0) r 0) q == 0) ≡ true
-no_node n r q = ap (λ xs. slice_index xs q == 0) (set-zeros n r) ∙ ap (λ (x : ℕ). x == 0) (slice_index-replicate n q)
+no_node n r q = ap (λ xs. slice_index xs q == 0) (slice_set-replicate n r) ∙ ap (λ (x : ℕ). x == 0) (slice_index-replicate n q)
 
 -- a node that is complete still is another, and was so
 pub complete_was : (cs : List ℕ) (r q : ℕ) → (slice_index (slice_set cs r 0) q == 0) ≡ false → ((q == r) ≡ false) × ((slice_index cs q == 0) ≡ false)
 complete_was cs r q there = elim (q == r) as (λ b. (q == r) ≡ b → (b ≡ false) × ((slice_index cs q == 0) ≡ false)) [
-  | true ↦ λ same. absurd (let w : true ≡ false = sym (ap (λ (n : ℕ). n == 0) (ap (slice_index (slice_set cs r 0)) (eqb-true q r same) ∙ index-zero cs r)) ∙ there in cc w)
+  | true ↦ λ same. absurd (let w : true ≡ false = sym (ap (λ (n : ℕ). n == 0) (ap (slice_index (slice_set cs r 0)) (eqb-true q r same) ∙ slice_index-cleared cs r)) ∙ there in cc w)
   | false ↦ λ other. (refl, ap (λ (n : ℕ). n == 0) (sym (index-other cs r q 0 other)) ∙ there)
 ] refl
 

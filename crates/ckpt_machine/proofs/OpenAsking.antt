@@ -46,11 +46,8 @@ use Rattle.ckpt_machine.specs.Due.{Told, IsDone, IsEvent, IsRecordAnswer, IsEven
 use Rattle.ckpt_machine.specs.Shape.{Shape}
 use Rattle.ckpt_machine.proofs.Created.{entry_new, created_keeps}
 use Rattle.ckpt_machine.proofs.Deadlines.{in_time-cases}
-use Rattle.ckpt_machine.proofs.NodeLists.{slice_index-replicate}
-use Rattle.ckpt_machine.proofs.EntryLists.{entry_of-given, swept-all}
-use Rattle.ckpt_machine.proofs.EntryLists.{AllStay-push}
-use Rattle.ckpt_machine.proofs.StepLabels.{not_kept_off, IsEvent-told}
-use Rattle.ckpt_machine.proofs.StepLabels.{Told-is}
+use Rattle.ckpt_machine.proofs.EntryLists.{entry_of-given, swept-all, AllStay-push}
+use Rattle.ckpt_machine.proofs.StepLabels.{not_kept_off, IsEvent-told, Told-is}
 use Rattle.ckpt_machine.proofs.OptionLemmas.{IsSomeAnd-from}
 use Rattle.ckpt_machine.proofs.StepsLeft.{lacking-few}
 use Rattle.ckpt_machine.proofs.NodeLists.{had-there, has-none}
@@ -61,6 +58,7 @@ use Rattle.ckpt_machine.proofs.OwnMaking.{open_at}
 use Rattle.ckpt_machine.proofs.PlainCalls.{is_plain, maker_apart, plain_ends, look_goes}
 use Rattle.ckpt_machine.specs.Whose.{put_who}
 use Rattle.ckpt_machine.proofs.DueStep.{Goes}
+use Rattle.ckpt_types.proofs.Lists.{slice_index-replicate}
 
 module _ (m : Machine) (shapes : ℕ → Shape) (inv : InvariantIn shapes m) (s : CallState) (held : m.in_hand (who s) ≡ Some s) (call : CallId) (ask : OpenAsk) (deadline : Option ℤ) (is : driver_of s ≡ drivers.Open (record { call = call; ask = ask; deadline = deadline; making = None })) where
   -- what it keeps

@@ -46,8 +46,7 @@ use Rattle.ckpt_machine.specs.Due.{Told, IsDone, IsServed, IsEvent, driver_of}
 use Rattle.ckpt_machine.specs.Shape.{Shape, IsCompleteOn}
 use Rattle.ckpt_machine.proofs.Deadlines.{in_time-cases}
 use Rattle.ckpt_machine.proofs.Finished.{finish_keeps}
-use Rattle.ckpt_machine.proofs.EntryLists.{swept-all}
-use Rattle.ckpt_machine.proofs.EntryLists.{entry_of-given, find_key-change_key, AllStay-change_key, open-stays, list_any-first}
+use Rattle.ckpt_machine.proofs.EntryLists.{swept-all, entry_of-given, find_key-change_key, AllStay-change_key, open-stays, list_any-first}
 use Rattle.ckpt_machine.proofs.StepLabels.{IsServed-told, IsEvent-told}
 use Rattle.ckpt_machine.proofs.StepsLeft.{lacking-set}
 use Rattle.ckpt_machine.proofs.NodeLists.{first_lacking-is, first_lacking-None, index-set, index-other, length-slice_set, index-within, not-lacked, lacked-has, first_complete-there}

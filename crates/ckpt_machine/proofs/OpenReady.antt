@@ -13,6 +13,7 @@ use Rattle.ckpt_types.specs.Attributes.{IsWellFormed}
 use Rattle.ckpt_types.specs.Limits.{name_max, handles_max}
 use Rattle.client_handles.specs.ClientState.{has_handle_room}
 use Rattle.ckpt_types.proofs.AttributeLaws.{IsWellFormed-from_check}
+use Rattle.ckpt_types.proofs.Lists.{slice_index-replicate}
 use Rattle.node_msgs.specs.declared.requests.Request.{Request}
 use Rattle.node_msgs.specs.declared.requests.Request.TheVariants as requests
 use Rattle.node_msgs.specs.declared.next.Next.{Next}
@@ -45,7 +46,7 @@ use Rattle.ckpt_machine.specs.Shape.{Shape}
 use Rattle.ckpt_machine.proofs.Deadlines.{in_time-either}
 use Rattle.ckpt_machine.proofs.OptionLemmas.{IsSomeAnd-from}
 use Rattle.ckpt_machine.proofs.EndedTables.{client_by_number}
-use Rattle.ckpt_machine.proofs.NodeLists.{first_lacking-is, first_lacking-None, not-lacked, lacked-has, index-within, slice_index-replicate}
+use Rattle.ckpt_machine.proofs.NodeLists.{first_lacking-is, first_lacking-None, not-lacked, lacked-has, index-within}
 use Rattle.ckpt_machine.proofs.Targets.{targets-length, target-up}
 use Rattle.ckpt_machine.proofs.OwnMaking.{open_at, making_at, making_entry}
 

@@ -23,7 +23,7 @@ use Rattle.cluster_record.specs.DueOnce as once
 use Rattle.cluster_record.specs.DueOpen.{OpenState}
 use Rattle.cluster_record.specs.DueSync.{SyncState}
 use Rattle.cluster_record.specs.DueUpdate.{UpdateState}
-use Rattle.cluster_record.specs.Placement.{is_collocated}
+use Rattle.cluster_record.specs.Placement.{is_collocated, is_all}
 use Rattle.cluster_record.specs.RecordState.{entry_of, home_of, is_live, is_live_client, is_up}
 use Rattle.cluster_record.specs.StepDone.{has, last_having}
 use Rattle.ckpt_types.specs.Asks.{asked}
@@ -38,7 +38,6 @@ use Rattle.ckpt_machine.specs.Entries.{WasMade}
 use Rattle.ckpt_types.specs.declared.attributes.CreationAttributes.{CreationAttributes}
 use Rattle.ckpt_machine.specs.Machine.{Machine, ReplicaState, Snapshot, CallState, who}
 use Rattle.ckpt_machine.specs.Options.{is_weak}
-use Rattle.cluster_record.specs.Placement.{is_all}
 use Rattle.ckpt_machine.specs.Propagation.{on_node, copied}
 use Rattle.weak_marks.specs.Marks.{Marked}
 use Rattle.ckpt_machine.specs.Shape.{Shape, IsCompleteOn, marks_at, IsShapedBy, is_owner, PhaseFits, IsOwner, IsLeft, IsMarker, IsActiveBy, IsHolder}

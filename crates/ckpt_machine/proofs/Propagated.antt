@@ -19,13 +19,13 @@ use Rattle.cluster_record.specs.Placement.{is_all}
 use Rattle.ckpt_machine.specs.Propagation.{source_of, on_node, source_at, copied, with_pulled, target_of, target_at, is_behind, put_onto, put_reply, replica_from, with_put}
 use Rattle.ckpt_machine.specs.Shape.{Shape, IsCompleteOn, marks_at, IsApart, IsShapedBy, IsSpread}
 use Rattle.ckpt_machine.proofs.MarksAt.{none_elsewhere}
-use Rattle.ckpt_machine.proofs.NodeLists.{slice_index-replicate}
 use Rattle.ckpt_machine.proofs.OnComplete.{present_generation, put_complete}
 use Rattle.ckpt_machine.proofs.OptionLemmas.{IsSomeAnd-at, IsSomeAnd-from}
 use Rattle.ckpt_machine.specs.InHand.{IsInHand}
 use Rattle.ckpt_types.specs.declared.identities.Who.{Who}
 use Rattle.ckpt_machine.proofs.Lives.{LivesOn, lives_on-fewer}
 use Rattle.ckpt_machine.proofs.OtherCalls.{LooksAlike, LooksLater-refl, IsHolder-alike, making_still, IsInHand-alike, owned_alike, owner_before, IsMarker-alike, IsMaker-alike}
+use Rattle.ckpt_types.proofs.Lists.{slice_index-replicate}
 
 -- ---- what they are about
 

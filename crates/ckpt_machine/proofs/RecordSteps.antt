@@ -28,7 +28,7 @@ use Rattle.ckpt_types.specs.Limits.{handles_max}
 use Rattle.cluster_record.specs.Makings.{makings_of}
 use Rattle.ckpt_machine.proofs.FewerMakings.{fewer_makings}
 use Rattle.ckpt_machine.proofs.FewerCalls.{calls_fewer}
-use Rattle.ckpt_machine.proofs.NodeLists.{slice_index-replicate}
+use Rattle.ckpt_types.proofs.Lists.{slice_index-replicate}
 
 module _ (m : Machine) (shapes : ℕ → Shape) (inv : InvariantIn shapes m) (R : RecordState) (hands : Who → Option CallState) (after_it : IsLaterRecord m R hands) where
   abbrev then_machine : Machine

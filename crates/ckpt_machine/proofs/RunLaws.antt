@@ -19,7 +19,3 @@ run_has log run = along (λ log m. Invariant m × Counts m (length log)) goes_on
   where
     goes_on : (front : List Label) (l : Label) → IsRun front → Allowed (last front) l → IsDue (last front) l → Invariant (last front) × Counts (last front) (length front) → Invariant (after (last front) l) × Counts (after (last front) l) (length (front ++ l ∷ []))
     goes_on front l before allowed due had = ((lawful (last front) l had.0 due).1, subst (Counts (after (last front) l)) (sym (length-append front (l ∷ []))) (counts_up (last front) l (length front) had.0 due had.1))
-
--- so a run goes on by what is due
-pub run_goes_on : (log : List Label) (l : Label) → IsRun log → IsDue (last log) l → IsRun (log ++ l ∷ [])
-run_goes_on log l run due = run_more log l run (lawful (last log) l (run_has log run).0 due).0 due

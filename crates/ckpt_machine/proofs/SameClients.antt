@@ -26,7 +26,7 @@ use Rattle.ckpt_machine.proofs.AsyncNames.{own_name}
 use Rattle.ckpt_machine.proofs.EndedTables.{client_by_number}
 use Rattle.ckpt_machine.proofs.EntryLists.{find_key-push, find_key-without}
 use Rattle.ckpt_machine.proofs.Whose.{one_state}
-use Rattle.ckpt_machine.proofs.OptionLemmas.{none_of}
+use Rattle.ckpt_types.proofs.Options.{none_of}
 
 -- what a row says that names neither a checkpoint nor a node
 said_alone : (j q : Option ℕ) (P : Type 0) → AtNone j q P → P

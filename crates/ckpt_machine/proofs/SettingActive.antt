@@ -20,7 +20,7 @@ use Rattle.cluster_record.specs.declared.calls.SyncKind.TheVariants.{Synchronize
 use Rattle.cluster_record.specs.declared.entries.Entry.{Entry}
 use Rattle.cluster_record.specs.Calls.{same_call}
 use Rattle.cluster_record.specs.DueSync.{SyncState, lead_next, unless_held, kind_next, sync_on, sync_next}
-use Rattle.cluster_record.specs.Placement.{is_collocated}
+use Rattle.cluster_record.specs.Placement.{is_collocated, is_all}
 use Rattle.cluster_record.specs.Places.{put2}
 use Rattle.cluster_record.specs.RecordState.{RecordState, entry_of, stays, swept, is_active, with_hold, hold_set, generation_under, with_active, active_set}
 use Rattle.cluster_record.specs.StepDone.{StepDone, done_of, counting, generation_in}
@@ -32,7 +32,6 @@ use Rattle.ckpt_machine.specs.InHand.{is_marked_by, is_held_by, is_enter, IsInPl
 use Rattle.ckpt_machine.specs.Invariant.{IsGoodIn, IsOfGeneration, IsCompleteAt, InvariantIn, Invariant}
 use Rattle.ckpt_machine.specs.Left.{setting_left, kind_left, steps_left}
 use Rattle.ckpt_machine.specs.Machine.{Machine, ReplicaState, Snapshot, CallState, who}
-use Rattle.cluster_record.specs.Placement.{is_all}
 use Rattle.ckpt_machine.specs.Propagation.{on_node, copied}
 use Rattle.ckpt_machine.specs.Shape.{Shape, IsCompleteOn, marks_at, IsApart, IsShapedBy, IsActiveBy, IsHolder, IsSpread}
 use Rattle.ckpt_machine.specs.After.{with_record, with_lead, change_replica, led_from, kept_behind, left_in_hand}
@@ -48,13 +47,14 @@ use Rattle.ckpt_machine.proofs.Joining.{collocated_apart}
 use Rattle.ckpt_machine.proofs.MarksAt.{marks_here, none_marked}
 use Rattle.ckpt_machine.proofs.OnComplete.{present_generation}
 use Rattle.ckpt_machine.proofs.OnTheActive.{marker_live}
-use Rattle.ckpt_machine.proofs.OptionLemmas.{IsSomeAnd-at, IsSomeAnd-from, IfSome-at, none_of}
+use Rattle.ckpt_machine.proofs.OptionLemmas.{IsSomeAnd-at, IsSomeAnd-from, IfSome-at}
 use Rattle.ckpt_machine.proofs.OtherCalls.{LooksLater, IsMarker-alike}
 use Rattle.ckpt_machine.proofs.PlainCalls.{is_plain_sync, is_plain, holder_apart, look_ends, look_goes, plain_ends}
 use Rattle.ckpt_machine.proofs.StepLabels.{Told-is, unhindered-told, IsEvent-told}
 use Rattle.ckpt_machine.specs.Whose.{put_who}
 use Rattle.ckpt_machine.proofs.Whose.{put_who-other, put_who-here}
 use Rattle.ckpt_machine.proofs.HeldIdentity.{with_hold-identity, with_active-identity}
+use Rattle.ckpt_types.proofs.Options.{none_of}
 
 -- the generation rises where the active changes, and only there
 pub generation_under-rises : (r : ℕ) (e : Entry) → e.generation ≤ generation_under r e

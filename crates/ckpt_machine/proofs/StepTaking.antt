@@ -34,7 +34,7 @@ use Rattle.cluster_record.specs.DueSync.{SyncState, first_unserved, install_next
 use Rattle.cluster_record.specs.Ends.{hold_in, is_own, made_in, making_next, making_outcome_by, making_told_by, open_outcome_by, opened_in, refused_end, set_unless_held, setting_end, sync_outcome_by, sync_told_by}
 use Rattle.cluster_record.specs.Identities.{IdentitiesRise}
 use Rattle.cluster_record.specs.LookUps.{at_ckpt, identity_in}
-use Rattle.cluster_record.specs.Opening.{answer_by, answer_named}
+use Rattle.cluster_record.specs.Opening.{answer_by, answer_named, found_by, found_in}
 use Rattle.cluster_record.specs.Placement.{adds}
 use Rattle.cluster_record.specs.Places.{change_key}
 use Rattle.cluster_record.specs.RecordState.{RecordState, can_be_held, can_lead, created_as, entry_of, home_of, identity_of, is_live, is_name, joined, named, new_entry, opened, opened_with, stays, swept, with_active, with_hold, generation_under}
@@ -42,7 +42,6 @@ use Rattle.cluster_record.specs.Refusals.{plainly}
 use Rattle.cluster_record.specs.StepDone.{done_of, first_lacking}
 use Rattle.cluster_record.proofs.IdentityLaws.{KeepsIdentity, AllAbove-entry_of, entry_of-find}
 use Rattle.cluster_record.proofs.NameLaws.{KeepsName}
-use Rattle.cluster_record.specs.Opening.{found_by, found_in}
 use Rattle.ckpt_machine.specs.Drivers.{Driver, Rooms}
 use Rattle.ckpt_machine.specs.Drivers as drivers
 use Rattle.ckpt_machine.specs.Driving.{driver_next, driver_taken, event_ckpt, event_end, event_node, event_refusal, opened_end, refusal_in, takes_memory}

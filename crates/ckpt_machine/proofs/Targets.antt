@@ -5,7 +5,8 @@ use Rattle.std.proofs.lemmas.Bool.{eqb-true}
 use Rattle.ckpt_types.specs.declared.attributes.CreationAttributes.{CreationAttributes}
 use Rattle.cluster_record.specs.Placement.{is_collocated, alone_on, targets}
 use Rattle.cluster_record.specs.RecordState.{no_nodes}
-use Rattle.ckpt_machine.proofs.NodeLists.{index-within, index-set, index-other, length-slice_set, slice_index-replicate}
+use Rattle.ckpt_machine.proofs.NodeLists.{index-within, index-set, index-other, length-slice_set}
+use Rattle.ckpt_types.proofs.Lists.{slice_index-replicate}
 
 module _ (a : CreationAttributes) (opener : ℕ) (up : List ℕ) where
   abbrev on : Bool → List ℕ

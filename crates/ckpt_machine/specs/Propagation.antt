@@ -13,6 +13,7 @@ use Rattle.cluster_record.specs.StepDone.{generation_in}
 use Rattle.ckpt_machine.specs.Machine.{Machine, ReplicaState, Snapshot}
 use Rattle.ckpt_machine.specs.Listing.{is_active}
 use Rattle.cluster_record.specs.Placement.{is_all}
+use Rattle.replica.specs.Replicas.{is_earlier}
 
 -- ---- a pull
 
@@ -64,9 +65,9 @@ target_of (Some e) r x = if is_all e.attributes || is_active e.active r then Non
 abbrev pub target_at : Machine → ℕ → ℕ → Option ReplicaState
 target_at m k r = target_of (entry_of k m.cluster.entries) r (m.replicas k r)
 
--- the replica has a lower generation than the snapshot, or the same and fewer updates
+-- the replica is behind the snapshot, counted by their effects
 abbrev pub is_behind : ReplicaState → Snapshot → Bool
-is_behind x s = nat_lt x.generation s.generation || ((x.generation == s.generation) && nat_lt (length x.effects) (length s.effects))
+is_behind x s = is_earlier x.generation (length x.effects) s.generation (length s.effects)
 
 -- a snapshot of another generation than the present one is stale; else a replica takes it that is older
 abbrev pub put_onto : ℕ → Snapshot → ReplicaState → PutReply

@@ -14,8 +14,9 @@ use Rattle.ckpt_types.specs.Sections.{Section, Rises, Fits, section_at, with_sec
 use Rattle.ckpt_types.specs.Updates.{new_id, is_bad_id, written, element_written, elements_written, outcome}
 use Rattle.ckpt_types.proofs.Accepted.{IsCreated, IsExpirationSet, IsOverwritten, IsElementWritten, and_then-Ok, section_created-Ok, section_deleted-Ok, expiration_set-Ok, overwritten-Ok, element_written-Ok, accepted_same}
 use Rattle.ckpt_types.proofs.Numbering.{length-generated_id}
-use Rattle.ckpt_types.proofs.Presence.{section_at-named, All-section_at, Rises-present, length-filter-le, memory_used-filter-le}
+use Rattle.ckpt_types.proofs.Presence.{section_at-named, All-section_at, Rises-present, memory_used-filter-le}
 use Rattle.ckpt_types.proofs.Placing.{Rises-with_section, Rises-without_section, All-with_section, length-with_section_taken, length-with_section_free, memory_used-with_section_over}
+use Rattle.ckpt_types.proofs.Lists.{length-filter_le}
 
 -- ---- the order
 
@@ -54,7 +55,7 @@ Rises-opening a made = elim (a.max_sections == 1) as (λ b. Rises (cond b (defau
 pub Fits-filter : (a : CreationAttributes) (p : Section → Bool) (sections : List Section) → Fits a sections → Fits a (filter p sections)
 Fits-filter a p sections fits =
     record {
-      few = omega (arith, length-filter-le p sections, fits.few);
+      few = omega (arith, length-filter_le p sections, fits.few);
       small = All-filter p (λ s. size_of s ≤ a.max_section_size) sections fits.small;
       named_short = All-filter p (λ s. length s.id ≤ a.max_section_id_size) sections fits.named_short;
       within = omega (arith, memory_used-filter-le p sections, fits.within);

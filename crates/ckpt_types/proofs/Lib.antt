@@ -3,7 +3,9 @@ pub mod AttributeLaws
 mod Constants
 pub mod EndsLemmas
 pub mod Fitting
+pub mod Lists
 pub mod Numbering
+pub mod Options
 pub mod Padding
 pub mod Placing
 pub mod Presence

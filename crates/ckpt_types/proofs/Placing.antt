@@ -7,7 +7,8 @@ use Rattle.std.proofs.lemmas.Bool.{false_from_ne_true, true≢false, false≢tru
 use Rattle.std.proofs.lemmas.List.Elements.{All-head, All-tail, All-cons}
 use Rattle.std.proofs.lemmas.List.Sums.{sum_by-cons}
 use Rattle.ckpt_types.specs.Sections.{Section, id_cmp, is_named, section_at, is_taken, IsBelowAll, Rises, with_section, without_section, memory_used, size_of}
-use Rattle.ckpt_types.proofs.Presence.{is_named_decides, is_named-by_order, id_cmp_turned, section_at-below_all, section_at_after, IsBelowAll-earlier, Rises-filter, length-filter-le, memory_used-filter-le}
+use Rattle.ckpt_types.proofs.Presence.{is_named_decides, is_named-by_order, id_cmp_turned, section_at-below_all, section_at_after, IsBelowAll-earlier, Rises-filter, memory_used-filter-le}
+use Rattle.ckpt_types.proofs.Lists.{length-filter_le}
 
 -- an identifier is that of a section where the order ties them
 id_cmp-Equal : (id : List ℕ) (s : Section) → id_cmp id s.id ≡ Equal → s.id ≡ id
@@ -189,7 +190,7 @@ length-without_section id sections rises =
 
 -- taking a section away takes no more places
 pub length-without_section-le : (id : List ℕ) (sections : List Section) → length (without_section id sections) ≤ length sections
-length-without_section-le id sections = length-filter-le (λ s. not (is_named id s)) sections
+length-without_section-le id sections = length-filter_le (λ s. not (is_named id s)) sections
 
 -- taking a section away leaves fewer where its identifier was taken, in whatever order the sections stand
 pub length-without_section-lt : (id : List ℕ) (sections : List Section) → is_taken id sections ≡ true → length (without_section id sections) < length sections

@@ -2,12 +2,14 @@
 use Rattle.std.proofs.Common.{◌≡◌, ℕ, zero, suc, ◌<◌, ◌≤◌, List, [], ◌∷◌, length, filter, Option, Some, None, option_map, slice_get, Bool, true, false, cond, not, ℤ, Decides, Ordering, Less, Greater, is_eq, All, sym, ap, ◌∙◌, subst, refl, arith}
 use Rattle.std.specs.Ordering.{ordering_reverse}
 use Rattle.std.specs.Cmp.Lexicographic.{bytes_decides, texts_ties}
+use Rattle.std.specs.Prelude.{MatchOption}
 use Rattle.std.proofs.lemmas.Cmp.{nat_list_cmp_total}
 use Rattle.std.proofs.lemmas.Option.{none-some, same_Some}
 use Rattle.std.proofs.lemmas.List.Sums.{length-filter, count_by-le-length}
 use Rattle.std.proofs.lemmas.List.Elements.{All-head, All-tail}
 use Rattle.std.proofs.lemmas.List.Filters.{sum_by-filter_both}
 use Rattle.ckpt_types.specs.Sections.{Section, id_cmp, is_named, section_at, place_of, IsBelowAll, Rises, is_present, present, where_present, memory_used, size_of}
+use Rattle.ckpt_types.proofs.Lists.{length-filter_le}
 
 -- a section is named by its identifier and no other
 pub is_named_decides : (id : List ℕ) (s : Section) → Decides (is_named id s) (s.id ≡ id)
@@ -142,11 +144,19 @@ place_of-lt id (s ∷ sections) i is = step (is_named id s) (place_of id section
     step false None rest i is = absurd (none-some i is)
     step false (Some j) rest i is = let at : suc j ≡ i = same_Some (suc j) i is in let lt : j < length sections = rest j refl in omega arith
 
+-- what is found is at the place, and nothing where there is no place
+pub section_at-MatchOption : (id : List ℕ) (sections : List Section) → MatchOption (place_of id sections) (section_at id sections ≡ None) (λ place. section_at id sections ≡ slice_get sections place)
+section_at-MatchOption id sections =
+    elim (place_of id sections) as (λ o. place_of id sections ≡ o → MatchOption o (section_at id sections ≡ None) (λ place. section_at id sections ≡ slice_get sections place)) [
+      | None ↦ λ nowhere. section_at-no_place id sections nowhere
+      | Some i ↦ λ at. section_at-place_of id sections i at
+    ] refl
+
 -- an identifier before all is before that of the section at any place
-id_cmp_at : (id : List ℕ) (sections : List Section) (i : ℕ) (s : Section) → IsBelowAll id sections → slice_get sections i ≡ Some s → id_cmp id s.id ≡ Less
-id_cmp_at id [] i s below is = absurd (none-some s is)
-id_cmp_at id (x ∷ sections) zero s below is = subst (λ y. id_cmp id y.id ≡ Less) (same_Some x s is) below.0
-id_cmp_at id (x ∷ sections) (suc i) s below is = id_cmp_at id sections i s below.1 is
+pub id_cmp-IsBelowAll : (id : List ℕ) (sections : List Section) (i : ℕ) (s : Section) → IsBelowAll id sections → slice_get sections i ≡ Some s → id_cmp id s.id ≡ Less
+id_cmp-IsBelowAll id [] i s below is = absurd (none-some s is)
+id_cmp-IsBelowAll id (x ∷ sections) zero s below is = subst (λ y. id_cmp id y.id ≡ Less) (same_Some x s is) below.0
+id_cmp-IsBelowAll id (x ∷ sections) (suc i) s below is = id_cmp-IsBelowAll id sections i s below.1 is
 
 -- where identifiers rise, each section is at the place of its identifier, so each identifier stands once
 pub place_of-slice_get : (sections : List Section) (i : ℕ) (s : Section) → Rises sections → slice_get sections i ≡ Some s → place_of s.id sections ≡ Some i
@@ -155,7 +165,7 @@ place_of-slice_get (x ∷ sections) zero s rises is =
     let named : is_named s.id x ≡ true = (is_named_decides s.id x).1 (ap (λ y. y.id) (same_Some x s is)) in
     rw named
 place_of-slice_get (x ∷ sections) (suc i) s rises is =
-    let later : id_cmp s.id x.id ≡ Greater = id_cmp_turned x.id s.id Less (id_cmp_at x.id sections i s rises.0 is) in
+    let later : id_cmp s.id x.id ≡ Greater = id_cmp_turned x.id s.id Less (id_cmp-IsBelowAll x.id sections i s rises.0 is) in
     rw (is_named-by_order s.id x Greater later, place_of-slice_get sections i s rises.1 is)
 
 -- where identifiers rise, each section is the one found by its identifier
@@ -169,13 +179,9 @@ same_place sections i j r s rises at_i at_j same =
 
 -- ---- how many, and how many bytes
 
--- leaving sections out takes no more places
-pub length-filter-le : (p : Section → Bool) (sections : List Section) → length (filter p sections) ≤ length sections
-length-filter-le p sections = omega (arith, length-filter p sections, count_by-le-length p sections)
-
 -- those present are at most all
 pub length-present-le : (t : ℤ) (sections : List Section) → length (present t sections) ≤ length sections
-length-present-le t sections = length-filter-le (is_present t) sections
+length-present-le t sections = length-filter_le (is_present t) sections
 
 -- leaving sections out takes no more bytes
 pub memory_used-filter-le : (p : Section → Bool) (sections : List Section) → memory_used (filter p sections) ≤ memory_used sections

@@ -7,7 +7,7 @@ use Rattle.ckpt_types.specs.declared.ais_error.AisError.{AisError}
 use Rattle.ckpt_types.specs.declared.ais_error.AisError.TheVariants.{BadHandle}
 use Rattle.client_handles.specs.ClientState.{ClientState, handle_number, handle_numbered, handle_at, named_handle, released, bound, opened_at, dropped, emptied}
 use Rattle.client_handles.specs.declared.handle_view.HandleView.{HandleView}
-use Rattle.client_handles.proofs.NumberedLaws.{numbered-is, stands_for-set_same, stands_for-set_other, stands_for-without_same, stands_for-without_other}
+use Rattle.client_handles.proofs.NumberedLaws.{numbered-is, stands_for-set_same, stands_for-set_other}
 
 same_open_handle : (x y : HandleView) → ◌≡◌ {A = Result HandleView AisError} (Ok x) (Ok y) → x ≡ y
 same_open_handle x y e = cc e
@@ -34,38 +34,3 @@ handle_at-refused place s error e = refused_case (handle_at place s) e where
 -- a place that is set stands for the handle of that number
 pub handle_at-bound_same : (place number : ℕ) (s : ClientState) → place < length s.places → handle_at place (bound place number s) ≡ handle_numbered number s.handles
 handle_at-bound_same place number s within = stands_for-set_same handle_number s.places s.handles place number within
-
--- and each other place for what it did
-pub handle_at-bound_other : (place number other : ℕ) (s : ClientState) → other ≢ place → handle_at other (bound place number s) ≡ handle_at other s
-handle_at-bound_other place number other s differs = stands_for-set_other handle_number s.places s.handles place other number differs
-
--- where the handle is open still, its place is set
-pub opened_at-open : (place number : ℕ) (s : ClientState) (h : HandleView) → nat_lt place places_max ≡ true → handle_numbered number s.handles ≡ Some h → opened_at place number s ≡ bound place number s
-opened_at-open place number s h within found = λ i. cond (within i && is_some (found i)) (bound place number s) s
-
--- and where it is closed, nothing changes
-pub opened_at-closed : (place number : ℕ) (s : ClientState) → handle_numbered number s.handles ≡ None → opened_at place number s ≡ s
-opened_at-closed place number s none = by_test (nat_lt place places_max) where
-  by_test : (b : Bool) → cond (b && is_some (handle_numbered number s.handles)) (bound place number s) s ≡ s
-  by_test true = ap (λ (o : Option HandleView). cond (is_some o) (bound place number s) s) none
-  by_test false = refl
-
--- a place that was set to a handle that is closed stands for none
-pub handle_at-released_same : (place number : ℕ) (s : ClientState) → slice_index s.places place ≡ number → handle_at place (released number s) ≡ None
-handle_at-released_same place number s is = stands_for-without_same handle_number s.places s.handles place number is
-
--- and each other place for what it did
-pub handle_at-released_other : (place number : ℕ) (s : ClientState) → slice_index s.places place ≢ number → handle_at place (released number s) ≡ handle_at place s
-handle_at-released_other place number s differs = stands_for-without_other handle_number s.places s.handles place number differs
-
--- a place whose handle was closed stands for none
-pub handle_at-dropped_same : (place : ℕ) (s : ClientState) → handle_at place (dropped place s) ≡ None
-handle_at-dropped_same place s = handle_at-released_same place (slice_index s.places place) s refl
-
--- and a place that was set to another handle for what it did
-pub handle_at-dropped_other : (place other : ℕ) (s : ClientState) → slice_index s.places other ≢ slice_index s.places place → handle_at other (dropped place s) ≡ handle_at other s
-handle_at-dropped_other place other s differs = handle_at-released_other other (slice_index s.places place) s differs
-
--- where all handles were closed, each place stands for none
-pub handle_at-emptied : (place : ℕ) (s : ClientState) → handle_at place (emptied s) ≡ None
-handle_at-emptied place s = refl

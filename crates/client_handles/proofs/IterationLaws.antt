@@ -15,8 +15,9 @@ use Rattle.client_handles.specs.ClientState.{ClientState, new_client, handle_num
 use Rattle.client_handles.specs.Numbered.{numbered, without}
 use Rattle.client_handles.specs.declared.begun.BegunIteration.{BegunIteration}
 use Rattle.client_handles.specs.declared.handle_view.HandleView.{HandleView}
-use Rattle.client_handles.proofs.NumberedLaws.{slice_index-new, without-absent, numbered-without_other, numbered-push_same, numbered-push_other, numbered-All, IsSome-push, stands_for-set_same, stands_for-set_other, stands_for-without_same, stands_for-without_other}
-use Rattle.client_handles.proofs.RisingLaws.{RiseWithin-push, RiseWithin-filter, RiseWithin-map, numbered-high, numbered-filter, numbered-filter_none, length-filter_le}
+use Rattle.client_handles.proofs.NumberedLaws.{slice_index-new, without-absent, numbered-without_other, numbered-push_same, numbered-push_other, numbered-All, IsSome-push, stands_for-set_same, stands_for-set_other}
+use Rattle.client_handles.proofs.RisingLaws.{RiseWithin-push, RiseWithin-filter, RiseWithin-map, numbered-high, numbered-filter, numbered-filter_none}
+use Rattle.ckpt_types.proofs.Lists.{length-filter_le}
 
 -- ---- what is told
 
@@ -34,14 +35,6 @@ found_Ok (Some y) x e = ap Some (sym (same_Ok x y e))
 found_Err : {A : Type 0} (o : Option A) (error : AisError) → Err error ≡ ok_or o BadHandle → o ≡ None
 found_Err None error e = refl
 found_Err (Some y) error e = absurd cc
-
-named_over : (handles : List HandleView) (h : HandleView) (o : Option BegunIteration) → Ok h ≡ ok_or (option_and_then (λ (it : BegunIteration). handle_numbered (goes_over it) handles) o) BadHandle → (it : BegunIteration) × (o ≡ Some it) × (handle_numbered it.handle handles ≡ Some h)
-named_over handles h None e = absurd cc
-named_over handles h (Some it) e = (it, refl, found_Ok (handle_numbered it.handle handles) h e)
-
--- where a handle is told, the place stands for an iteration over it, and it is open
-pub iterated_handle-Ok : (place : ℕ) (s : ClientState) (h : HandleView) → Ok h ≡ iterated_handle place s → (it : BegunIteration) × (iteration_at place s ≡ Some it) × (handle_numbered it.handle s.handles ≡ Some h)
-iterated_handle-Ok place s h told = named_over s.handles h (iteration_at place s) told
 
 unnamed_over : (handles : List HandleView) (error : AisError) (o : Option BegunIteration) → ((it : BegunIteration) → o ≡ Some it → IsOver handles it) → Err error ≡ ok_or (option_and_then (λ (it : BegunIteration). handle_numbered (goes_over it) handles) o) BadHandle → o ≡ None
 unnamed_over handles error None over e = refl
@@ -79,18 +72,6 @@ module _ (place handle : ℕ) (kept : KeptIds) (s : ClientState) (has : HasItera
 
 -- ---- one ended
 
--- a place whose iteration was ended stands for none
-pub iteration_at-ended_same : (place : ℕ) (s : ClientState) → iteration_at place (ended place s) ≡ None
-iteration_at-ended_same place s = stands_for-without_same iteration_number s.iteration_places s.iterations place (slice_index s.iteration_places place) refl
-
--- and a place that was set to another iteration for what it did
-pub iteration_at-ended_other : (place other : ℕ) (s : ClientState) → slice_index s.iteration_places other ≢ slice_index s.iteration_places place → iteration_at other (ended place s) ≡ iteration_at other s
-iteration_at-ended_other place other s differs = stands_for-without_other iteration_number s.iteration_places s.iterations other (slice_index s.iteration_places place) differs
-
--- where all have ended, each place stands for none
-pub iteration_at-emptied : (place : ℕ) (s : ClientState) → iteration_at place (emptied s) ≡ None
-iteration_at-emptied place s = refl
-
 -- once a handle is closed, no place stands for an iteration over it
 pub iteration_at-released_over : (place number : ℕ) (s : ClientState) (it : BegunIteration) → HasIterations s → iteration_at place s ≡ Some it → it.handle ≡ number → iteration_at place (released number s) ≡ None
 iteration_at-released_over place number s it has found over =
@@ -102,10 +83,6 @@ pub iteration_at-released_other : (place number : ℕ) (s : ClientState) (it : B
 iteration_at-released_other place number s it has found differs =
     numbered-filter iteration_number (λ x. not (goes_over x == number)) (slice_index s.iteration_places place) 0 s.last_iteration s.iterations it has.numbers found
     ∙ ap (λ b. cond (not b) (Some it) None) (ne_eqb it.handle number differs)
-
--- nor does a place that stood for none
-pub iteration_at-released_none : (place number : ℕ) (s : ClientState) → iteration_at place s ≡ None → iteration_at place (released number s) ≡ None
-iteration_at-released_none place number s none = numbered-filter_none iteration_number (λ x. not (goes_over x == number)) (slice_index s.iteration_places place) s.iterations none
 
 none_over : (number : ℕ) (handles : List HandleView) (its : List BegunIteration) → handle_numbered number handles ≡ None → All (IsOver handles) its → numbered goes_over number its ≡ None
 none_over number handles [] none over = refl
@@ -145,10 +122,6 @@ numbered-keeping kept number (x ∷ its) = kept_step kept number x its (numbered
 pub iteration_at-lent : (place : ℕ) (s : ClientState) → iteration_at place (lent place s) ≡ option_map (with_kept None) (iteration_at place s)
 iteration_at-lent place s = numbered-keeping None (slice_index s.iteration_places place) s.iterations
 
--- and for the iteration that is returned
-pub iteration_at-returned : (place : ℕ) (kept : KeptIds) (s : ClientState) → iteration_at place (returned place kept s) ≡ option_map (with_kept (Some kept)) (iteration_at place s)
-iteration_at-returned place kept s = numbered-keeping (Some kept) (slice_index s.iteration_places place) s.iterations
-
 kept_other_step : (kept : Option KeptIds) (number other : ℕ) (x : BegunIteration) (its : List BegunIteration) → other ≢ number → numbered iteration_number other (keeping kept number its) ≡ numbered iteration_number other its → (b : Bool) → (x.number == number) ≡ b →
     numbered iteration_number other (cond b (with_kept kept x) x ∷ keeping kept number its) ≡ numbered iteration_number other (x ∷ its)
 kept_other_step kept number other x its differs rest true test =
@@ -161,13 +134,6 @@ kept_other_step kept number other x its differs rest false test = ap (λ o. cond
 pub numbered-keeping_other : (kept : Option KeptIds) (number other : ℕ) (its : List BegunIteration) → other ≢ number → numbered iteration_number other (keeping kept number its) ≡ numbered iteration_number other its
 numbered-keeping_other kept number other [] differs = refl
 numbered-keeping_other kept number other (x ∷ its) differs = kept_other_step kept number other x its differs (numbered-keeping_other kept number other its differs) (x.number == number) refl
-
--- a place that stands for another iteration stands for what it did
-pub iteration_at-lent_other : (place other : ℕ) (s : ClientState) → slice_index s.iteration_places other ≢ slice_index s.iteration_places place → iteration_at other (lent place s) ≡ iteration_at other s
-iteration_at-lent_other place other s differs = numbered-keeping_other None (slice_index s.iteration_places place) (slice_index s.iteration_places other) s.iterations differs
-
-pub iteration_at-returned_other : (place other : ℕ) (kept : KeptIds) (s : ClientState) → slice_index s.iteration_places other ≢ slice_index s.iteration_places place → iteration_at other (returned place kept s) ≡ iteration_at other s
-iteration_at-returned_other place other kept s differs = numbered-keeping_other (Some kept) (slice_index s.iteration_places place) (slice_index s.iteration_places other) s.iterations differs
 
 absent_step : (kept : Option KeptIds) (x : BegunIteration) (rest left : List BegunIteration) (o : Option BegunIteration) → (o ≡ None → left ≡ rest) → (b : Bool) → cond b (Some x) o ≡ None → cond b (with_kept kept x) x ∷ left ≡ x ∷ rest
 absent_step kept x rest left o same true e = absurd (none-some x (sym e))
@@ -226,7 +192,7 @@ HasIterations-released number s has =
     let keeps : BegunIteration → Bool = λ it. not (goes_over it == number) in
     let few : length s.iterations ≤ iterations_max = has.few in
     record {
-      few = omega (arith, length-filter_le iteration_number keeps s.iterations);
+      few = omega (arith, length-filter_le keeps s.iterations);
       numbers = RiseWithin-filter iteration_number keeps 0 s.last_iteration s.iterations has.numbers;
       over_open = λ k d low.
           subst (λ (o : Option HandleView). IsSome o)
@@ -276,7 +242,7 @@ HasIterations-ended place s has =
     let keeps : BegunIteration → Bool = λ it. not (iteration_number it == slice_index s.iteration_places place) in
     let few : length s.iterations ≤ iterations_max = has.few in
     record {
-      few = omega (arith, length-filter_le iteration_number keeps s.iterations);
+      few = omega (arith, length-filter_le keeps s.iterations);
       numbers = RiseWithin-filter iteration_number keeps 0 s.last_iteration s.iterations has.numbers;
       over_open = All-filter keeps (IsOver s.handles) s.iterations has.over_open;
       places = has.places;

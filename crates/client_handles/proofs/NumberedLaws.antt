@@ -9,19 +9,15 @@ use Rattle.std.proofs.lemmas.List.Folds.{find-append}
 use Rattle.std.proofs.lemmas.Option.{none-some, same_Some}
 use Rattle.ckpt_types.specs.Limits.{places_max}
 use Rattle.client_handles.specs.Numbered.{numbered, without, stands_for}
+use Rattle.ckpt_types.proofs.Lists.{slice_index-replicate}
 
 found_or_none : {A : Type 0} (o : Option A) → option_or o None ≡ o
 found_or_none None = refl
 found_or_none (Some x) = refl
 
-no_number : (n place : ℕ) → slice_index (replicate n 0) place ≡ 0
-no_number zero place = refl
-no_number (suc n) zero = refl
-no_number (suc n) (suc place) = no_number n place
-
 -- a place that was never set has the number 0
 pub slice_index-new : (place : ℕ) → slice_index (replicate places_max 0) place ≡ 0
-slice_index-new place = no_number places_max place
+slice_index-new place = slice_index-replicate places_max place
 
 module _ {A : Type 0} (number_of : A → ℕ) where
   -- ---- by number
@@ -113,11 +109,3 @@ module _ {A : Type 0} (number_of : A → ℕ) where
   -- and each other place for what it did
   pub stands_for-set_other : (places : List ℕ) (xs : List A) (place other number : ℕ) → other ≢ place → stands_for number_of (slice_set places place number) xs other ≡ stands_for number_of places xs other
   stands_for-set_other places xs place other number differs = ap (λ n. numbered number_of n xs) (get_or-set_other places place other number 0 differs)
-
-  -- a place that was set to one that is left out stands for none
-  pub stands_for-without_same : (places : List ℕ) (xs : List A) (place number : ℕ) → slice_index places place ≡ number → stands_for number_of places (without number_of number xs) place ≡ None
-  stands_for-without_same places xs place number is = ap (λ n. numbered number_of n (without number_of number xs)) is ∙ numbered-without_same number xs
-
-  -- and each other place for what it did
-  pub stands_for-without_other : (places : List ℕ) (xs : List A) (place number : ℕ) → slice_index places place ≢ number → stands_for number_of places (without number_of number xs) place ≡ stands_for number_of places xs place
-  stands_for-without_other places xs place number differs = numbered-without_other number (slice_index places place) xs differs

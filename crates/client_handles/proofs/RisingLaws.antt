@@ -109,13 +109,6 @@ module _ {A : Type 0} (number_of : A → ℕ) where
   numbered-filter_none keeps number [] e = refl
   numbered-filter_none keeps number (x ∷ xs) e = none_left keeps number x xs (numbered-filter_none keeps number xs) (number_of x == number) refl e (keeps x)
 
-  -- there are never more
-  pub length-filter_le : (keeps : A → Bool) (xs : List A) → length (filter keeps xs) ≤ length xs
-  length-filter_le keeps [] = omega arith
-  length-filter_le keeps (x ∷ xs) =
-      let rest = length-filter_le keeps xs in
-      elim (keeps x) as (λ b. length (cond b (x ∷ filter keeps xs) (filter keeps xs)) ≤ length (x ∷ xs)) [ true ↦ omega arith | false ↦ omega arith ]
-
   -- ---- at a place of the list
 
   above_place : (at first last : ℕ) (xs : List A) (h : A) → RiseWithin number_of first last xs → slice_get xs at ≡ Some h → first < number_of h

@@ -26,11 +26,3 @@ module _ (id : ℕ) (flags : OpenFlags) (creation_flags : ℕ) (s : ClientState)
   over_case place (Some it) stands =
       let has : HasIterations s = is.iterations in
       handle_numbered-taken_open (goes_over it) (numbered-All iteration_number (IsOver s.handles) _ s.iterations it has.over_open stands)
-
-  -- the iteration of each place goes over the handle that it did
-  pub iterated_at-taken : (place : ℕ) → iterated_at place (taken id flags creation_flags s) ≡ iterated_at place s
-  iterated_at-taken place = over_case place (iteration_at place s) refl
-
--- and the same is kept of it
-pub kept_at-taken : (place id : ℕ) (flags : OpenFlags) (creation_flags : ℕ) (s : ClientState) → kept_at place (taken id flags creation_flags s) ≡ kept_at place s
-kept_at-taken place id flags creation_flags s = refl

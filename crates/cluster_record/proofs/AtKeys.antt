@@ -13,17 +13,3 @@ module _ {X : Type 0} (key : X → ℕ) (k : ℕ) (xs : List X) (o : Option ℕ)
   -- a key with no place has no element
   pub none_at : o ≡ None → find_key key k xs ≡ None
   none_at e = not_found key k 0 xs (sym from ∙ e)
-
--- a key with a place has an element
-pub or_found : {X : Type 0} (key : X → ℕ) (k : ℕ) (xs : List X) (o : Option ℕ) → o ≡ place_key key k xs → is_some o ≡ true → (x : X) × (find_key key k xs ≡ Some x)
-or_found key k xs None from e = absurd cc
-or_found key k xs (Some i) from e = let f = found_key key k xs i (sym from) in (f.0, f.1.found)
-
--- a key with no place has no element
-pub or_none_at : {X : Type 0} (key : X → ℕ) (k : ℕ) (xs : List X) (o : Option ℕ) → o ≡ place_key key k xs → is_some o ≡ false → find_key key k xs ≡ None
-or_none_at key k xs None from e = none_at key k xs None from refl
-or_none_at key k xs (Some i) from e = absurd cc
-
--- the list at a place within is what is read there
-pub list_or-slice_get : {X : Type 0} (xs : List (List X)) (i : ℕ) (d : List X) → i < length xs → list_or (slice_get xs i) ≡ slice_index_or xs i d
-list_or-slice_get xs i d h = ap list_or (slice_get-get_or xs i d h)

@@ -12,8 +12,8 @@ use Rattle.cluster_record.specs.Failing.{lives_on, goes_with_node, is_of_those, 
 use Rattle.cluster_record.specs.Kept.{EachClientOnce}
 use Rattle.cluster_record.specs.Places.{find_key}
 use Rattle.cluster_record.specs.RecordState.{RecordState, client_key, has_references, idle_from, released_all, is_call_of, departed}
-use Rattle.cluster_record.proofs.KeptLaws.{fewer}
 use Rattle.cluster_record.proofs.Places.{tests_differ}
+use Rattle.ckpt_types.proofs.Lists.{length-filter_le}
 
 -- ---- references
 
@@ -307,7 +307,7 @@ module _ (r : ℕ) where
     by : (b : Bool) → cond b (Some x.client) (first_on r cs) ≡ Some c → (first_on r cs ≡ Some c → length (filter p cs) < length cs) → length (filter p (x ∷ cs)) < length (x ∷ cs)
     by true is more =
         let dropped : length (filter p (x ∷ cs)) ≡ length (filter p cs) = ap (λ b. length (cond (not b) (x ∷ filter p cs) (filter p cs))) (eq-eqb (client_key x) c (same_Some x.client c is)) in
-        omega (arith, dropped, fewer p cs)
+        omega (arith, dropped, length-filter_le p cs)
     by false is more =
         let less : length (filter p cs) < length cs = more is in
         elim (p x) as (λ b. length (cond b (x ∷ filter p cs) (filter p cs)) < length (x ∷ cs)) [ true ↦ omega (arith, less) | false ↦ omega (arith, less) ]

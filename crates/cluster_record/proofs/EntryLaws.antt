@@ -14,6 +14,7 @@ use Rattle.cluster_record.specs.Failing.{with_more, most_updated, next_active, l
 use Rattle.cluster_record.specs.Kept.{IsName, IsMakingBy, IsComplete, IsKeptEntry}
 use Rattle.cluster_record.specs.Placement.{alone_on, is_all, is_collocated, targets, adds}
 use Rattle.cluster_record.specs.RecordState.{RecordState, first_active, first_complete, has_references, referred, opened_with, made_with, idle_from, unreferred, released_all, is_call_of, unnamed, retaining, can_be_held, with_hold, can_lead, is_active, generation_under, with_active, new_entry}
+use Rattle.ckpt_types.proofs.Lists.{slice_index-replicate, slice_set-replicate}
 
 -- ---- what is in the making, or not
 
@@ -25,17 +26,11 @@ still : (o : Option CallId) (P Q : CallId → Type 0) → ((call : CallId) → P
 still None P Q go is = tt
 still (Some call) P Q go is = go call is
 
--- nobody is among no references
-nothing_at : (n c : ℕ) → slice_index (replicate n 0) c ≡ 0
-nothing_at zero c = refl
-nothing_at (suc n) zero = refl
-nothing_at (suc n) (suc c) = nothing_at n c
-
 -- what is in the making is open to nobody
 pub unopened : (e : Entry) (c : ℕ) (call : CallId) → e.making ≡ Some call → IfSome e.making (λ call. IsMakingBy call e) → slice_index e.references c ≡ 0
 unopened e c call is making =
     let by : IsMakingBy call e = subst (λ o. IfSome o (λ call. IsMakingBy call e)) is making in
-    ap (λ references. slice_index references c) by.references ∙ nothing_at client_numbers c
+    ap (λ references. slice_index references c) by.references ∙ slice_index-replicate client_numbers c
 
 -- and has no active
 unled : (e : Entry) → IfSome e.making (λ call. IsMakingBy call e) → is_some e.active ≡ true → e.making ≡ None
@@ -49,7 +44,7 @@ incomplete : (e : Entry) (r : ℕ) → IfSome e.making (λ call. IsMakingBy call
 incomplete e r making some = by e.making making where
   by : (o : Option CallId) → IfSome o (λ call. IsMakingBy call e) → o ≡ None
   by None is = refl
-  by (Some call) is = absurd (let none : slice_index e.complete r ≡ 0 = ap (λ complete. slice_index complete r) is.complete ∙ nothing_at nodes_max r in omega (arith, none, some))
+  by (Some call) is = absurd (let none : slice_index e.complete r ≡ 0 = ap (λ complete. slice_index complete r) is.complete ∙ slice_index-replicate nodes_max r in omega (arith, none, some))
 
 -- ---- the lowest complete node is complete
 
@@ -251,23 +246,6 @@ module _ (t : ℤ) (e : Entry) (kept : IsKeptEntry t e) where
         some_at zero is = absurd cc
         some_at (suc n) is = omega arith
 
-  -- at a later moment
-  pub later-kept : (later : ℤ) → t ≤ℤ later → IsKeptEntry later e
-  later-kept later le = record {
-    identity = kept.identity;
-    name = kept.name;
-    attributes = kept.attributes;
-    retention = kept.retention;
-    made = kept.made;
-    idle = kept.idle;
-    past = let p = kept.past in omega (arith, ints, p, le);
-    complete = kept.complete;
-    references = kept.references;
-    active = kept.active;
-    generation = kept.generation;
-    making = kept.making;
-  }
-
 -- ---- a new one
 
 pub new_entry-kept : (call : CallId) (name : List ℕ) (a : CreationAttributes) (R : RecordState) → IsClient call.actor → IsName name → IsWellFormed a → pos 0 ≤ℤ R.moment → IsKeptEntry R.moment (new_entry call name a R)
@@ -357,12 +335,6 @@ next_active-is counts a cs few = elim (is_collocated a) as (λ b. IfSome (cond b
   | false ↦ elim (is_all a) as (λ b. IfSome (cond b (first_complete 0 cs) (most_updated counts 0 cs)) (λ r. IsComplete r cs)) [ true ↦ first_is cs few | false ↦ most_is counts cs few ]
 ]
 
--- none is complete where none was
-none_set : (n r : ℕ) → slice_set {A = ℕ} (replicate n 0) r 0 ≡ replicate n 0
-none_set zero r = refl
-none_set (suc n) zero = refl
-none_set (suc n) (suc r) = ap (λ cs. 0 ∷ cs) (none_set n r)
-
 -- where a node fails
 pub entry_failed-kept : (counts : ℕ → ℕ) (r : ℕ) (t : ℤ) (e : Entry) → IsKeptEntry t e → IsKeptEntry t (entry_failed counts r e)
 entry_failed-kept counts r t e kept = by (is_active e.active r) refl where
@@ -403,5 +375,5 @@ entry_failed-kept counts r t e kept = by (is_active e.active r) refl where
     references = kept.references;
     active = still_complete t e kept r 0 e.active (λ q at some. apart q at is) kept.active;
     generation = kept.generation;
-    making = still e.making _ _ (λ call by. record { maker = by.maker; name = by.name; complete = ap (λ cs. slice_set cs r 0) by.complete ∙ none_set nodes_max r; active = by.active; generation = by.generation; references = by.references; hold = by.hold }) kept.making;
+    making = still e.making _ _ (λ call by. record { maker = by.maker; name = by.name; complete = ap (λ cs. slice_set cs r 0) by.complete ∙ slice_set-replicate nodes_max r; active = by.active; generation = by.generation; references = by.references; hold = by.hold }) kept.making;
   }

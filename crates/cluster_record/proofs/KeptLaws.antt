@@ -23,9 +23,10 @@ use Rattle.cluster_record.specs.RecordState.{identity_of, entry_of, named, unnam
 use Rattle.cluster_record.specs.RecordView.{AreKeptEntries, IsKept}
 use Rattle.cluster_record.specs.Makings.{making_call}
 use Rattle.cluster_record.specs.RecordReady.{CanRefer}
-use Rattle.cluster_record.proofs.EntryLaws.{unopened, later-kept}
+use Rattle.cluster_record.proofs.EntryLaws.{unopened}
 use Rattle.cluster_record.proofs.IdentityLaws.{KeepsIdentity, AllUpTo-change_key, IdentitiesRise-change_key, AllUpTo-map, IdentitiesRise-map, AllUpTo-filter, IdentitiesRise-filter, AllUpTo-push, IdentitiesRise-push}
 use Rattle.cluster_record.proofs.NameLaws.{KeepsName, names_of-map, changed-is, left-is, left-once, unnamed-is, pushed-once}
+use Rattle.ckpt_types.proofs.Lists.{length-filter_le}
 
 -- ---- what holds of all
 
@@ -75,10 +76,6 @@ length-change_key : {X : Type 0} (key : X → ℕ) (k : ℕ) (f : X → X) (xs :
 length-change_key key k f [] = refl
 length-change_key key k f (x ∷ xs) = elim (key x == k) as (λ b. length (cond b (f x ∷ xs) (x ∷ change_key key k f xs)) ≡ length (x ∷ xs)) [ true ↦ refl | false ↦ omega (arith, length-change_key key k f xs) ]
 
-pub fewer : {X : Type 0} (p : X → Bool) (xs : List X) → length (filter p xs) ≤ length xs
-fewer p [] = omega arith
-fewer p (x ∷ xs) = elim (p x) as (λ b. length (cond b (x ∷ filter p xs) (filter p xs)) ≤ length (x ∷ xs)) [ true ↦ omega (arith, fewer p xs) | false ↦ omega (arith, fewer p xs) ]
-
 -- ---- the entries
 
 module _ (t : ℤ) (last : ℕ) (old : List Entry) (kept : AreKeptEntries t last old) where
@@ -96,7 +93,7 @@ module _ (t : ℤ) (last : ℕ) (old : List Entry) (kept : AreKeptEntries t last
   entries-left : (p : Entry → Bool) → AreKeptEntries t last (filter p old)
   entries-left p = record {
     each = All-filter p (IsKeptEntry t) old kept.each;
-    few = omega (arith, fewer p old, kept.few);
+    few = omega (arith, length-filter_le p old, kept.few);
     order = IdentitiesRise-filter p old kept.order;
     given = AllUpTo-filter p last old kept.given;
     each_once = left-once p old (filter p old) refl kept.each_once;
@@ -130,16 +127,6 @@ module _ (t : ℤ) (last : ℕ) (old : List Entry) (kept : AreKeptEntries t last
     order = IdentitiesRise-push last old e kept.order kept.given (omega (arith, next));
     given = AllUpTo-push last old e kept.given next;
     each_once = pushed-once old (old ++ e ∷ []) e name (last + 1) refl called next kept.each_once absent;
-  }
-
-  -- and at a later moment
-  pub entries-later : (later : ℤ) → t ≤ℤ later → AreKeptEntries later last old
-  entries-later later le = record {
-    each = All-weaker (IsKeptEntry t) (IsKeptEntry later) (λ e is. later-kept t e is later le) old kept.each;
-    few = kept.few;
-    order = kept.order;
-    given = kept.given;
-    each_once = kept.each_once;
   }
 
 -- ---- the record
@@ -218,7 +205,7 @@ kept-clients_left old new p kept items capacity same = subst IsKept (sym same) (
     each = All-filter p IsKeptClient old.clients.items kept.clients.each;
     each_once = AllPairs-filter (λ a b. a.client ≢ b.client) p old.clients.items kept.clients.each_once;
   });
-  few_clients = omega (arith, ap length items, fewer p old.clients.items, kept.few_clients);
+  few_clients = omega (arith, ap length items, length-filter_le p old.clients.items, kept.few_clients);
   entries = kept.entries;
   names = kept.names;
 })

@@ -181,35 +181,6 @@ module _ (c k : ℕ) (R : RecordState) where
   pub makings_of-finished_own : (maker : ℕ) → is_call_of c (making_call (entry_of k R.entries)) ≡ true → makings_of c (finished k maker R).entries + 1 ≡ makings_of c R.entries
   makings_of-finished_own maker own = omega (arith, makings_of-finished maker, ap one_if own)
 
-  pub makings_of-finished_other : (maker : ℕ) → is_call_of c (making_call (entry_of k R.entries)) ≡ false → makings_of c (finished k maker R).entries ≡ makings_of c R.entries
-  makings_of-finished_other maker other = omega (arith, makings_of-finished maker, ap one_if other)
-
-  -- and where the maker is told by the call
-  pub makings_of-making_finished : makings_of c (making_finished k R).entries + one_if (is_call_of c (making_call (entry_of k R.entries))) ≡ makings_of c R.entries
-  makings_of-making_finished = by (making_call (entry_of k R.entries)) refl where
-    by : (o : Option CallId) → making_call (entry_of k R.entries) ≡ o → makings_of c (finished_by o k R).entries + one_if (is_call_of c o) ≡ makings_of c R.entries
-    by None is = omega arith
-    by (Some call) is = subst (λ (o : Option CallId). makings_of c (finished k (client_of call) R).entries + one_if (is_call_of c o) ≡ makings_of c R.entries) is (makings_of-finished (client_of call))
-
-  -- so it is where the making is undone
-  pub makings_of-undone : IdentitiesRise R.entries → makings_of c (undone k R).entries + one_if (is_call_of c (making_call (entry_of k R.entries))) ≡ makings_of c R.entries
-  makings_of-undone rises = by (entry_of k R.entries) refl where
-    by : (o : Option Entry) → entry_of k R.entries ≡ o → makings_of c (filter (λ e. not (e.identity == k)) R.entries) + one_if (is_call_of c (making_call o)) ≡ makings_of c R.entries
-    by None none = omega (arith, ap (makings_of c) (none_gone c k R.entries none))
-    by (Some e) found = makings_of-gone c k R.entries e rises found
-
-  pub makings_of-undone_own : IdentitiesRise R.entries → is_call_of c (making_call (entry_of k R.entries)) ≡ true → makings_of c (undone k R).entries + 1 ≡ makings_of c R.entries
-  makings_of-undone_own rises own = omega (arith, makings_of-undone rises, ap one_if own)
-
-  pub makings_of-undone_other : IdentitiesRise R.entries → is_call_of c (making_call (entry_of k R.entries)) ≡ false → makings_of c (undone k R).entries ≡ makings_of c R.entries
-  makings_of-undone_other rises other = omega (arith, makings_of-undone rises, ap one_if other)
-
-  pub makings_of-making_undone : IdentitiesRise R.entries → makings_of c (making_undone k R).entries + one_if (is_call_of c (making_call (entry_of k R.entries))) ≡ makings_of c R.entries
-  makings_of-making_undone rises = by (making_call (entry_of k R.entries)) refl where
-    by : (o : Option CallId) → making_call (entry_of k R.entries) ≡ o → makings_of c (undone_by o k R).entries + one_if (is_call_of c o) ≡ makings_of c R.entries
-    by None is = omega arith
-    by (Some call) is = subst (λ (o : Option CallId). makings_of c (undone k R).entries + one_if (is_call_of c o) ≡ makings_of c R.entries) is (makings_of-undone rises)
-
 -- ---- changes of an entry that keep its making
 
 idle_from-making : (t : ℤ) (e : Entry) → (idle_from t e).making ≡ e.making
@@ -233,12 +204,6 @@ pub released_all-making : (c : ℕ) (t : ℤ) → KeepsMaking (released_all c t)
 released_all-making c t =
     let none : Entry → Entry = λ e. record e { references = slice_set e.references c 0 } in
     unless-making (λ e. slice_index e.references c == 0) (λ e. idle_from t (none e)) (λ e. idle_from-making t (none e))
-
-pub with_hold-making : (call : CallId) → KeepsMaking (with_hold call)
-with_hold-making call = where-making can_be_held (λ e. record e { hold = Some call }) (λ e. refl)
-
-pub with_active-making : (r : ℕ) → KeepsMaking (with_active r)
-with_active-making r = where-making (can_lead r) (λ e. record e { active = Some r; generation = generation_under r e; hold = None }) (λ e. refl)
 
 -- ---- a client leaves
 
@@ -271,27 +236,3 @@ module _ (c : ℕ) (R : RecordState) where
 
   pub makings_of-opened : (k opener : ℕ) → makings_of c (opened k opener R).entries ≡ makings_of c R.entries
   makings_of-opened k opener = makings_of-change_key c (opened_with (home_of opener R) R.up opener) (opened_with-making (home_of opener R) R.up opener) k R.entries
-
-  pub makings_of-closed : (k closer : ℕ) → makings_of c (closed k closer R).entries ≡ makings_of c R.entries
-  makings_of-closed k closer = makings_of-change_key c (unreferred closer R.moment) (unreferred-making closer R.moment) k R.entries
-
-  pub makings_of-unlinked : (k : ℕ) → makings_of c (unlinked k R).entries ≡ makings_of c R.entries
-  makings_of-unlinked k = makings_of-change_key c unnamed (λ e. refl) k R.entries
-
-  pub makings_of-retained : (k : ℕ) (duration : ℤ) → makings_of c (retained k duration R).entries ≡ makings_of c R.entries
-  makings_of-retained k duration = makings_of-change_key c (retaining duration) (λ e. refl) k R.entries
-
-  pub makings_of-hold_set : (k : ℕ) (call : CallId) → makings_of c (hold_set k call R).entries ≡ makings_of c R.entries
-  makings_of-hold_set k call = makings_of-change_key c (with_hold call) (with_hold-making call) k R.entries
-
-  pub makings_of-active_set : (k r : ℕ) → makings_of c (active_set k r R).entries ≡ makings_of c R.entries
-  makings_of-active_set k r = makings_of-change_key c (with_active r) (with_active-making r) k R.entries
-
-  pub makings_of-entered : (entering r number : ℕ) → makings_of c (entered entering r number R).entries ≡ makings_of c R.entries
-  makings_of-entered entering r number = refl
-
-  pub makings_of-brought_up : (n : ℕ) → makings_of c (brought_up n R).entries ≡ makings_of c R.entries
-  makings_of-brought_up n = refl
-
-pub makings_of-moved : (c : ℕ) (t : ℤ) (R : RecordState) → makings_of c (moved t R).entries ≡ makings_of c R.entries
-makings_of-moved c t R = makings_of-swept c (record R { moment = t })

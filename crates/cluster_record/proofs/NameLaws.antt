@@ -109,11 +109,6 @@ found-named name (x ∷ xs) = by x.name (found-named name xs) where
       ∙ ap (λ b. cond b (Some x.identity) (found name (names_of xs))) (same_name name other)
       ∙ elim (pointwise nat_eq other name) as (λ b. cond b (Some x.identity) (found name (names_of xs)) ≡ identity_in (cond b (Some x) (named name xs))) [ true ↦ refl | false ↦ rest ]
 
--- what has no identity is not there
-pub none-of-identity : (o : Option Entry) → identity_in o ≡ None → o ≡ None
-none-of-identity None e = refl
-none-of-identity (Some x) e = absurd cc
-
 -- the entry of a name is the one of its identity
 named-own : (name : List ℕ) (es : List Entry) (e : Entry) → IdentitiesRise es → named name es ≡ Some e → entry_of e.identity es ≡ Some e
 named-own name [] e rises is = absurd cc

@@ -6,6 +6,7 @@ use Rattle.std.proofs.lemmas.Option.{same_Some}
 use Rattle.std.proofs.lemmas.Bool.{eqb-true, eqb-false, and_parts}
 use Rattle.cluster_record.specs.RecordState.{no_nodes}
 use Rattle.cluster_record.specs.StepDone.{has, last_having, or_here, HasNoneAbove}
+use Rattle.ckpt_types.proofs.Lists.{slice_index-replicate, slice_index-cleared}
 
 -- ---- what is looked up
 
@@ -74,15 +75,6 @@ last_having-had nodes own r is =
 
 -- ---- which is the highest after a change
 
-no_node_at : (n r : ℕ) → slice_index (replicate n 0) r ≡ 0
-no_node_at zero r = refl
-no_node_at (suc n) zero = refl
-no_node_at (suc n) (suc r) = no_node_at n r
-
--- a call that has no node has none above any
-pub HasNoneAbove-none : (top : ℕ) → HasNoneAbove top no_nodes
-HasNoneAbove-none top r above = no_node_at 8 r
-
 -- it comes to have a higher node: that is the highest then
 pub HasNoneAbove-set_higher : (top r n : ℕ) (own : List ℕ) → top < r → HasNoneAbove top own → HasNoneAbove r (slice_set own r n)
 HasNoneAbove-set_higher top r n own higher none q above =
@@ -94,17 +86,3 @@ pub HasNoneAbove-set_within : (top r n : ℕ) (own : List ℕ) → r ≤ top →
 HasNoneAbove-set_within top r n own within none q above =
     let other : q ≢ r = omega (arith, within, above) in
     get_or-set_other own r q n 0 other ∙ none q above
-
-cleared : (own : List ℕ) (r : ℕ) → slice_index (slice_set own r 0) r ≡ 0
-cleared [] r = refl
-cleared (o ∷ os) zero = refl
-cleared (o ∷ os) (suc r) = cleared os r
-
--- it has the highest no more: it has none above the node below
-pub HasNoneAbove-clear : (r : ℕ) (own : List ℕ) → HasNoneAbove r own → 0 < r → HasNoneAbove (r - 1) (slice_set own r 0)
-HasNoneAbove-clear r own none positive q above = elim (q == r) as (λ b. (q == r) ≡ b → slice_index (slice_set own r 0) q ≡ 0) [
-  | true ↦ λ same. ap (slice_index (slice_set own r 0)) (eqb-true q r same) ∙ cleared own r
-  | false ↦ λ differ. (
-      let other : q ≢ r = eqb-false q r differ in
-      get_or-set_other own r q 0 0 other ∙ none q (omega (arith, positive, above, other)))
-] refl

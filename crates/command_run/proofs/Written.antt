@@ -26,9 +26,6 @@ written_more a b c bytes at count one two =
 pub part_of_all : (a b : Option (List ℕ)) (bytes : List ℕ) → Appends a b bytes → WritesPart a b bytes
 part_of_all a b bytes all = (bytes, [], append-nil bytes, all)
 
-pub wrote_none : (a : Option (List ℕ)) → Wrote a a [] []
-wrote_none a = ([], Appends-nil a, refl)
-
 -- a line is put behind the text
 pub wrote_line : (a b : Option (List ℕ)) (text lines line : List ℕ) → Wrote a b text lines → Wrote a b (text ++ line) (lines ++ line)
 wrote_line a b text lines line (front, appends, is) =

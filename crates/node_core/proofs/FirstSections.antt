@@ -10,10 +10,6 @@ use Rattle.snap_copy.proofs.TakenLemmas.{take-next}
 pub All-next : (P : Section → Type 0) (sections : List Section) (i : ℕ) (s : Section) → slice_get sections i ≡ Some s → All P (take i sections) → P s → All P (take (i + 1) sections)
 All-next P sections i s is first next = subst (All P) (sym (take-next sections i s is)) (All-push P (take i sections) s first next)
 
--- what holds of all holds of one
-pub All-at : (P : Section → Type 0) (sections : List Section) (i : ℕ) (s : Section) → slice_get sections i ≡ Some s → All P sections → P s
-All-at P sections i s is all = subst P (get_or_from_slice_get sections i s s is) (All-get_or P sections i s (slice_get_within sections i s is) all)
-
 -- all of them are the first so many
 pub all_first : (sections : List Section) (n : ℕ) → length sections ≤ n → take n sections ≡ sections
 all_first sections n past = take_all n sections past

@@ -75,9 +75,13 @@ abbrev pub pulled_unless : Option CallId → Replica → Snapshot → Snapshot
 pulled_unless (Some holder) x s = s
 pulled_unless None x s = pulled_from x s
 
--- the replica is older than the snapshot: it has a lower generation, or the same and fewer updates
+-- by their generations and counts of updates, what the first has is earlier than what the second has: its generation is lower, or the same with fewer updates
+abbrev pub is_earlier : ℕ → ℕ → ℕ → ℕ → Bool
+is_earlier generation count other others = nat_lt generation other || ((generation == other) && nat_lt count others)
+
+-- the replica is older than the snapshot
 abbrev pub is_older : Replica → Snapshot → Bool
-is_older x s = nat_lt x.generation s.generation || ((x.generation == s.generation) && nat_lt x.count s.count)
+is_older x s = is_earlier x.generation x.count s.generation s.count
 
 -- only an older one takes it; another tells its own generation and count
 abbrev pub install_answer : Replica → Snapshot → Result (Unit {0}) Older

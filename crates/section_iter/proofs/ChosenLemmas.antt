@@ -6,7 +6,8 @@ use Rattle.std.proofs.lemmas.Option.{slice_get_within, get_or_from_slice_get}
 use Rattle.ckpt_types.specs.declared.sections.Choice.{Choice}
 use Rattle.ckpt_types.specs.Reads.{chooses, chosen}
 use Rattle.ckpt_types.specs.Sections.{Section, is_present, present}
-use Rattle.ckpt_types.proofs.Presence.{length-filter-le, length-present-le}
+use Rattle.ckpt_types.proofs.Presence.{length-present-le}
+use Rattle.ckpt_types.proofs.Lists.{length-filter_le}
 
 -- what is chosen among sections and one more
 chosen_push : (choice : Choice) (t : ℤ) (sections : List Section) (s : Section) → chosen choice t (sections ++ s ∷ []) ≡ chosen choice t sections ++ chosen choice t (s ∷ [])
@@ -40,7 +41,7 @@ chosen_left choice t sections i s there left = chosen_more choice t sections i s
 -- no more are chosen than there are
 pub length-chosen-le : (choice : Choice) (t : ℤ) (sections : List Section) → length (chosen choice t sections) ≤ length sections
 length-chosen-le choice t sections =
-    omega (arith, length-map (filter (chooses choice) (present t sections)) (λ x. x.id), length-filter-le (chooses choice) (present t sections), length-present-le t sections)
+    omega (arith, length-map (filter (chooses choice) (present t sections)) (λ x. x.id), length-filter_le (chooses choice) (present t sections), length-present-le t sections)
 
 -- at most so many are chosen among the first sections
 pub length-chosen-take-le : (choice : Choice) (t : ℤ) (sections : List Section) (i : ℕ) → length (chosen choice t (take i sections)) ≤ i

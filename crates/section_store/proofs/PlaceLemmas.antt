@@ -8,16 +8,10 @@ use Rattle.std.proofs.lemmas.Bool.{cases_eq}
 use Rattle.std.proofs.lemmas.Cmp.{nat_list_cmp_total, tied_itself}
 use Rattle.std.proofs.lemmas.Option.{none-some, same_Some}
 use Rattle.ckpt_types.specs.Sections.{Section, id_cmp, is_named, section_at, place_of, IsBelowAll, Rises, with_section, without_section}
-use Rattle.ckpt_types.proofs.Presence.{is_named_decides, is_named-by_order, id_cmp_turned, id_cmp_trans, section_at-place_of, section_at-no_place, section_at-named}
+use Rattle.ckpt_types.proofs.Presence.{is_named_decides, is_named-by_order, id_cmp_turned, id_cmp_trans, section_at-place_of, section_at-no_place, section_at-named, id_cmp-IsBelowAll}
 use Rattle.section_store.specs.Places.{count_below, changed_at}
 
 -- ---- the order
-
--- an identifier before all is before that of the section at any place
-pub id_cmp-IsBelowAll : (id : List ℕ) (sections : List Section) (i : ℕ) (s : Section) → IsBelowAll id sections → slice_get sections i ≡ Some s → id_cmp id s.id ≡ Less
-id_cmp-IsBelowAll id [] i s below is = absurd (none-some s is)
-id_cmp-IsBelowAll id (x ∷ sections) zero s below is = subst (λ y. id_cmp id y.id ≡ Less) (same_Some x s is) below.0
-id_cmp-IsBelowAll id (x ∷ sections) (suc i) s below is = id_cmp-IsBelowAll id sections i s below.1 is
 
 -- an identifier ties with itself
 pub id_cmp_same : (x y : List ℕ) → x ≡ y → id_cmp x y ≡ Equal
@@ -167,14 +161,6 @@ without_section-remove id (x ∷ sections) i rises is =
           let (j, at_j, next) = suc_place (place_of id sections) i at in
           rw (← next) (ap (λ rest. x ∷ rest) (without_section-remove id sections j rises.1 at_j))
     ] refl is
-
--- what is found is at the place, and nothing where there is no place
-pub section_at-MatchOption : (id : List ℕ) (sections : List Section) → MatchOption (place_of id sections) (section_at id sections ≡ None) (λ place. section_at id sections ≡ slice_get sections place)
-section_at-MatchOption id sections =
-    elim (place_of id sections) as (λ o. place_of id sections ≡ o → MatchOption o (section_at id sections ≡ None) (λ place. section_at id sections ≡ slice_get sections place)) [
-      | None ↦ λ nowhere. section_at-no_place id sections nowhere
-      | Some i ↦ λ at. section_at-place_of id sections i at
-    ] refl
 
 -- the first sections with the next one put in behind them are the first ones and one more
 pub insert-take : (sections : List Section) (i : ℕ) (s : Section) → slice_get sections i ≡ Some s → insert (take i sections) i s ≡ take (suc i) sections

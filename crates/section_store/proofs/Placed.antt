@@ -15,6 +15,7 @@ use Rattle.ckpt_types.proofs.Presence.{section_at-named, section_at-no_place, se
 use Rattle.ckpt_types.proofs.Placing.{Rises-with_section, Rises-without_section, memory_used-with_section_over}
 use Rattle.ckpt_types.proofs.AttributeLaws.{IsWellFormed-from_check}
 use Rattle.ckpt_types.proofs.Fitting.{length-new_id-le, Fits-element_written, Fits-overwritten, Fits-expiration_set, Fits-without_section, Fits-section_created, Fits-with_section_over}
+use Rattle.ckpt_types.proofs.Options.{none_of}
 use Rattle.section_store.specs.Places.{count_below, changed_at}
 use Rattle.section_store.specs.StoreState.{with_corrupted, corrupted_where}
 use Rattle.section_store.proofs.PlaceLemmas.{slice_get-within, with_section-changed_at, with_section-insert, without_section-remove}
@@ -104,11 +105,6 @@ section_deleted-no_place a id sections nowhere accepted =
     let done = section_deleted-Ok a id sections after is in
     none-some done.gone (sym (section_at-no_place id sections nowhere) ∙ done.there)
 
--- an identifier that is not taken is that of no section
-not_taken : (found : Option Section) → is_some found ≡ false → found ≡ None
-not_taken None free = refl
-not_taken (Some s) free = absurd (cc free)
-
 -- a new section is put in at its place
 pub section_created-insert : (a : CreationAttributes) (new : NewId) (expiration : ℤ) (bytes : List ℕ) (t : ℤ) (sections : List Section) → Rises sections → Fits a sections → IsOk (section_created a new expiration bytes t sections)
     → Leaves a (section_created a new expiration bytes t sections) (insert sections (count_below (new_id new sections) sections) (record { id = new_id new sections; bytes = bytes; expiration = expiration; state = Valid; last_update = t }))
@@ -116,7 +112,7 @@ section_created-insert a new expiration bytes t sections rises fits accepted =
     let (after, is) = Ok_from_IsOk (section_created a new expiration bytes t sections) accepted in
     let done = section_created-Ok a new expiration bytes t sections after is in
     let section : Section = record { id = new_id new sections; bytes = bytes; expiration = expiration; state = Valid; last_update = t } in
-    Leaves-same a _ after _ (sym done.left ∙ with_section-insert section sections (not_taken (section_at section.id sections) done.free)) is
+    Leaves-same a _ after _ (sym done.left ∙ with_section-insert section sections (none_of (section_at section.id sections) done.free)) is
     (subst Rises done.left (Rises-with_section section sections rises)) (Fits-section_created a new expiration bytes t sections after rises fits done)
 
 -- an element that is not refused at one place of a vector is not refused at another

@@ -87,10 +87,6 @@ puts_follow k left next nodes old log new one goes more f =
     let h = goes g.0 g.2 in
     (h.0, g.1 ∙ h.1, h.2)
 
--- no put yet
-pub puts_begin : (k : ℕ) (nodes : List ℕ) (log : List Label) → GrowsToPuts k nodes nodes log log
-puts_begin k nodes log more f = (more, refl, f)
-
 -- a put at this node, or none
 pub puts_one : (k r : ℕ) (takes : Bool) (old new : World) (log longer : List Label) → takes ≡ true → Happens (happenings.Put k r) old new log longer → (rest : List ℕ) → GrowsToPuts k rest (if takes then r ∷ rest else rest) log longer
 puts_one k r takes old new log longer is h rest more f = (

@@ -30,11 +30,3 @@ place_of-not_here id bytes (x ∷ heads) zero h there is none other =
     rw first
 place_of-not_here id bytes (x ∷ heads) (suc i) h there is none other =
     step_further (is_named id (section_in bytes x)) (place_of id (sections_in bytes (take i heads))) (place_of id (sections_in bytes (take (suc i) heads))) None none (λ before. place_of-not_here id bytes heads i h (omega arith) is before other)
-
--- what is found is at the place, and nothing where there is no place
-pub section_at-MatchOption : (id : List ℕ) (sections : List Section) → MatchOption (place_of id sections) (section_at id sections ≡ None) (λ place. section_at id sections ≡ slice_get sections place)
-section_at-MatchOption id sections =
-    elim (place_of id sections) as (λ o. place_of id sections ≡ o → MatchOption o (section_at id sections ≡ None) (λ place. section_at id sections ≡ slice_get sections place)) [
-      | None ↦ λ nowhere. section_at-no_place id sections nowhere
-      | Some i ↦ λ at. section_at-place_of id sections i at
-    ] refl

@@ -6,6 +6,7 @@ use Rattle.std.proofs.lemmas.Option.{none-some, same_Some}
 use Rattle.ckpt_types.specs.Sections.{Section, section_at, is_taken, Rises, with_section, memory_used, size_of}
 use Rattle.ckpt_types.proofs.Presence.{section_at-named}
 use Rattle.ckpt_types.proofs.Placing.{memory_used-with_section, memory_used-with_section_over}
+use Rattle.ckpt_types.proofs.Options.{none_of}
 use Rattle.update_rules.specs.Present.{size_at}
 
 -- a size is that of what was found
@@ -26,11 +27,6 @@ none_found (Some s) is = absurd (none-some (size_of s) (sym is))
 pub size_at-None : (id : List ℕ) (sections : List Section) → size_at id sections ≡ None → section_at id sections ≡ None
 size_at-None id sections is = none_found (section_at id sections) is
 
--- what is free is not found
-not_found : (found : Option Section) → is_some found ≡ false → found ≡ None
-not_found None is = refl
-not_found (Some s) is = absurd (cc is)
-
 -- what is made of two tests is made of each outcome
 pub two_conditions : {A B : Type 0} (f : A → B) (b c : Bool) (x y z : A) → f (cond b x (cond c y z)) ≡ cond b (f x) (cond c (f y) (f z))
 two_conditions f true c x y z = refl
@@ -48,7 +44,7 @@ nat_lt_alike a b c d there back =
 -- the bytes together once one more section is placed
 pub memory_used-with_section_free : (new : Section) (sections : List Section) → Rises sections → is_taken new.id sections ≡ false → memory_used (with_section new sections) ≡ memory_used sections + size_of new
 memory_used-with_section_free new sections rises free =
-    let nothing : option_map_or size_of (section_at new.id sections) 0 ≡ 0 = ap (λ o. option_map_or size_of o 0) (not_found (section_at new.id sections) free) in
+    let nothing : option_map_or size_of (section_at new.id sections) 0 ≡ 0 = ap (λ o. option_map_or size_of o 0) (none_of (section_at new.id sections) free) in
     omega (arith, memory_used-with_section new sections rises, nothing)
 
 -- the bytes together once a section takes the place of the one found

@@ -22,11 +22,6 @@ use Rattle.ckpt_machine.proofs.HoldingLaws.{held_by_none}
 pub none_in_hand : (w : World) (h : History) (v : Who) → hand_at w.hands v ≡ None → (machine_of w h).in_hand v ≡ None
 none_in_hand w h v free = ap (shown_hand (h.beginnings v) (h.steps v) (h.created v) (h.pulled v)) free
 
--- a `step` or `finish` line of a name under which nothing is in hand
-pub idle_said : (w : World) (v : Who) (finish : Bool) → hand_at w.hands v ≡ None → Does w w (Word v (step_word finish) Idle)
-idle_said w v finish none = record {
-  due_is = λ m s f. subst (λ m. IsWord m v (step_word finish) Idle) (sym s.same) (said (machine_of w s.history) v finish (none_in_hand w s.history v none));
-  shows = λ m s f. s;
 } where
   said : (m : Machine) (v : Who) (finish : Bool) → m.in_hand v ≡ None → IsWord m v (step_word finish) Idle
   said m (Actor a) true free = free

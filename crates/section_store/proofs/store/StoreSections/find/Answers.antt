@@ -2,8 +2,8 @@ use Rattle.std.proofs.Common.{◌≡◌, None, slice_get, ap, ◌∙◌, sym, su
 use Rattle.std.specs.Prelude.{MatchOption}
 use Rattle.ckpt_types.specs.Sections.{place_of, section_at}
 use Rattle.section_store.specs.Stored.{kept_sections}
-use Rattle.section_store.proofs.PlaceLemmas.{section_at-MatchOption}
 use Rattle.section_store.proofs.store.StoreSections.find.Goals as goal
+use Rattle.ckpt_types.proofs.Presence.{section_at-MatchOption}
 
 pub returns-clause-section : goal.returns-clause-section
 returns-clause-section c =

@@ -3,8 +3,8 @@ use Rattle.std.specs.Prelude.{MatchOption}
 use Rattle.ckpt_types.specs.Sections.{place_of, section_at}
 use Rattle.snap_copy.specs.Heads.{sections_in}
 use Rattle.snap_copy.specs.declared.snap.Kept.{Kept}
-use Rattle.snap_copy.proofs.PlaceLemmas.{section_at-MatchOption}
 use Rattle.snap_copy.proofs.snap.SnapSections.find.Goals as goal
+use Rattle.ckpt_types.proofs.Presence.{section_at-MatchOption}
 
 pub returns-clause-section : goal.returns-clause-section
 returns-clause-section c =
