@@ -45,15 +45,15 @@ use Rattle.ckpt_machine.proofs.Runs.{along}
 use Rattle.ckpt_machine.proofs.Starting.{first_kept, goes_on_in_hand}
 use Rattle.ckpt_machine.proofs.Whose.{put_who-other, stepped_as-plain, stepped_as-async}
 
--- an asynchronous call is under way: it is of its actor, the one of its name among these, and in hand
-pub record IsUnderWay (in_hand : Who → Option CallState) (calls : List AsyncCall) (a : ActorName) (c : AsyncCall) : Type 0 where
+-- an asynchronous call is awaited: it is of its actor, the one of its name among these, and in hand
+pub record IsAwaited (in_hand : Who → Option CallState) (calls : List AsyncCall) (a : ActorName) (c : AsyncCall) : Type 0 where
   pub actor : c.call.actor ≡ a
   pub found : find_async c.call calls ≡ Some c
   pub held : IsSome (in_hand (whos.Call c.call))
 
 -- so is each that has not ended
 abbrev pub AreUnderWay : (Who → Option CallState) → (ActorName → PendingCalls) → Type 0
-AreUnderWay in_hand pending = (a : ActorName) (c : AsyncCall) → Contains (pending a).unfinished c → IsUnderWay in_hand (pending a).unfinished a c
+AreUnderWay in_hand pending = (a : ActorName) (c : AsyncCall) → Contains (pending a).unfinished c → IsAwaited in_hand (pending a).unfinished a c
 
 abbrev pub HasUnderWay : Machine → Type 0
 HasUnderWay m = AreUnderWay m.in_hand m.pending
@@ -67,17 +67,17 @@ and_false false c is = refl
 module _ (in_hand : Who → Option CallState) (pending : ActorName → PendingCalls) (under_way : AreUnderWay in_hand pending) where
   -- where these are left of an actor, and those of others stay in hand
   left_of : (hands : Who → Option CallState) (a : ActorName) (p : PendingCalls)
-      → ((c : AsyncCall) → Contains p.unfinished c → IsUnderWay hands p.unfinished a c)
-      → ((b : ActorName) (c : AsyncCall) → same_actor b a ≡ false → IsUnderWay in_hand (pending b).unfinished b c → IsSome (hands (whos.Call c.call)))
+      → ((c : AsyncCall) → Contains p.unfinished c → IsAwaited hands p.unfinished a c)
+      → ((b : ActorName) (c : AsyncCall) → same_actor b a ≡ false → IsAwaited in_hand (pending b).unfinished b c → IsSome (hands (whos.Call c.call)))
       → AreUnderWay hands (put_actor pending a p)
   left_of hands a p own others b c there = by_actor (same_actor b a) refl there
     where
-      by_actor : (t : Bool) → same_actor b a ≡ t → Contains (cond t p (pending b)).unfinished c → IsUnderWay hands (cond t p (pending b)).unfinished b c
+      by_actor : (t : Bool) → same_actor b a ≡ t → Contains (cond t p (pending b)).unfinished c → IsAwaited hands (cond t p (pending b)).unfinished b c
       by_actor false other there = let was = under_way b c there in record { actor = was.actor; found = was.found; held = others b c other was }
       by_actor true same there = let is = own c there in record { actor = is.actor ∙ sym (same_actor-true b a same); found = is.found; held = is.held }
 
   -- that of another actor is none of this one's
-  not_of : (a b : ActorName) (c : AsyncCall) → same_actor b a ≡ false → IsUnderWay in_hand (pending b).unfinished b c → same_actor c.call.actor a ≡ false
+  not_of : (a b : ActorName) (c : AsyncCall) → same_actor b a ≡ false → IsAwaited in_hand (pending b).unfinished b c → same_actor c.call.actor a ≡ false
   not_of a b c other was = ap (λ d. same_actor d a) was.actor ∙ other
 
   -- where a client has left, those of others stay
@@ -89,14 +89,14 @@ module _ (in_hand : Who → Option CallState) (pending : ActorName → PendingCa
   closed_under_way None a = left_of in_hand a (pending a) (λ c there. under_way a c there) (λ b c other was. was.held)
   closed_under_way (Some handle) a = left_of (λ w. cond (goes_with (Some handle) a (pending a) w) None (in_hand w)) a (forgotten_over handle (pending a))
       (λ c there. (
-          let was = under_way a c (among_filtered _ (pending a).unfinished c there) in
-          let stays : not (goes_over handle c) ≡ true = passes_filtered (λ (kept : AsyncCall). not (goes_over handle kept)) (pending a).unfinished c there in
-          let apart : goes_over handle c ≡ false = not_true (goes_over handle c) stays in
-          record {
-            actor = was.actor;
-            found = found_filtered (λ (kept : AsyncCall). is_call c.call kept.call) (λ (kept : AsyncCall). not (goes_over handle kept)) (pending a).unfinished c was.found stays;
-            held = ap (λ t. is_some (cond t None (in_hand (whos.Call c.call)))) (and_false (same_actor c.call.actor a) (is_over handle (find_async c.call (pending a).unfinished)) (ap (is_over handle) was.found ∙ apart)) ∙ was.held;
-          }))
+      let was = under_way a c (among_filtered _ (pending a).unfinished c there) in
+      let stays : not (goes_over handle c) ≡ true = passes_filtered (λ (kept : AsyncCall). not (goes_over handle kept)) (pending a).unfinished c there in
+      let apart : goes_over handle c ≡ false = not_true (goes_over handle c) stays in
+      record {
+        actor = was.actor;
+        found = found_filtered (λ (kept : AsyncCall). is_call c.call kept.call) (λ (kept : AsyncCall). not (goes_over handle kept)) (pending a).unfinished c was.found stays;
+        held = ap (λ t. is_some (cond t None (in_hand (whos.Call c.call)))) (and_false (same_actor c.call.actor a) (is_over handle (find_async c.call (pending a).unfinished)) (ap (is_over handle) was.found ∙ apart)) ∙ was.held;
+      }))
       (λ b c other was. ap (λ t. is_some (cond (t && is_over handle (find_async c.call (pending a).unfinished)) None (in_hand (whos.Call c.call)))) (not_of a b c other was) ∙ was.held)
     where
       not_true : (b : Bool) → not b ≡ true → b ≡ false
@@ -125,7 +125,7 @@ module _ (in_hand : Who → Option CallState) (pending : ActorName → PendingCa
           apart c other held = ap is_some (put_who-other in_hand (who s) None (whos.Call c.call) (ap (same_who (whos.Call c.call)) (stepped_as-async s.call (word_of_op s.op) async) ∙ same_call-false c.call s.call other)) ∙ held
 
           by_found : (o : Option AsyncCall) → find_async s.call (pending s.call.actor).unfinished ≡ o → (c : AsyncCall) → Contains (ending o s.call (handle_opened end t) end (pending s.call.actor)).unfinished c
-              → IsUnderWay (put_who in_hand (who s) None) (ending o s.call (handle_opened end t) end (pending s.call.actor)).unfinished s.call.actor c
+              → IsAwaited (put_who in_hand (who s) None) (ending o s.call (handle_opened end t) end (pending s.call.actor)).unfinished s.call.actor c
           by_found None none c there =
               let was = under_way s.call.actor c there in
               let other : c.call ≢ s.call = λ same. (let w : None ≡ Some c = sym none ∙ ap (λ d. find_async d (pending s.call.actor).unfinished) (sym same) ∙ was.found in cc w) in
@@ -230,21 +230,21 @@ module _ (m : Machine) (under_way : HasUnderWay m) where
         by_word false plain = ap is_some (put_who-other m.in_hand (stepped_as call (word_of_op op)) (call_begun end call op (first_kept m call op)) (whos.Call c.call) (ap (same_who (whos.Call c.call)) (stepped_as-plain call (word_of_op op) plain))) ∙ held
         by_word true async = ap is_some (put_who-other m.in_hand (stepped_as call (word_of_op op)) (call_begun end call op (first_kept m call op)) (whos.Call c.call) (ap (same_who (whos.Call c.call)) (stepped_as-async call (word_of_op op) async) ∙ same_call-false c.call call other)) ∙ held
 
-    others_stay : (b : ActorName) (c : AsyncCall) → Contains (m.pending b).unfinished c → IsUnderWay hands (m.pending b).unfinished b c
+    others_stay : (b : ActorName) (c : AsyncCall) → Contains (m.pending b).unfinished c → IsAwaited hands (m.pending b).unfinished b c
     others_stay b c there = let was = under_way b c there in record { actor = was.actor; found = was.found; held = stays c (another b c there) was.held }
 
     -- where it is an asynchronous one, it is the last of them
-    async_under_way : (h : Option HandleView) → IsSome (hands (whos.Call call)) → (c : AsyncCall) → Contains (p.unfinished ++ async_call call op h ∷ []) c → IsUnderWay hands (p.unfinished ++ async_call call op h ∷ []) call.actor c
+    async_under_way : (h : Option HandleView) → IsSome (hands (whos.Call call)) → (c : AsyncCall) → Contains (p.unfinished ++ async_call call op h ∷ []) c → IsAwaited hands (p.unfinished ++ async_call call op h ∷ []) call.actor c
     async_under_way h held c there = elim (Contains-push_cases p.unfinished (async_call call op h) c there) [
       | inl before ↦ (let was = others_stay call.actor c before in record { actor = was.actor; found = found_front (λ (k : AsyncCall). is_call c.call k.call) p.unfinished (async_call call op h ∷ []) c was.found; held = was.held })
-      | inr new ↦ subst (IsUnderWay hands (p.unfinished ++ async_call call op h ∷ []) call.actor) new (record { actor = refl; found = found_last (λ (k : AsyncCall). is_call call k.call) p.unfinished (async_call call op h) none_before (is_call-refl call); held = held })
+      | inr new ↦ subst (IsAwaited hands (p.unfinished ++ async_call call op h ∷ []) call.actor) new (record { actor = refl; found = found_last (λ (k : AsyncCall). is_call call k.call) p.unfinished (async_call call op h) none_before (is_call-refl call); held = held })
     ]
       where
         none_before : find_async call p.unfinished ≡ None
         none_before = none_found (λ (k : AsyncCall). is_call call k.call) p.unfinished (λ k among passes. another call.actor k among (sym (is_call-true call k.call passes)))
 
     -- where these are under way then of its actor, all are
-    begun_by : (q : PendingCalls) → ((c : AsyncCall) → Contains q.unfinished c → IsUnderWay hands q.unfinished call.actor c) → AreUnderWay hands (put_actor m.pending call.actor q)
+    begun_by : (q : PendingCalls) → ((c : AsyncCall) → Contains q.unfinished c → IsAwaited hands q.unfinished call.actor c) → AreUnderWay hands (put_actor m.pending call.actor q)
     begun_by q own = left_of m.in_hand m.pending under_way hands call.actor q own (λ b c other was. stays c (λ same. (
         let apart = not_of m.in_hand m.pending under_way call.actor b c other was in
         let w : true ≡ false = sym (ap (λ d. same_actor d call.actor) (ap (λ (x : CallId). x.actor) same) ∙ same_actor-refl call.actor) ∙ apart in

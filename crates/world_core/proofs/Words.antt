@@ -22,13 +22,6 @@ use Rattle.ckpt_machine.proofs.HoldingLaws.{held_by_none}
 pub none_in_hand : (w : World) (h : History) (v : Who) → hand_at w.hands v ≡ None → (machine_of w h).in_hand v ≡ None
 none_in_hand w h v free = ap (shown_hand (h.beginnings v) (h.steps v) (h.created v) (h.pulled v)) free
 
-} where
-  said : (m : Machine) (v : Who) (finish : Bool) → m.in_hand v ≡ None → IsWord m v (step_word finish) Idle
-  said m (Actor a) true free = free
-  said m (Actor a) false free = free
-  said m (Call call) true free = free
-  said m (Call call) false free = free
-
 -- ---- the first nodes come up
 
 none_under : (e : Option Entry) (r : ℕ) (x y : Option ℕ) → e ≡ None → reservation_under e r x ≡ reservation_under e r y
