@@ -5,7 +5,7 @@ use ckpt_types::{CallId, CkptId, Incarnation, Moment, NodeId, Op, OpWord, Outcom
 use node_msgs::{Details, StepReply, Verb};
 
 /// How a `pull` line was answered.
-#[derive(Clone, Copy, Debug, PartialEq, Eq)]
+#[derive(Clone, Copy)]
 pub enum PullReply {
     /// A snapshot with so many updates was taken.
     Ok(u64),
@@ -16,7 +16,7 @@ pub enum PullReply {
 }
 
 /// How a `put` line was answered.
-#[derive(Clone, Copy, Debug, PartialEq, Eq)]
+#[derive(Clone, Copy)]
 pub enum PutReply {
     /// The snapshot with so many updates was installed.
     Ok(u64),

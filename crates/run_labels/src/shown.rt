@@ -2,7 +2,7 @@
 use ckpt_types::{Bytes, CallId, NodeId, SectionDescriptor, Vector};
 
 /// What stands on a replica for a call.
-#[derive(Clone, Copy, Debug, PartialEq, Eq)]
+#[derive(Clone, Copy)]
 pub enum ShownSlot {
     /// Nothing.
     Free,

@@ -42,7 +42,7 @@ pub fn verb_word(verb: Verb) -> &'static str
 }
 
 /// The line that a word answers.
-#[derive(Clone, Copy, Debug, PartialEq, Eq)]
+#[derive(Clone, Copy)]
 pub enum LineWord {
     /// A call line, or one that begins a call.
     Op(OpWord),
@@ -68,7 +68,7 @@ impl LineWord {
 }
 
 /// The word that answers a line in place of a call.
-#[derive(Clone, Copy, Debug, PartialEq, Eq)]
+#[derive(Clone, Copy)]
 pub enum Said {
     /// A call is in hand.
     Busy,
