@@ -11,7 +11,7 @@ use crate::stored::Stored;
 use ckpt_types::{Moment, NewId, SectionId};
 
 /// The identifier of a new section, and a number below which all are taken once it is there.
-#[derive(Clone, Copy, Debug)]
+#[derive(Clone, Copy)]
 pub(crate) struct Made {
     pub id: SectionId,
     pub first: u64,

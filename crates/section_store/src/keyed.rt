@@ -13,7 +13,7 @@ use std::marker::Model;
 const KEY_BYTES: usize = 8;
 
 /// An identifier beside its key, which tells most of them apart at one comparison.
-#[derive(Debug, Drop)]
+#[derive(Drop)]
 pub(crate) struct Keyed {
     id: SectionId,
     key: u64,

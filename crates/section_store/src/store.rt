@@ -26,7 +26,7 @@ use std::alloc::{AllocError, Global};
 use std::marker::Model;
 
 /// The sections of one replica.
-#[derive(Debug, Drop)]
+#[derive(Drop)]
 pub struct Store {
     attributes: CreationAttributes,
     summary: Summary,

@@ -8,7 +8,7 @@ use ckpt_types::{Moment, SectionState};
 use moment_rules::expired;
 
 /// A section as it is kept, in a buffer that is never given back.
-#[derive(Debug, Drop)]
+#[derive(Drop)]
 pub(crate) struct Stored {
     pub id: Keyed,
     pub expiration: Moment,

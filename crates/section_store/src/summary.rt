@@ -8,7 +8,7 @@ use crate::stored::Stored;
 use ckpt_types::{Moment, NEVER};
 
 /// What is kept of the sections beside them, so that no update has to go over all.
-#[derive(Clone, Copy, Debug)]
+#[derive(Clone, Copy)]
 pub(crate) struct Summary {
     /// No section expires before this moment.
     pub earliest: Moment,
