@@ -2,7 +2,7 @@
 use ckpt_types::{Choice, CkptId, Moment, NODES_MAX, NodeId};
 
 /// How far an all-replicas update is.
-#[derive(Clone, Copy, Debug, PartialEq, Eq)]
+#[derive(Clone, Copy)]
 pub enum UpdatePhase {
     /// It stages on the complete nodes, in ascending order.
     Staging,
@@ -11,7 +11,7 @@ pub enum UpdatePhase {
 }
 
 /// A checkpoint that an open is making.
-#[derive(Clone, Copy, Debug)]
+#[derive(Clone, Copy)]
 pub struct Making {
     /// The checkpoint.
     pub ckpt: CkptId,
@@ -22,7 +22,7 @@ pub struct Making {
 }
 
 /// The marks that a weak write has made on the active.
-#[derive(Clone, Copy, Debug, PartialEq, Eq)]
+#[derive(Clone, Copy)]
 pub struct MarksMade {
     /// The generation of its checkpoint then.
     pub generation: u64,
@@ -31,7 +31,7 @@ pub struct MarksMade {
 }
 
 /// What a call asks of the active replica.
-#[derive(Clone, Copy, Debug, PartialEq, Eq)]
+#[derive(Clone, Copy)]
 pub enum ActiveKind {
     /// An update at once.
     Apply,
@@ -48,7 +48,7 @@ pub enum ActiveKind {
 }
 
 /// What a synchronisation has pulled of the active.
-#[derive(Clone, Copy, Debug, PartialEq, Eq)]
+#[derive(Clone, Copy)]
 pub struct PulledAt {
     /// The generation of its checkpoint then.
     pub generation: u64,
@@ -57,7 +57,7 @@ pub struct PulledAt {
 }
 
 /// What a call brings to other replicas.
-#[derive(Clone, Copy, Debug, PartialEq, Eq)]
+#[derive(Clone, Copy)]
 pub enum SyncKind {
     /// What the active has, to all of them; it is too late from this moment on, where there is a timeout.
     Synchronize(Option<Moment>),

@@ -10,7 +10,7 @@ use ckpt_types::{ActorName, CLIENTS_MAX, Incarnation, NodeId};
 use std::alloc::{AllocError, Global};
 
 /// A client that is live.
-#[derive(Clone, Copy, Debug)]
+#[derive(Clone, Copy)]
 pub struct LiveClient {
     /// The client, 0 to 99.
     pub client: u8,

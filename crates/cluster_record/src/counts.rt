@@ -10,7 +10,7 @@ use std::marker::Model;
 const COUNTS_MAX: usize = CHECKPOINTS_MAX * NODES_MAX;
 
 /// How many updates the replica of a checkpoint on a node has.
-#[derive(Clone, Copy, Debug, Default)]
+#[derive(Clone, Copy, Default)]
 pub struct UpdateCount {
     /// The checkpoint.
     pub ckpt: CkptId,

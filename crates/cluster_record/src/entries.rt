@@ -28,7 +28,7 @@ use std::alloc::{AllocError, Global};
 pub type KeptName = SectionId;
 
 /// What the record keeps of a checkpoint.
-#[derive(Debug, Drop)]
+#[derive(Drop)]
 pub struct Entry {
     /// Its number.
     pub identity: CkptId,
@@ -500,7 +500,7 @@ pub(crate) fn copy_entries(alloc: Global, entries: &[Entry]) -> Result<Vec<Entry
 }
 
 /// Which entries stay.
-#[derive(Clone, Copy, Debug)]
+#[derive(Clone, Copy)]
 pub(crate) enum Staying {
     /// Those that a sweep at the moment leaves.
     Swept(Moment),

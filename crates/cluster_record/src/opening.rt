@@ -9,7 +9,7 @@ use crate::record::{RecordRefused, held_by, plainly};
 use ckpt_types::{AisError, CkptId, CreationAttributes, NodeId};
 
 /// What the record answers to an open.
-#[derive(Clone, Copy, Debug, PartialEq, Eq)]
+#[derive(Clone, Copy, PartialEq, Eq)]
 pub enum OpenAnswer {
     /// The checkpoint was there, and the client has it open once more; and whether that adds a replica on the client's
     /// node, as it does where the checkpoint is collocated and not complete there.

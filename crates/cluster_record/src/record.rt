@@ -36,7 +36,7 @@ use std::alloc::{AllocError, Global};
 use std::marker::Model;
 
 /// Why the record refuses a step.
-#[derive(Clone, Copy, Debug, PartialEq, Eq)]
+#[derive(Clone, Copy, PartialEq, Eq)]
 pub struct RecordRefused {
     /// The code.
     pub error: AisError,

@@ -13,7 +13,7 @@ use std::alloc::{AllocError, Global};
 use std::marker::Model;
 
 /// The driver of a call that goes to the active replica alone.
-#[derive(Debug, Drop)]
+#[derive(Drop)]
 pub struct ActiveCall {
     call: CallId,
     ckpt: CkptId,

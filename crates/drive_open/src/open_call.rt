@@ -21,7 +21,7 @@ use std::alloc::{AllocError, Global};
 use std::marker::Model;
 
 /// What an open asks of the record, whose name and attributes its operation and the log share.
-#[derive(Debug, Drop)]
+#[derive(Drop)]
 pub struct SharedAsk {
     /// The checkpoint's name.
     pub name: SharedName,
@@ -84,7 +84,7 @@ impl SharedAsk {
 }
 
 /// The driver of an open.
-#[derive(Debug, Drop)]
+#[derive(Drop)]
 pub struct OpenCall {
     call: CallId,
     ask: SharedAsk,

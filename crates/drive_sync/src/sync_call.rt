@@ -21,7 +21,7 @@ use std::alloc::{AllocError, Global};
 use std::marker::Model;
 
 /// The driver of a call that brings what the active has to other replicas.
-#[derive(Debug, Drop)]
+#[derive(Drop)]
 pub struct SyncCall {
     call: CallId,
     ckpt: CkptId,

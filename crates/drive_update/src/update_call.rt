@@ -27,7 +27,7 @@ use std::alloc::{AllocError, Global};
 use std::marker::Model;
 
 /// The driver of an update on a checkpoint whose replicas all have it before it is answered.
-#[derive(Debug, Drop)]
+#[derive(Drop)]
 pub struct UpdateCall {
     call: CallId,
     ckpt: CkptId,
