@@ -2,7 +2,7 @@
 use ckpt_types::{ActorName, CkptId, Moment, NodeId, Op, Who};
 
 /// A line of a script that is neither empty nor a comment.
-#[derive(Debug, Drop)]
+#[derive(Drop)]
 pub enum Line {
     /// The first nodes come up, this many.
     Nodes(u8),
