@@ -5,7 +5,7 @@ ghost use Rattle.call_dispatch.specs.PendingCalls.{callback_of};
 use ckpt_types::{AsyncKind, CallId, Callback, Outcome};
 
 /// A call that goes on by itself.
-#[derive(Clone, Copy, Debug, PartialEq, Eq)]
+#[derive(Clone, Copy)]
 pub struct AsyncCall {
     /// The call's name.
     pub call: CallId,
@@ -18,7 +18,7 @@ pub struct AsyncCall {
 }
 
 /// An asynchronous call that has ended.
-#[derive(Clone, Copy, Debug, PartialEq, Eq)]
+#[derive(Clone, Copy)]
 pub struct EndedCall {
     /// The call. Of an open that was done the handle is the one that it has opened.
     pub asked: AsyncCall,

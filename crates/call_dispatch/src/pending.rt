@@ -18,7 +18,7 @@ use std::marker::Model;
 
 /// The asynchronous calls of one client that were not dispatched: those under way, and those that have ended, in the
 /// order of their ends.
-#[derive(Debug, Drop)]
+#[derive(Drop)]
 pub struct Pending {
     /// Those under way, in the order of their beginning.
     unfinished: Vec<AsyncCall>,

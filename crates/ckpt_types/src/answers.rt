@@ -3,7 +3,7 @@ use crate::ais_error::AisError;
 use crate::identities::{CallId, CkptId, Moment};
 
 /// What shows that a refusal is right.
-#[derive(Clone, Copy, Debug, PartialEq, Eq)]
+#[derive(Clone, Copy, PartialEq, Eq)]
 pub enum Cause {
     /// The refusal says all.
     Plain,
@@ -20,7 +20,7 @@ pub enum Cause {
 }
 
 /// How many callbacks a dispatch gave, and how many finished ones it left.
-#[derive(Clone, Copy, Debug, PartialEq, Eq)]
+#[derive(Clone, Copy)]
 pub struct Given {
     /// How many it gave.
     pub given: u32,
@@ -30,7 +30,7 @@ pub struct Given {
 
 /// What a call that was done answers. An outcome is moved often, so it is small: the details of an answer are told
 /// beside it.
-#[derive(Clone, Copy, Debug, PartialEq, Eq)]
+#[derive(Clone, Copy)]
 pub enum Answer {
     /// No more than that it was done.
     Nothing,
@@ -53,7 +53,7 @@ pub enum Answer {
 }
 
 /// How a call ended.
-#[derive(Clone, Copy, Debug, PartialEq, Eq)]
+#[derive(Clone, Copy)]
 pub enum Outcome {
     /// It was done.
     Done(Answer),

@@ -5,7 +5,7 @@ use std::alloc::{AllocError, Global};
 use std::marker::Model;
 
 /// A value that lies apart from what has it, which stays small. Contracts see the value.
-#[derive(Debug, Drop)]
+#[derive(Drop)]
 pub struct Apart<T> {
     block: Box<T>,
 }

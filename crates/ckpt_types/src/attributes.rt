@@ -10,7 +10,7 @@ use crate::limits::{
 use crate::shared::Shared;
 
 /// What a checkpoint is declared to have when it is made.
-#[derive(Clone, Copy, Debug, PartialEq, Eq)]
+#[derive(Clone, Copy, PartialEq, Eq)]
 pub struct CreationAttributes {
     /// The creation flags.
     pub creation_flags: u32,

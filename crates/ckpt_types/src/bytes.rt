@@ -19,12 +19,12 @@ const SHORT_MAX: usize = 30;
 
 /// A string of bytes: a checkpoint's name, the identifier of a section that a line names, or the data of
 /// a section. A short one lies in place.
-#[derive(Debug, Drop)]
+#[derive(Drop)]
 pub struct Bytes {
     text: Text,
 }
 
-#[derive(Debug, Drop)]
+#[derive(Drop)]
 enum Text {
     /// So many bytes, at the front.
     Short(u8, [u8; SHORT_MAX]),

@@ -7,21 +7,21 @@ use crate::operation::Op;
 use crate::vector::Vector;
 
 /// A slot, marks, a hold or a making stands for another call.
-#[derive(Clone, Copy, Debug, PartialEq, Eq)]
+#[derive(Clone, Copy)]
 pub struct Held {
     /// The other call.
     pub by: CallId,
 }
 
 /// All places are taken.
-#[derive(Clone, Copy, Debug, PartialEq, Eq)]
+#[derive(Clone, Copy, PartialEq, Eq)]
 pub struct Count {
     /// How many places there are.
     pub count: u32,
 }
 
 /// The version that a client asks for.
-#[derive(Clone, Copy, Debug, PartialEq, Eq)]
+#[derive(Clone, Copy, PartialEq, Eq)]
 pub struct Version {
     /// The release, a letter from `A` to `Z`.
     pub release: u8,
@@ -32,7 +32,7 @@ pub struct Version {
 }
 
 /// The callbacks that a client registers.
-#[derive(Clone, Copy, Debug, PartialEq, Eq)]
+#[derive(Clone, Copy, PartialEq, Eq)]
 pub struct CallbackSet {
     /// That of an asynchronous open.
     pub opens: bool,
@@ -41,7 +41,7 @@ pub struct CallbackSet {
 }
 
 /// The kinds of asynchronous calls.
-#[derive(Clone, Copy, Debug, PartialEq, Eq)]
+#[derive(Clone, Copy)]
 pub enum AsyncKind {
     /// An open, with the place that its handle gets.
     Open(u8),
@@ -50,7 +50,7 @@ pub enum AsyncKind {
 }
 
 /// A callback that a dispatch gives: how an asynchronous call has ended.
-#[derive(Clone, Copy, Debug, PartialEq, Eq)]
+#[derive(Clone, Copy)]
 pub struct Callback {
     /// Of which kind the call is.
     pub kind: AsyncKind,
@@ -61,7 +61,7 @@ pub struct Callback {
 }
 
 /// What an open asks of the record of the cluster.
-#[derive(Debug, Drop)]
+#[derive(Drop)]
 pub struct OpenAsk {
     /// The checkpoint's name.
     pub name: Bytes,
@@ -74,7 +74,7 @@ pub struct OpenAsk {
 }
 
 /// One line of a race.
-#[derive(Debug, Drop)]
+#[derive(Drop)]
 pub enum RaceLine {
     /// A call of a client.
     Call(u8, Op),

@@ -4,12 +4,12 @@ ghost use Rattle.std.specs.Prelude.{◌≡◌, ◌<◌, ◌^◌, [], ◌∷◌, 
 use std::marker::Model;
 
 /// Fewer than 2^32 elements, in order. One alone lies in place.
-#[derive(Debug, Drop)]
+#[derive(Drop)]
 pub struct Elements<T> {
     items: Items<T>,
 }
 
-#[derive(Debug, Drop)]
+#[derive(Drop)]
 enum Items<T> {
     One([T; 1]),
     Many(Vec<T>),

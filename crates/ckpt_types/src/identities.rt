@@ -14,7 +14,7 @@ pub type Incarnation = u32;
 pub type CkptId = u32;
 
 /// Who begins calls: a client, or a node for its copying.
-#[derive(Clone, Copy, Debug, PartialEq, Eq)]
+#[derive(Clone, Copy, PartialEq, Eq)]
 pub enum ActorName {
     /// A client, c0 to c99.
     Client(u8),
@@ -23,7 +23,7 @@ pub enum ActorName {
 }
 
 /// A call: who began it, and its number among that actor's calls, from 1.
-#[derive(Clone, Copy, Debug, PartialEq, Eq)]
+#[derive(Clone, Copy, PartialEq, Eq)]
 pub struct CallId {
     /// Who began it.
     pub actor: ActorName,
@@ -33,7 +33,7 @@ pub struct CallId {
 
 /// Whose call is stepped: an actor, for the call that it has in hand, or an asynchronous operation by
 /// the name of its call.
-#[derive(Clone, Copy, Debug, PartialEq, Eq)]
+#[derive(Clone, Copy, PartialEq, Eq)]
 pub enum Who {
     /// The call that the actor has in hand.
     Actor(ActorName),

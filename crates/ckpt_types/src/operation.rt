@@ -9,7 +9,6 @@ use crate::identities::{Moment, NodeId};
 use crate::update::{SharedReads, SharedUpdate};
 use crate::words::OpWord;
 use std::alloc::AllocError;
-use std::fmt;
 
 /// A call as a script's line asks for it, without its client: a variant for each call line, its words in
 /// their order. Places of handles and of iterations are from 0 to 99.
@@ -200,12 +199,5 @@ impl Clone for Op {
             Op::Read(place, elements) => Ok(Op::Read(*place, elements.share()?)),
             _ => self.share_other(),
         }
-    }
-}
-
-/// Its word alone is told.
-impl fmt::Debug for Op {
-    fn fmt<W: fmt::Write>(&self, f: &mut fmt::Formatter<W>) -> fmt::Result {
-        f.write_str(OpWord::of(self).word())
     }
 }

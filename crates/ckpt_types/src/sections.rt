@@ -15,7 +15,7 @@ pub enum SectionState {
 }
 
 /// Which sections an iteration goes over.
-#[derive(Clone, Copy, Debug, PartialEq, Eq)]
+#[derive(Clone, Copy)]
 pub struct Choice {
     /// One of the five choices; others choose nothing.
     pub chosen: u32,
@@ -79,7 +79,7 @@ pub struct SectionDescriptor {
 }
 
 /// What a status tells of a checkpoint.
-#[derive(Clone, Copy, Debug, PartialEq, Eq)]
+#[derive(Clone, Copy)]
 pub struct CheckpointDescriptor {
     /// Its attributes, with the retention as it is now.
     pub attributes: CreationAttributes,
@@ -90,7 +90,7 @@ pub struct CheckpointDescriptor {
 }
 
 /// What the sections that are present come to.
-#[derive(Clone, Copy, Debug, PartialEq, Eq)]
+#[derive(Clone, Copy)]
 pub struct Totals {
     /// How many they are.
     pub count: usize,

@@ -6,7 +6,7 @@ use std::marker::Model;
 use std::sync::Arc;
 
 /// A share of a value that several owners read. Contracts see the value.
-#[derive(Debug, Drop)]
+#[derive(Drop)]
 pub struct Shared<T> {
     shared: Arc<T>,
 }

@@ -5,7 +5,7 @@ use crate::identities::Moment;
 use crate::shared::Shared;
 
 /// One element of a write: bytes, and where in which section they go.
-#[derive(Debug, Drop)]
+#[derive(Drop)]
 pub struct IoElement {
     /// The identifier of the section.
     pub id: Bytes,
@@ -16,7 +16,7 @@ pub struct IoElement {
 }
 
 /// One element of a read: which bytes of which section.
-#[derive(Debug, Drop)]
+#[derive(Drop)]
 pub struct ReadElement {
     /// The identifier of the section.
     pub id: Bytes,
@@ -33,7 +33,7 @@ pub type IoVector = Elements<IoElement>;
 pub type ReadVector = Elements<ReadElement>;
 
 /// The identifier of a new section.
-#[derive(Debug, Drop)]
+#[derive(Drop)]
 pub enum NewId {
     /// The caller's.
     Given(Bytes),
@@ -42,7 +42,7 @@ pub enum NewId {
 }
 
 /// What a call makes of the sections of a checkpoint.
-#[derive(Debug, Drop)]
+#[derive(Drop)]
 pub enum Update {
     /// Writes the elements in order, all of them or none.
     Write(IoVector),

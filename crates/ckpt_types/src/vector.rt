@@ -4,7 +4,7 @@ ghost use Rattle.std.specs.Prelude.{◌≡◌, ◌<◌, ◌^◌, length};
 use std::marker::Model;
 
 /// Fewer than 2^32 elements, in order.
-#[derive(Debug, Drop)]
+#[derive(Drop)]
 pub struct Vector<T> {
     items: Vec<T>,
 }

@@ -5,7 +5,7 @@ use crate::identities::{CallId, Who};
 use crate::operation::Op;
 
 /// The first word of a call line.
-#[derive(Clone, Copy, Debug, PartialEq, Eq)]
+#[derive(Clone, Copy)]
 pub enum OpWord {
     /// `client`
     Client,
@@ -136,7 +136,7 @@ impl OpWord {
 }
 
 /// The first word of a line.
-#[derive(Clone, Copy, Debug, PartialEq, Eq)]
+#[derive(Clone, Copy)]
 pub enum FirstWord {
     /// That of a call line, or of a node's copying.
     Op(OpWord),

@@ -9,7 +9,7 @@ use outside_io::{Failed, Source};
 use std::alloc::Global;
 
 /// How a reading ends that did not fail.
-#[derive(Clone, Copy, Debug, PartialEq, Eq)]
+#[derive(Clone, Copy)]
 pub enum Ended {
     /// At the end of the source.
     AtEnd,

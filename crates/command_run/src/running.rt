@@ -21,7 +21,7 @@ use std::thread::Threads;
 use world_core::World;
 
 /// What kept reading or writing from its end.
-#[derive(Clone, Copy, Debug, PartialEq, Eq)]
+#[derive(Clone, Copy)]
 pub enum Trouble {
     /// The source or the sink failed.
     Failed,
@@ -30,7 +30,7 @@ pub enum Trouble {
 }
 
 /// How a run of the program ends.
-#[derive(Clone, Copy, Debug, PartialEq, Eq)]
+#[derive(Clone, Copy, PartialEq, Eq)]
 pub enum Status {
     /// The script was run, and its lines were written.
     Ran,

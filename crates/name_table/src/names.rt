@@ -10,7 +10,7 @@ use std::marker::Model;
 use std::mem;
 
 /// The names of the checkpoints, in the order in which they were linked.
-#[derive(Debug, Drop)]
+#[derive(Drop)]
 pub struct Names {
     linked: IndexMap<Bytes, CkptId>,
     /// Empty. The names move here when one of them goes, since a map does not give back the place of one alone.

@@ -2,7 +2,7 @@
 use ckpt_types::CallId;
 
 /// What a step of a call does.
-#[derive(Clone, Copy, Debug, PartialEq, Eq)]
+#[derive(Clone, Copy)]
 pub enum Verb {
     /// The client becomes live.
     Enter,
@@ -63,7 +63,7 @@ pub enum Verb {
 }
 
 /// How a step was answered.
-#[derive(Clone, Copy, Debug, PartialEq, Eq)]
+#[derive(Clone, Copy)]
 pub enum StepReply {
     /// It was done.
     Ok,

@@ -12,7 +12,7 @@ use std::alloc::{AllocError, Global};
 use std::marker::Model;
 
 /// A source in memory, of which chosen reads fail. Reads are numbered from 0.
-#[derive(Debug, Drop)]
+#[derive(Drop)]
 pub struct MemSource {
     contents: Vec<u8>,
     given: usize,

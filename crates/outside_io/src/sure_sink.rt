@@ -8,7 +8,7 @@ use crate::failed::Failed;
 use crate::sink::Sink;
 
 /// A sink that takes each piece whole, keeps no bytes and never fails.
-#[derive(Clone, Copy, Debug, Default, PartialEq, Eq)]
+#[derive(Clone, Copy, Default)]
 pub struct SureSink;
 
 impl SureSink {

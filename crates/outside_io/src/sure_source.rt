@@ -12,7 +12,7 @@ use std::alloc::{AllocError, Global};
 use std::marker::Model;
 
 /// A source in memory that never fails. A contract sees it as the bytes that are left.
-#[derive(Debug, Drop)]
+#[derive(Drop)]
 pub struct SureSource {
     contents: Vec<u8>,
     given: usize,

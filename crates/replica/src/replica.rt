@@ -19,7 +19,7 @@ use update_rules::Refused;
 use weak_marks::{Marked, Marks};
 
 /// Why an update is not staged, is not made at once, or does not begin.
-#[derive(Clone, Copy, Debug)]
+#[derive(Clone, Copy)]
 pub enum StageRefused {
     /// The slot of this call stands, or its marks do.
     Held(CallId),
@@ -29,7 +29,7 @@ pub enum StageRefused {
 
 /// A snapshot is not installed: the replica has this generation and so many updates, which are not below the
 /// snapshot's, the generation compared first.
-#[derive(Clone, Copy, Debug, PartialEq, Eq)]
+#[derive(Clone, Copy)]
 pub struct Older {
     /// The replica's generation.
     pub generation: u64,

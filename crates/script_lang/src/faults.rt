@@ -6,7 +6,7 @@ use script_words::Reason;
 use std::alloc::AllocError;
 
 /// What is wrong with bytes that are no script.
-#[derive(Clone, Copy, Debug, PartialEq, Eq)]
+#[derive(Clone, Copy, PartialEq, Eq)]
 pub struct ScriptFault {
     /// The line, from 1; 0 where the bytes as a whole are too many.
     pub line: u32,
@@ -15,7 +15,7 @@ pub struct ScriptFault {
 }
 
 /// Why a script was not read.
-#[derive(Clone, Copy, Debug, PartialEq, Eq)]
+#[derive(Clone, Copy)]
 pub enum ParseError {
     /// The bytes are no script.
     Fault(ScriptFault),

@@ -8,7 +8,7 @@ use script_lines::Line;
 use script_words::Reason;
 
 /// What the lines of a script so far tell of themselves.
-#[derive(Clone, Copy, Debug)]
+#[derive(Clone, Copy)]
 pub(crate) struct Marks {
     /// There are none.
     pub none: bool,

@@ -5,7 +5,7 @@ ghost use Rattle.script_words.specs.declared.reason.LineError.TheVariants as lin
 use std::alloc::{AllocError, AllocFailed};
 
 /// Why bytes are no script.
-#[derive(Clone, Copy, Debug, PartialEq, Eq, Hash)]
+#[derive(Clone, Copy, PartialEq, Eq)]
 pub enum Reason {
     /// There are too many bytes.
     Length,
@@ -58,7 +58,7 @@ impl Reason {
 }
 
 /// Why a line or a word was not read.
-#[derive(Clone, Copy, Debug, PartialEq, Eq)]
+#[derive(Clone, Copy, PartialEq, Eq)]
 pub enum LineError {
     /// It is not what may stand there.
     Fault(Reason),

@@ -16,14 +16,14 @@ use std::marker::Model;
 pub struct NoSections;
 
 /// The identifiers of the sections that an iteration may still give, in room that was taken before.
-#[derive(Debug, Drop)]
+#[derive(Drop)]
 pub struct Iteration {
     /// What it keeps, in a block of its own, so that an iteration is moved as a pointer.
     block: Box<Kept>,
 }
 
 /// What an iteration keeps.
-#[derive(Debug, Drop)]
+#[derive(Drop)]
 struct Kept {
     /// The bytes of the identifiers, one behind another.
     bytes: Vec<u8>,

@@ -6,7 +6,7 @@ ghost use Rattle.snap_copy.specs.Heads.{section_in, sections_in, IsWithin, AreWi
 use ckpt_types::{Moment, SectionId, SectionRef, SectionState, Sections, Totals, extend_reserved};
 
 /// What is kept of a section beside its bytes, and where these stand.
-#[derive(Debug, Drop)]
+#[derive(Drop)]
 pub(crate) struct Head {
     pub id: SectionId,
     /// Where its bytes begin in the buffer.

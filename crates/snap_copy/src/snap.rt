@@ -9,14 +9,14 @@ use std::alloc::{AllocError, Global};
 use std::marker::Model;
 
 /// The sections that a replica had at one moment. All their room is taken when the snapshot is made.
-#[derive(Debug, Drop)]
+#[derive(Drop)]
 pub struct Snap {
     /// What it keeps, in a block of its own, so that a snapshot is moved as a pointer.
     block: Box<Kept>,
 }
 
 /// What a snapshot keeps.
-#[derive(Debug, Drop)]
+#[derive(Drop)]
 struct Kept {
     attributes: CreationAttributes,
     /// The bytes of all sections, one behind another.

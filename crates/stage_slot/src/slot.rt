@@ -7,7 +7,7 @@ use std::alloc::{AllocError, Global};
 use std::marker::Model;
 
 /// An update that is staged.
-#[derive(Debug, Drop)]
+#[derive(Drop)]
 pub struct Staged {
     /// The call that owns it.
     pub owner: CallId,
@@ -44,7 +44,7 @@ impl Staged {
 }
 
 /// What a claim finds.
-#[derive(Clone, Copy, Debug, PartialEq, Eq)]
+#[derive(Clone, Copy)]
 pub enum Claimed {
     /// The slot is the caller's now; the replica had so many updates when it was staged.
     Slot(u64),
@@ -53,7 +53,7 @@ pub enum Claimed {
 }
 
 /// Room for one staged update. It takes no memory.
-#[derive(Debug, Drop)]
+#[derive(Drop)]
 pub struct Slot {
     staged: Option<Staged>,
 }

@@ -7,7 +7,7 @@ use std::alloc::{AllocError, Global};
 use std::marker::Model;
 
 /// A weak write that is under way.
-#[derive(Debug, Drop)]
+#[derive(Drop)]
 pub struct Marked {
     /// The call whose write it is.
     pub call: CallId,
@@ -70,7 +70,7 @@ impl Marked {
 }
 
 /// Room for the marks of one weak write. They take no memory.
-#[derive(Debug, Drop)]
+#[derive(Drop)]
 pub struct Marks {
     marked: Option<Marked>,
 }
