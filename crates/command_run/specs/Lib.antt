@@ -1,3 +1,4 @@
 pub mod Arguments
+pub mod Ending
 pub mod Headline
 pub mod Reading

@@ -1,24 +1,27 @@
 //! A command is run: from its words to the status.
-ghost use Rattle.std.specs.Prelude.{◌≡◌, [], IsTrue, ◌↔◌, codes, bytes_eq, IfSome, IsOk};
+ghost use Rattle.std.specs.Prelude.{◌≡◌, ℕ, List, [], IsTrue, ◌↔◌, codes, bytes_eq, Option, IfSome, IsOk};
 ghost use Rattle.std.specs.Io.KnownBytes.{Appends};
 ghost use Rattle.outside_io.specs.Causes.{Rose};
+ghost use Rattle.script_lang.specs.BuiltScripts.{IsBuiltScript};
 ghost use Rattle.script_lang.specs.Grammar.{script_of};
 ghost use Rattle.script_lang.specs.declared.faults.ScriptFault.{ScriptFault};
 ghost use Rattle.world_core.specs.Runs.{IsNew, IsRunTo};
+ghost use Rattle.command_run.specs.Ending.{Plays, Reads, Tells, end_of};
 ghost use Rattle.command_run.specs.Headline.{IsCommand, asks_steps, HasFault, HasPlayed, PlayedNothing, WritesPart, RanOrNoMemory, printed, status_number};
+ghost use Rattle.command_run.specs.Reading.{HasRead};
 
 use crate::reading::{Ended, read_all};
 use crate::writing::write_lines;
 use outside_io::{Gate, Sink, Source};
 use run_labels::RunLog;
-use script_lang::{ParseError, Reason, ScriptFault, parse};
+use script_lang::{ParseError, Reason, Script, ScriptFault, parse};
 use session_run::session;
 use std::alloc::Global;
 use std::mem;
 use std::string::String;
 use std::sync::Wait;
 use std::thread::Threads;
-use world_core::World;
+use world_core::{World, world_law};
 
 /// What kept reading or writing from its end.
 #[derive(Clone, Copy)]
@@ -97,7 +100,6 @@ fn wants_steps(words: &[String]) -> bool
 
 /// Reads a script from the source, plays it on the cluster, and writes the lines of its log to the sink. Whatever it
 /// answers, the log is a run; what a run promises is read off that by its caller.
-#[tactic(auto, using(crate::proofs::Played::nothing_ran))]
 pub fn run_command<R: Threads + Wait + Sync, S: Source, K: Sink, G: Gate>(
     rt: &R,
     alloc: Global,
@@ -124,30 +126,92 @@ pub fn run_command<R: Threads + Wait + Sync, S: Source, K: Sink, G: Gate>(
         (Rose (S.faults source.old) (S.faults source.new) → ⊥) → (Rose (K.faults sink.old) (K.faults sink.new) → ⊥) → RanOrNoMemory result) }
 {
     if !is_command(words) {
+        world_law();
         return Status::Usage;
     }
-    let (bytes, ended) = match read_all(alloc, source) {
-        Ok(read) => read,
-        Err(Trouble::Failed) => return Status::ReadFault,
-        Err(Trouble::Memory) => return Status::NoMemory,
-    };
-    if let Ended::TooLong = ended {
-        return Status::Script(ScriptFault {
-            line: 0,
-            reason: Reason::Length,
-        });
-    }
-    let script = match parse(alloc, bytes.as_slice()) {
+    run_script(rt, alloc, words, source, sink, gate, log, world)
+}
+
+// What the command does behind its words.
+fn run_script<R: Threads + Wait + Sync, S: Source, K: Sink, G: Gate>(
+    rt: &R,
+    alloc: Global,
+    words: &[String],
+    source: &mut S,
+    sink: &mut K,
+    gate: &G,
+    log: &mut RunLog,
+    world: &mut World,
+) -> Status
+    requires log { log.old.labels ≡ [] }
+    requires world { IsNew world.old }
+    ensures run { IsRunTo world.new log.new.labels }
+    ensures kept { PlayedNothing result → (sink.new ≡ sink.old) × (world.new ≡ world.old) }
+    ensures told { Tells (end_of (S.left source.old) (S.faults source.old)) (end_of (S.left source.new) (S.faults source.new))
+        (end_of (K.held sink.old) (K.faults sink.old)) (end_of (K.held sink.new) (K.faults sink.new))
+        log.new.labels (printed (asks_steps words.now) log.new.labels) result }
+{
+    world_law();
+    let script = match read_script(alloc, source) {
         Ok(script) => script,
-        Err(ParseError::Fault(fault)) => return Status::Script(fault),
-        Err(ParseError::NoMemory) => return Status::NoMemory,
+        Err(status) => return status,
     };
-    if session(rt, alloc, &script, gate, log, world).is_err() {
-        return Status::NoMemory;
-    }
+    let steps = wants_steps(words);
+    let status = play_script(rt, alloc, &script, steps, sink, gate, log, world);
     // The program ends soon, and gives all lines back at once.
     mem::forget(script);
-    match write_lines(alloc, sink, log.as_slice(), wants_steps(words)) {
+    status
+}
+
+// The script that the source gives, or how the program ends without one.
+fn read_script<S: Source>(alloc: Global, source: &mut S) -> Result<Script, Status>
+    ensures { Reads (S.left source.old) (S.left source.new) (S.faults source.old) (S.faults source.new) result }
+{
+    match read_all(alloc, source) {
+        Ok((bytes, ended)) => script_in(alloc, bytes.as_slice(), ended),
+        Err(Trouble::Failed) => Err(Status::ReadFault),
+        Err(Trouble::Memory) => Err(Status::NoMemory),
+    }
+}
+
+// The script that the bytes of a source are, or how the program ends without one.
+fn script_in(alloc: Global, bytes: &[u8], ended: Ended) -> Result<Script, Status>
+    ensures { (old new : Option (List ℕ)) → (before now : ℕ) → HasRead old new bytes.now ended → Reads old new before now result }
+{
+    if let Ended::TooLong = ended {
+        return Err(Status::Script(ScriptFault {
+            line: 0,
+            reason: Reason::Length,
+        }));
+    }
+    match parse(alloc, bytes) {
+        Ok(script) => Ok(script),
+        Err(ParseError::Fault(fault)) => Err(Status::Script(fault)),
+        Err(ParseError::NoMemory) => Err(Status::NoMemory),
+    }
+}
+
+// Plays a script, and writes the lines of the log.
+fn play_script<R: Threads + Wait + Sync, K: Sink, G: Gate>(
+    rt: &R,
+    alloc: Global,
+    script: &Script,
+    steps: bool,
+    sink: &mut K,
+    gate: &G,
+    log: &mut RunLog,
+    world: &mut World,
+) -> Status
+    requires log { log.old.labels ≡ [] }
+    requires world { IsNew world.old }
+    requires built { IsBuiltScript script.now }
+    ensures run { IsRunTo world.new log.new.labels }
+    ensures plays { Plays script.now log.new.labels (K.held sink.old) (K.held sink.new) (printed steps log.new.labels) (K.faults sink.old) (K.faults sink.new) result }
+{
+    if session(rt, alloc, script, gate, log, world).is_err() {
+        return Status::NoMemory;
+    }
+    match write_lines(alloc, sink, log.as_slice(), steps) {
         Ok(()) => Status::Ran,
         Err(Trouble::Failed) => Status::WriteFault,
         Err(Trouble::Memory) => Status::NoMemory,
