@@ -1,9 +1,9 @@
 //! What a call answers at its beginning.
-ghost use Rattle.std.specs.Prelude.{◌≡◌, ℕ, ◌<◌, None, not, if◌then◌else◌};
+ghost use Rattle.std.specs.Prelude.{◌≡◌, ℕ, ◌<◌, Bool, None, not, if◌then◌else◌};
 ghost use Rattle.std.specs.Option.{option_or};
 ghost use Rattle.ckpt_types.specs.declared.ais_error.AisError.TheVariants as errors;
 ghost use Rattle.ckpt_types.specs.Asks.{asked, takes_room};
-ghost use Rattle.ckpt_machine.specs.Beginning.{refused, if_live, version_is_bad, attributes_are_bad, open_begin, vector_is_bad, update_is_bad, if_registered, goes_on_alone, dispatch_begin, begin_end};
+ghost use Rattle.ckpt_machine.specs.Beginning.{refused, if_live, version_is_bad, attributes_are_bad, open_begin, vector_is_bad, update_is_bad, choice_is_bad, if_registered, goes_on_alone, sync_alone, end_iteration, dispatch_begin, begin_end};
 ghost use Rattle.call_dispatch.specs.PendingCalls.{PendingCalls, given_answer};
 ghost use Rattle.client_calls.specs.Standings.{standing, by_right};
 ghost use Rattle.ckpt_machine.specs.Tables.{ckpt_of_handle, choice_of};
@@ -65,31 +65,18 @@ pub fn begin_end(live: bool, handle: &Option<HandleView>, op: &Op, table: &Table
             if_live(live, on_handle(handle, bad, Right::Read))
         }
         Op::Iter(_, _, chosen, _) => {
-            let bad = *chosen == 0 || *chosen > u64::from(SECTIONS_ANY);
-            if_live(live, on_handle(handle, bad, Right::Read))
+            if_live(live, on_handle(handle, choice_is_bad(*chosen), Right::Read))
         }
         Op::Status(_) | Op::Next(_) | Op::Close(_) => {
             if_live(live, on_handle(handle, false, Right::Any))
         }
-        Op::EndIter(_) => if_live(
-            live && handle.is_some(),
-            Some(Outcome::Done(Answer::Nothing)),
-        ),
+        Op::EndIter(_) => if_live(live, end_iteration(handle)),
         Op::Retain(_, duration) => if_live(live, on_handle(handle, *duration < 0, Right::Any)),
         Op::Unlink(_) | Op::Finalize => if_live(live, None),
         Op::Sync(_, timeout) => {
             if_live(live, on_handle(handle, *timeout < 0, Right::Synchronize))
         }
-        Op::SyncAsync(_, _) => match handle {
-            None => refused(AisError::BadHandle),
-            Some(_) => {
-                let refusal = on_handle(handle, false, Right::Synchronize);
-                if_live(
-                    live,
-                    alone(table.callbacks().syncs, refusal, table.pending_count()),
-                )
-            }
-        },
+        Op::SyncAsync(_, _) => if_live(live, sync_alone(handle, table)),
         Op::Active(_) => if_live(live, on_handle(handle, false, Right::SetActive)),
         Op::Dispatch(flags) => if_live(live, dispatch_begin(table.given(*flags))),
         Op::Copy => None,
@@ -104,6 +91,27 @@ fn if_live(live: bool, answer: Option<Outcome>) -> Option<Outcome>
         answer
     } else {
         refused(AisError::BadHandle)
+    }
+}
+
+// A synchronisation that goes on by itself, on a handle.
+fn sync_alone(handle: &Option<HandleView>, table: &Table) -> Option<Outcome>
+    ensures { (live : Bool) → result ≡ sync_alone (standing live handle.now table.now) handle.now }
+{
+    if handle.is_none() {
+        return refused(AisError::BadHandle);
+    }
+    let refusal = on_handle(handle, false, Right::Synchronize);
+    alone(table.callbacks().syncs, refusal, table.pending_count())
+}
+
+// An iteration is ended at once.
+fn end_iteration(handle: &Option<HandleView>) -> Option<Outcome>
+    ensures { result ≡ end_iteration handle.now }
+{
+    match handle {
+        None => refused(AisError::BadHandle),
+        Some(_) => Some(Outcome::Done(Answer::Nothing)),
     }
 }
 
@@ -212,6 +220,12 @@ fn attributes_are_bad(flags: u32, attributes: &Option<CreationAttributes>) -> bo
         None => creates,
         Some(attributes) => !creates || attributes.check().is_err(),
     }
+}
+
+fn choice_is_bad(chosen: u64) -> bool
+    ensures { result ≡ choice_is_bad chosen }
+{
+    chosen == 0 || chosen > u64::from(SECTIONS_ANY)
 }
 
 fn vector_is_bad(len: usize) -> bool

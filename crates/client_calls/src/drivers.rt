@@ -12,13 +12,14 @@ ghost use Rattle.cluster_record.specs.Placement.{is_all};
 ghost use Rattle.ckpt_machine.specs.Due.{declares_at, kept_at_beginning};
 ghost use Rattle.ckpt_machine.specs.Tables.{rooms_in};
 ghost use Rattle.ckpt_machine.specs.Granting.{event_granted};
-ghost use Rattle.ckpt_machine.specs.Drivers.{Once};
+ghost use Rattle.ckpt_machine.specs.Drivers.{Once, Open};
+ghost use Rattle.cluster_record.specs.DueOpen.{open_begun};
 
 use crate::beginning::{choice_of, ckpt_of_handle};
 use crate::one_step::OneStep;
 use crate::options::{is_all, is_weak};
 use crate::table::Table;
-use ckpt_types::{CallId, CkptId, NodeId, Op, SharedAttributes, SharedName, Update};
+use ckpt_types::{CallId, CkptId, Moment, NodeId, Op, SharedAttributes, SharedName, Update};
 use client_handles::HandleView;
 use cluster_record::{ActiveKind, Record, SyncKind, number_of};
 use drive_active::ActiveCall;
@@ -85,17 +86,11 @@ impl Driver {
         match op {
             Op::Client(r, _, _) => Ok(Driver::once(OneStep::Enter(*r))),
             Op::Open(_, name, _, timeout, attributes) => {
-                let ask = open_ask(name, attributes, number_of(&call.actor), cluster)?;
                 let deadline = Some(cluster.moment_after(*timeout));
-                Ok(Driver {
-                    kind: DriverKind::Open(OpenCall::begin(call, ask, deadline)),
-                })
+                open_start(call, name, attributes, cluster, deadline)
             }
             Op::OpenAsync(_, _, name, _, attributes) => {
-                let ask = open_ask(name, attributes, number_of(&call.actor), cluster)?;
-                Ok(Driver {
-                    kind: DriverKind::Open(OpenCall::begin(call, ask, None)),
-                })
+                open_start(call, name, attributes, cluster, None)
             }
             Op::Create(_, update)
             | Op::Delete(_, update)
@@ -161,6 +156,23 @@ impl Driver {
             DriverKind::Sync(sync) => sync.next(cluster),
         }
     }
+}
+
+// An open, which ends at this moment at the latest, if at one.
+#[inline(always)]
+fn open_start(
+    call: CallId,
+    name: &SharedName,
+    attributes: &SharedAttributes,
+    cluster: &Record,
+    deadline: Option<Moment>,
+) -> Result<Driver, AllocError>
+    ensures { IfOk result (λ driver. driver ≡ Open (open_begun call (record { name = name.now; attrs = attributes.now; client = client_of call; node = home_of (client_of call) cluster.now }) deadline)) }
+{
+    let ask = open_ask(name, attributes, number_of(&call.actor), cluster)?;
+    Ok(Driver {
+        kind: DriverKind::Open(OpenCall::begin(call, ask, deadline)),
+    })
 }
 
 // What an open asks of the record for its client.

@@ -1,9 +1,9 @@
 //! What the call of a client lends to a request, and what comes back of it.
-ghost use Rattle.std.specs.Prelude.{◌≡◌, ◌^◌, ◌<◌, [], length, None, IfOk, MatchOption};
+ghost use Rattle.std.specs.Prelude.{◌≡◌, ◌^◌, ◌<◌, [], length, None, IfOk, IsSome, MatchOption};
 ghost use Rattle.ckpt_types.specs.Asks.{update_of, elements_of};
 ghost use Rattle.ckpt_types.specs.declared.update.Update.TheVariants as updates;
-ghost use Rattle.node_core.specs.Lending.{bytes_asked, HasRoomToTell};
-ghost use Rattle.client_calls.specs.Lending.{IsLentBy, IsLentRead};
+ghost use Rattle.node_core.specs.Lending.{bytes_asked, nothing_lent, HasRoomToTell};
+ghost use Rattle.client_calls.specs.Lending.{IsLentBy, IsLentRead, IsLentUpdate};
 ghost use Rattle.client_calls.specs.UpdateSteps.{is_creation};
 
 use crate::hand_rooms::DECLARES_NOTHING;
@@ -30,30 +30,79 @@ pub fn lent_by(alloc: Global, op: &Op, request: &Request) -> Result<Lent, AllocE
     ensures iteration { IfOk result (λ lent. lent.iteration ≡ None) }
 {
     match request {
-        Request::Stage(_, _, _) | Request::Mark(_, _) => Ok(Lent {
-            update: Some(share_update(alloc, op)?),
-            ..Lent::nothing()
-        }),
-        Request::Commit(_, _) => Ok(Lent {
-            read: room_for_id(alloc, op)?,
-            ..Lent::nothing()
-        }),
-        Request::Apply(_, _) => Ok(Lent {
-            read: room_for_id(alloc, op)?,
-            update: Some(share_update(alloc, op)?),
-            ..Lent::nothing()
-        }),
+        Request::Stage(_, _, _) | Request::Mark(_, _) => {
+            let update = share_update(alloc, op)?;
+            Ok(lent_of(None, None, Some(update)))
+        }
+        Request::Commit(_, _) => {
+            let read = room_for_id(alloc, op)?;
+            Ok(lent_of(read, None, None))
+        }
+        Request::Apply(_, _) => apply_lent(alloc, op),
         Request::Read(_) => read_lent(alloc, op),
-        Request::Status(_) => Ok(Lent {
-            status: Some(Apart::new(alloc, NO_STATUS)?),
-            ..Lent::nothing()
-        }),
-        Request::Next(_, _) => Ok(Lent {
-            section: Some(Apart::new(alloc, no_section())?),
-            ..Lent::nothing()
-        }),
+        Request::Status(_) => status_lent(alloc),
+        Request::Next(_, _) => section_lent(alloc),
         _ => Ok(Lent::nothing()),
     }
+}
+
+// A buffer, the elements of a read, and an update are lent, those that there are, and nothing else.
+fn lent_of(read: Option<ReadBuf>, vector: Option<SharedReads>, update: Option<SharedUpdate>) -> Lent
+    ensures { result ≡ record nothing_lent { read = read; vector = vector; update = update } }
+{
+    Lent {
+        read,
+        vector,
+        update,
+        iteration: None,
+        snap: None,
+        status: None,
+        section: None,
+    }
+}
+
+// What an update in one step wants: room for the identifier that it tells, and a share of it.
+fn apply_lent(alloc: Global, op: &Op) -> Result<Lent, AllocError>
+    ensures lent { IfOk result (IsLentUpdate op.now) }
+    ensures iteration { IfOk result (λ lent. lent.iteration ≡ None) }
+{
+    let read = room_for_id(alloc, op)?;
+    let update = share_update(alloc, op)?;
+    Ok(lent_of(read, None, Some(update)))
+}
+
+// A place for a status.
+fn status_lent(alloc: Global) -> Result<Lent, AllocError>
+    ensures lent { IfOk result (λ lent. IsSome lent.status) }
+    ensures iteration { IfOk result (λ lent. lent.iteration ≡ None) }
+{
+    let status = Apart::new(alloc, NO_STATUS)?;
+    Ok(Lent {
+        read: None,
+        vector: None,
+        update: None,
+        iteration: None,
+        snap: None,
+        status: Some(status),
+        section: None,
+    })
+}
+
+// A place for a section.
+fn section_lent(alloc: Global) -> Result<Lent, AllocError>
+    ensures lent { IfOk result (λ lent. IsSome lent.section) }
+    ensures iteration { IfOk result (λ lent. lent.iteration ≡ None) }
+{
+    let section = Apart::new(alloc, no_section())?;
+    Ok(Lent {
+        read: None,
+        vector: None,
+        update: None,
+        iteration: None,
+        snap: None,
+        status: None,
+        section: Some(section),
+    })
 }
 
 // Room for the identifier that an update tells, if it makes a section.
@@ -106,11 +155,7 @@ fn read_lent(alloc: Global, op: &Op) -> Result<Lent, AllocError>
 {
     let vector = share_elements(alloc, op)?;
     let read = reserve_for(alloc, vector.value().as_slice())?;
-    Ok(Lent {
-        read: Some(read),
-        vector: Some(vector),
-        ..Lent::nothing()
-    })
+    Ok(lent_of(Some(read), Some(vector), None))
 }
 
 // What a place for a section has before one is told.
