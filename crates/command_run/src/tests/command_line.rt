@@ -40,13 +40,9 @@ fn put(word: &[u8], place: &mut [u8]) -> usize
 
 /// Whether just these words are read behind the name.
 fn are_read(alloc: Global, called: &[&[u8]], wanted: &[&str]) -> bool {
-    match words(&Called { words: called }, alloc) {
-        Ok(read) => are_same(read.as_slice(), wanted),
-        Err(_) => false,
-    }
-}
-
-fn are_same(read: &[String], wanted: &[&str]) -> bool {
+    let Ok(read) = words(&Called { words: called }, alloc) else {
+        return false;
+    };
     if read.len() != wanted.len() {
         return false;
     }

@@ -5,32 +5,26 @@ use ckpt_types::SCRIPT_BYTES_MAX;
 use outside_io::MemSource;
 use script_lang::{Reason, ScriptFault};
 use std::alloc::{AllocError, Global};
-use std::sync::Wait;
 use std::test::Fail;
-use std::thread::Threads;
-
-/// Whether the run of a script ends so where this read fails, and writes nothing.
-fn reads<R: Threads + Wait + Sync>(
-    rt: &R,
-    alloc: Global,
-    script: &[u8],
-    read: u64,
-    status: Status,
-) -> bool {
-    ends(rt, alloc, script, read, (NONE, 4096), status, b"")
-}
 
 #[test]
 fn a_read_that_fails_is_told_and_nothing_is_written(rt: HostRuntime) -> Result<(), Fail> {
-    let (alloc, failed) = (rt.alloc(), Status::ReadFault);
-    assert!(rt; leaves(&rt, alloc, (NONE, 4096), Status::Ran, 72), "none");
-    assert!(rt; reads(&rt, alloc, SCRIPT, 0, failed), "the first");
-    assert!(rt; reads(&rt, alloc, SCRIPT, 1, failed), "that at the end");
+    let (alloc, all) = (rt.alloc(), (NONE, 4096));
+    let failed = Status::ReadFault;
+    assert!(rt;
+        ends(&rt, alloc, SCRIPT, NONE, all, Status::Ran, LINES)?,
+        "none"
+    );
+    assert!(rt; ends(&rt, alloc, SCRIPT, 0, all, failed, b"")?, "the first");
+    assert!(rt;
+        ends(&rt, alloc, SCRIPT, 1, all, failed, b"")?,
+        "that at the end"
+    );
     let comment = repeated(alloc, b"", b"#", 2 * SCRIPT_BYTES_MAX)?;
     let long = comment.as_slice();
-    assert!(rt; reads(&rt, alloc, long, 1, failed), "a later one");
+    assert!(rt; ends(&rt, alloc, long, 1, all, failed, b"")?, "a later one");
     assert!(rt;
-        reads(&rt, alloc, long, 64, failed),
+        ends(&rt, alloc, long, 64, all, failed, b"")?,
         "that of one byte more than a script may have"
     );
     let length = Status::Script(ScriptFault {
@@ -38,46 +32,42 @@ fn a_read_that_fails_is_told_and_nothing_is_written(rt: HostRuntime) -> Result<(
         reason: Reason::Length,
     });
     assert!(rt;
-        reads(&rt, alloc, long, 65, length),
+        ends(&rt, alloc, long, 65, all, length, b"")?,
         "one behind it, which never comes"
     );
     Ok(())
 }
 
-/// Whether the run of the script ends so, with so many bytes of its lines written, where this write fails and there is so
-/// much room.
-fn leaves<R: Threads + Wait + Sync>(
-    rt: &R,
-    alloc: Global,
-    (write, room): (u64, usize),
-    status: Status,
-    front: usize,
-) -> bool {
-    let written = &LINES[..front.min(LINES.len())];
-    ends(rt, alloc, SCRIPT, NONE, (write, room), status, written)
-}
-
 #[test]
-fn a_write_that_fails_is_told_and_leaves_the_front_of_the_lines(rt: HostRuntime) {
+fn a_write_that_fails_is_told_and_leaves_the_front_of_the_lines(
+    rt: HostRuntime,
+) -> Result<(), Fail> {
     let (alloc, failed) = (rt.alloc(), Status::WriteFault);
-    assert!(rt; leaves(&rt, alloc, (0, 4096), failed, 0), "the first");
-    assert!(rt; leaves(&rt, alloc, (NONE, 0), failed, 0), "no room");
     assert!(rt;
-        leaves(&rt, alloc, (NONE, 10), failed, 10),
+        ends(&rt, alloc, SCRIPT, NONE, (0, 4096), failed, b"")?,
+        "the first"
+    );
+    assert!(rt;
+        ends(&rt, alloc, SCRIPT, NONE, (NONE, 0), failed, b"")?,
+        "no room"
+    );
+    assert!(rt;
+        ends(&rt, alloc, SCRIPT, NONE, (NONE, 10), failed, &LINES[..10])?,
         "room up to mid-line"
     );
     assert!(rt;
-        leaves(&rt, alloc, (NONE, 21), failed, 21),
+        ends(&rt, alloc, SCRIPT, NONE, (NONE, 21), failed, &LINES[..21])?,
         "room up to a line's end"
     );
     assert!(rt;
-        leaves(&rt, alloc, (NONE, 71), failed, 71),
+        ends(&rt, alloc, SCRIPT, NONE, (NONE, 71), failed, &LINES[..71])?,
         "room for all but a byte"
     );
     assert!(rt;
-        leaves(&rt, alloc, (NONE, 72), Status::Ran, 72),
+        ends(&rt, alloc, SCRIPT, NONE, (NONE, 72), Status::Ran, LINES)?,
         "room for just all"
     );
+    Ok(())
 }
 
 /// So many lines behind a first one.
@@ -87,14 +77,6 @@ fn repeated(alloc: Global, first: &[u8], line: &[u8], count: usize) -> Result<Ve
         lines.extend_from_slice(line)?;
     }
     Ok(lines)
-}
-
-/// Whether a script that prints a thousand lines is cut off by this write, which fails.
-fn is_cut_off<R: Threads + Wait + Sync>(rt: &R, alloc: Global, write: u64, lines: &[u8]) -> bool {
-    let Ok(mut source) = long_source(alloc) else {
-        return false;
-    };
-    cuts_off(rt, alloc, &mut source, write, lines)
 }
 
 /// A source of a script that prints a thousand lines.
@@ -107,8 +89,9 @@ fn long_source(alloc: Global) -> Result<MemSource, AllocError> {
 fn a_later_write_that_fails_leaves_the_front_of_the_lines(rt: HostRuntime) -> Result<(), Fail> {
     let lines = repeated(rt.alloc(), b"", b"c0 step IDLE\n", 1000)?;
     for write in 1..4 {
+        let mut source = long_source(rt.alloc())?;
         assert!(rt;
-            is_cut_off(&rt, rt.alloc(), write, lines.as_slice()),
+            cuts_off(&rt, rt.alloc(), &mut source, write, lines.as_slice())?,
             "write {write}"
         );
     }

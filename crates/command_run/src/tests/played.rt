@@ -25,44 +25,30 @@ pub const STEPPED_LINES: &[u8] = b"+ c0.1 begin client\n+ c0.1 enter n0 ok\nc0.1
 /// A read or a write that never comes, of those that are counted from 0.
 pub const NONE: u64 = 1_000_000;
 
-/// The words as the program has them.
-fn owned(alloc: Global, words: &[&str]) -> Result<Vec<String>, AllocError> {
-    let mut owned = Vec::new(alloc);
-    for word in words {
-        owned.push(String::from_str(alloc, word)?)?;
-    }
-    Ok(owned)
-}
-
 /// How the run of these words ends, on a cluster of which no node is up.
 fn status_of<R: Threads + Wait + Sync, S: Source, K: Sink>(
-    rt: &R,
-    alloc: Global,
-    words: &[String],
-    source: &mut S,
-    sink: &mut K,
-) -> Status {
-    let Ok(mut world) = World::new(alloc) else {
-        return Status::NoMemory;
-    };
-    let mut log = RunLog::new(alloc);
-    run_command(
-        rt, alloc, words, source, sink, &OpenGate, &mut log, &mut world,
-    )
-}
-
-/// How the run of these words ends.
-fn ended<R: Threads + Wait + Sync, S: Source, K: Sink>(
     rt: &R,
     alloc: Global,
     words: &[&str],
     source: &mut S,
     sink: &mut K,
-) -> Status {
-    match owned(alloc, words) {
-        Ok(owned) => status_of(rt, alloc, owned.as_slice(), source, sink),
-        Err(_) => Status::NoMemory,
+) -> Result<Status, AllocError> {
+    let mut owned = Vec::new(alloc);
+    for word in words {
+        owned.push(String::from_str(alloc, word)?)?;
     }
+    let mut world = World::new(alloc)?;
+    let mut log = RunLog::new(alloc);
+    Ok(run_command(
+        rt,
+        alloc,
+        owned.as_slice(),
+        source,
+        sink,
+        &OpenGate,
+        &mut log,
+        &mut world,
+    ))
 }
 
 /// Whether the run of these words ends so, with just these bytes written, where this write fails and there is so much
@@ -75,12 +61,10 @@ pub fn writes<R: Threads + Wait + Sync, S: Source>(
     (write, room): (u64, usize),
     status: Status,
     written: &[u8],
-) -> bool {
-    let Ok(mut sink) = MemSink::new(alloc, room, &[write]) else {
-        return false;
-    };
-    let ended = ended(rt, alloc, words, source, &mut sink);
-    ended == status && sink.contents() == written
+) -> Result<bool, AllocError> {
+    let mut sink = MemSink::new(alloc, room, &[write])?;
+    let ended = status_of(rt, alloc, words, source, &mut sink)?;
+    Ok(ended == status && sink.contents() == written)
 }
 
 /// Whether the run of a script ends so, with just these bytes written, where this read and this write fail and there is
@@ -93,10 +77,8 @@ pub fn ends<R: Threads + Wait + Sync>(
     (write, room): (u64, usize),
     status: Status,
     written: &[u8],
-) -> bool {
-    let Ok(mut source) = MemSource::new(alloc, script, &[read]) else {
-        return false;
-    };
+) -> Result<bool, AllocError> {
+    let mut source = MemSource::new(alloc, script, &[read])?;
     writes(
         rt,
         alloc,
@@ -115,12 +97,10 @@ pub fn cuts_off<R: Threads + Wait + Sync, S: Source>(
     source: &mut S,
     write: u64,
     lines: &[u8],
-) -> bool {
-    let Ok(mut sink) = MemSink::new(alloc, lines.len(), &[write]) else {
-        return false;
-    };
-    let ended = ended(rt, alloc, &["run"], source, &mut sink);
+) -> Result<bool, AllocError> {
+    let mut sink = MemSink::new(alloc, lines.len(), &[write])?;
+    let ended = status_of(rt, alloc, &["run"], source, &mut sink)?;
     let written = sink.contents();
     let part = 0 < written.len() && written.len() < lines.len();
-    ended == Status::WriteFault && part && lines.starts_with(written)
+    Ok(ended == Status::WriteFault && part && lines.starts_with(written))
 }
