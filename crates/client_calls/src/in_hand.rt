@@ -184,7 +184,7 @@ pub fn let_go(slot: &mut Option<InHand>, end: &Option<Outcome>)
 pub fn clear(slot: &mut Option<InHand>)
     ensures { slot.new ≡ None }
 {
-    empty(slot);
+    *slot = None;
 }
 
 /// A call that begins comes to its place. None is there, so nothing is given back.
@@ -196,21 +196,5 @@ pub fn take_place(slot: &mut Option<InHand>, hand: InHand)
     if slot.is_some() {
         unreachable!()
     }
-    fill(slot, hand);
-}
-
-// Nothing is in a place any more. Of any value, so that the form of this has none of the parts that a call owns.
-#[inline(always)]
-fn empty<T: Drop>(place: &mut Option<T>)
-    ensures { place.new ≡ None }
-{
-    *place = None;
-}
-
-// A value comes to a place.
-#[inline(always)]
-fn fill<T: Drop>(place: &mut Option<T>, value: T)
-    ensures { place.new ≡ Some value }
-{
-    *place = Some(value);
+    *slot = Some(hand);
 }
