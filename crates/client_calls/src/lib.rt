@@ -22,6 +22,7 @@ pub use beginning::begin_end;
 pub use begun::{begin_hand, rooms_of, take_room};
 pub use details::{told_details, told_read};
 pub use drivers::{Driver, DriverKind, event_ckpt, event_granted, event_node};
+pub use hand_rooms::HandRooms;
 pub use in_hand::{InHand, clear, client_by, hand_over, let_go, take_place};
 pub use iterating::{keep_iteration, lend_iteration};
 pub use lending::{creates, elements_in, lent_by, reserve_for, share_update};

@@ -3,7 +3,6 @@ use Rattle.std.proofs.Common.{◌≡◌, refl, sym, ap, subst}
 use Rattle.std.specs.Prelude.{Option, Some, None, IsSome, IsSomeAnd}
 use Rattle.ckpt_types.specs.declared.operation.Op.{Op}
 use Rattle.ckpt_types.specs.Asks.{asked, update_of, elements_of}
-use Rattle.ckpt_types.specs.Reads.{read}
 use Rattle.client_handles.specs.ClientState.{ClientState}
 use Rattle.section_iter.specs.KeptIds.{KeptIds}
 use Rattle.section_iter.specs.Room.{IsRoomFor}

@@ -9,6 +9,8 @@ use Rattle.ckpt_types.specs.declared.identities.Who.TheVariants.{Actor, Call}
 use Rattle.run_labels.specs.declared.labels.Label.{Label}
 use Rattle.cluster_record.specs.Calls.{same_actor, same_call}
 use Rattle.cluster_record.specs.Places.{list_or, or_none}
+use Rattle.cluster_record.specs.RecordState.{RecordState}
+use Rattle.replica.specs.Replicas.{Replica}
 use Rattle.cluster_record.proofs.Places.{get_set, tests_agree, tests_differ, there_is}
 use Rattle.call_dispatch.specs.PendingCalls.{PendingCalls, find_async, no_pending}
 use Rattle.ckpt_machine.specs.After.{goes_with, is_over}
@@ -16,6 +18,7 @@ use Rattle.ckpt_machine.specs.Whose.{is_of, put_who, same_who}
 use Rattle.ckpt_machine.proofs.Actors.{same_actor-true, same_call-false, same_call-refl, same_call-true}
 use Rattle.client_calls.specs.declared.in_hand.InHand.{InHand}
 use Rattle.client_calls.specs.AlonePlaces.{changed_alone, found_alone, has_call, has_other, without_met}
+use Rattle.world_core.specs.declared.snapshots.Background.{Background}
 use Rattle.world_core.specs.declared.world.World.{World}
 use Rattle.world_core.specs.Alone.{calls_gone, syncs_gone}
 use Rattle.world_core.specs.HandsState.{HandsState, HasAlone, alone_in, alone_with, hand_at, set_at, with_alone, with_alone_in, without_call, without_those}
@@ -243,6 +246,15 @@ come_back_same hands (Call call) place is = ap (λ lists. record hands { alone =
 -- so the world is as it was
 pub same_world : (w : World) (v : Who) (place : Option InHand) → hand_at w.hands v ≡ place → record w { hands = set_at w.hands v place } ≡ w
 same_world w v place is = ap (λ (hands : HandsState). record w { hands = hands }) (come_back_same w.hands v place is)
+
+-- also where record, nodes and snapshots were lent, and came back as they were
+pub as_it_was : (w : World) (v : Who) (place : Option InHand) (R : RecordState) (nodes : List (List Replica)) (snapshots : List Background) → hand_at w.hands v ≡ place → (R ≡ w.cluster) × (nodes ≡ w.nodes) × (snapshots ≡ w.snapshots) → record w { cluster = R; nodes = nodes; snapshots = snapshots; hands = set_at w.hands v place } ≡ w
+as_it_was w v place R nodes snapshots is same = (λ i. record w { cluster = same.0 i; nodes = same.1 i; snapshots = same.2 i; hands = set_at w.hands v place }) ∙ same_world w v place is
+
+-- what holds where it fails holds where it is not done
+pub when_not_ok : {T E : Type 0} (P : Type 0) (result : Result T E) → ((done : T) → result ≡ Ok done → ⊥) → OnErr result P → P
+when_not_ok P (Ok done) not_ok so = absurd (not_ok done refl)
+when_not_ok P (Err error) not_ok so = so
 
 -- want of memory in between leaves it and the log so
 pub left_alone : {E : Type 0} (result : Result (Unit {0}) E) (w : World) (v : Who) (place : Option InHand) (labels : List Label) → hand_at w.hands v ≡ place → OnErr result ((record w { hands = set_at w.hands v place } ≡ w) × (labels ≡ labels))

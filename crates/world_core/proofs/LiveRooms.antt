@@ -12,7 +12,6 @@ use Rattle.world_core.specs.Alone.{ended_tables}
 use Rattle.client_calls.specs.TableEnds.{table_ended}
 use Rattle.ckpt_types.specs.declared.operation.Op.{Op}
 use Rattle.node_msgs.specs.declared.next.RecordStep.{RecordStep}
-use Rattle.node_msgs.specs.declared.next.RecordStep.TheVariants as events
 use Rattle.cluster_record.specs.declared.clients.LiveClient.{LiveClient}
 use Rattle.cluster_record.specs.Calls.{client_of}
 use Rattle.cluster_record.specs.Places.{find_key}

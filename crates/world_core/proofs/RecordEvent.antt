@@ -1,6 +1,6 @@
 -- A step of the record, whatever the step: done, or refused by the record or for the memory that it takes.
 use Rattle.std.proofs.Common.{◌≡◌, inl, ℕ, List, length, true, false, refl, sym, ap, subst, ◌∙◌}
-use Rattle.std.specs.Prelude.{Option, Some, None, IsSome, slice_get, Ok}
+use Rattle.std.specs.Prelude.{Option, Some, None, IsSome, slice_get}
 use Rattle.ckpt_types.specs.declared.answers.Outcome.{Outcome}
 use Rattle.ckpt_types.specs.declared.identities.ActorName.{ActorName}
 use Rattle.ckpt_types.specs.declared.identities.ActorName.TheVariants.{Client}

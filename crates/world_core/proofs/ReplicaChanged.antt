@@ -1,10 +1,9 @@
 -- The replica of a checkpoint on a node that is complete for it is changed: what the world shows then.
 use Rattle.std.proofs.Common.{◌≡◌, ℕ, List, false, cond, sym, ap, subst, ◌∙◌}
-use Rattle.std.specs.Prelude.{Some, ◌==◌, ◌&&◌, slice_index, slice_set}
+use Rattle.std.specs.Prelude.{Some, ◌==◌, ◌&&◌, slice_index}
 use Rattle.cluster_record.specs.declared.entries.Entry.{Entry}
-use Rattle.cluster_record.specs.Places.{change_key, list_or, put2}
+use Rattle.cluster_record.specs.Places.{put2}
 use Rattle.cluster_record.specs.RecordState.{entry_of, complete_of}
-use Rattle.cluster_record.proofs.Places.{there_is}
 use Rattle.ckpt_machine.specs.Machine.{Machine, Effect}
 use Rattle.node_core.specs.Nodes.{replica_key}
 use Rattle.replica.specs.Replicas.{Replica}

@@ -41,7 +41,7 @@ use Rattle.world_core.specs.HandsState.{hand_at}
 use Rattle.client_calls.specs.Names.{client_by}
 use Rattle.ckpt_types.specs.declared.identities.Who.{Who}
 use Rattle.world_core.proofs.Freeing.{does_before}
-use Rattle.ckpt_machine.proofs.Reserving.{complete_same, copy_kept, none_read, not_complete, only_this, reserve_answers, reserved_at, reserved_here, reserved_more, stands_alike}
+use Rattle.ckpt_machine.proofs.Reserving.{complete_same, copy_kept, none_read, only_this, reserve_answers, reserved_at, reserved_here, reserved_more, stands_alike}
 
 -- ---- the step
 

@@ -83,15 +83,16 @@ waits_row st (ops.SyncAsync place invocation) row = absurd (let it = row.1 in cc
 waits_row st op row = refl
 
 -- it is in its client's place
-pub waits : (w : World) (c number : ℕ) (op : Op) (h : Option HandleView) (hand : InHand) (tables : List TableState) → IsNextBegun w c (record { actor = Client c; number = number }) op h None → IsHandBegun (record { actor = Client c; number = number }) op (kept_at_beginning w.cluster c h) hand → c < length w.hands.clients
-    → tables ≡ at_client c (begun_with None (record { actor = Client c; number = number }) op h) w.tables → Begins c op w (record w { tables = tables; hands = set_at w.hands (Actor (Client c)) (Some hand) }) (Began (record { actor = Client c; number = number }) op None beside.Nothing)
-waits w c number op h hand tables is begun within tables_are =
-    let call : CallId = record { actor = Client c; number = number } in
+pub waits : (w : World) (c : ℕ) (call : CallId) (op : Op) (h : Option HandleView) (hand : InHand) (tables : List TableState) → IsNextBegun w c call op h None → IsHandBegun call op (kept_at_beginning w.cluster (client_of call) h) hand → c < length w.hands.clients
+    → tables ≡ at_client c (begun_with None call op h) w.tables → Begins c op w (record w { tables = tables; hands = set_at w.hands (Actor (Client c)) (Some hand) }) (Began call op None beside.Nothing)
+waits w c call op h hand tables is begun within tables_are =
     let plain = waits_row (standing_in (is_live_client c w.cluster) h c w.tables) op (row_of (standing_in (is_live_client c w.cluster) h c w.tables) (asked op) is.built None is.end_is) in
+    let own : stepped_as call (word_of_op op) ≡ Actor (Client c) = stepped_as-plain call (word_of_op op) plain ∙ ap (λ (x : CallId). Actor x.actor) is.call_is in
     let under : HasUnder w.hands (stepped_as call (word_of_op op)) (Some hand) (set_at w.hands (Actor (Client c)) (Some hand))
     = let (x, there) = there_is w.hands.clients c within in
-    subst (λ v. HasUnder w.hands v (Some hand) (set_at w.hands (Actor (Client c)) (Some hand))) (sym (stepped_as-plain call (word_of_op op) plain)) (client_set w.hands c x there (Some hand)) in
-    call_begins w c call op h None beside.Nothing (Some hand) tables (set_at w.hands (Actor (Client c)) (Some hand)) is refl begun under tables_are
+    subst (λ v. HasUnder w.hands v (Some hand) (set_at w.hands (Actor (Client c)) (Some hand))) (sym own) (client_set w.hands c x there (Some hand)) in
+    let client : client_of call ≡ c = ap client_of is.call_is in
+    call_begins w c call op h None beside.Nothing (Some hand) tables (set_at w.hands (Actor (Client c)) (Some hand)) is refl (subst (λ c. IsHandBegun call op (kept_at_beginning w.cluster c h) hand) client begun) under tables_are
 
 -- ---- it goes on by itself
 

@@ -1,21 +1,17 @@
 -- The labels that answer without a call: the words in place of a call, and the first nodes coming up.
-use Rattle.std.proofs.Common.{◌≡◌, ℕ, ◌<◌, ◌≤◌, Bool, true, false, refl, sym, ap, subst, ◌∙◌}
+use Rattle.std.proofs.Common.{◌≡◌, ℕ, ◌<◌, ◌≤◌, refl, sym, ap, subst, ◌∙◌}
 use Rattle.std.specs.Prelude.{Option, Some, None}
 use Rattle.ckpt_types.specs.declared.identities.Who.{Who}
-use Rattle.ckpt_types.specs.declared.identities.Who.TheVariants.{Actor, Call}
 use Rattle.ckpt_types.specs.Limits.{nodes_max}
-use Rattle.run_labels.specs.declared.words.Said.TheVariants.{Idle}
-use Rattle.run_labels.specs.declared.labels.Label.TheVariants.{Word, Nodes}
+use Rattle.run_labels.specs.declared.labels.Label.TheVariants.{Nodes}
 use Rattle.cluster_record.specs.declared.entries.Entry.{Entry}
 use Rattle.world_core.specs.declared.world.World.{World}
 use Rattle.cluster_record.specs.RecordState.{RecordState, entry_of, brought_up, empty_record}
 use Rattle.ckpt_machine.specs.Machine.{Machine}
 use Rattle.ckpt_machine.specs.After.{after, reservation_under}
-use Rattle.ckpt_machine.specs.Words.{IsWord}
 use Rattle.world_core.specs.HandsState.{hand_at}
 use Rattle.world_core.specs.Shows.{Does, History, machine_of, shown_hand}
 use Rattle.ckpt_machine.specs.Shown.{reserved_in}
-use Rattle.client_calls.specs.LineWords.{step_word}
 use Rattle.ckpt_machine.proofs.HoldingLaws.{held_by_none}
 
 -- the machine has no call in hand under a name where there is none

@@ -12,7 +12,6 @@ use Rattle.client_calls.specs.declared.in_hand.InHand.{InHand}
 use Rattle.cluster_record.specs.declared.entries.Entry.{Entry}
 use Rattle.ckpt_machine.specs.Drivers.{Driver}
 use Rattle.replica.specs.Replicas.{Replica}
-use Rattle.snap_copy.specs.Snapshots.{Snapshot}
 use Rattle.world_core.specs.declared.world.World.{World}
 use Rattle.cluster_record.specs.RecordState.{RecordState, entry_of}
 use Rattle.client_calls.specs.TableState.{TableState, next_in}

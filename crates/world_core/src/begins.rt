@@ -6,10 +6,10 @@ ghost use Rattle.ckpt_types.specs.OpWord.{is_async, word_of_op};
 ghost use Rattle.call_dispatch.specs.PendingCalls.{callback_of, given_by};
 ghost use Rattle.world_core.specs.TablesState.{at_client, pending_by};
 ghost use Rattle.client_calls.specs.TableState.{begun_with, next_in, CanBegin};
-ghost use Rattle.world_core.specs.Answering.{IsAnsweredAtOnce};
+ghost use Rattle.world_core.specs.Answering.{IsAnsweredAtOnce, IsNextBegun};
 ghost use Rattle.world_core.specs.Begun.{IsPutAlone};
 ghost use Rattle.world_core.specs.HandsState.{hand_at};
-ghost use Rattle.std.specs.Prelude.{◌≡◌, ◌<◌, ◌≤◌, None, Some, IfOk, IsSome, OnOk, OnErr, ◌-◌, ◌^◌, ◌++◌, ◌∷◌, [], IfSome, map, slice_get, true};
+ghost use Rattle.std.specs.Prelude.{◌≡◌, ◌<◌, ◌≤◌, None, Some, IfOk, IsSome, OnOk, OnErr, ◌-◌, ◌^◌, ◌++◌, ◌∷◌, [], IfSome, MatchOption, map, slice_get, true};
 ghost use Rattle.ckpt_types.specs.declared.identities.ActorName.TheVariants.{Client};
 ghost use Rattle.ckpt_types.specs.declared.identities.Who.TheVariants.{Actor};
 ghost use Rattle.ckpt_types.specs.Limits.{client_numbers, nodes_max};
@@ -19,14 +19,16 @@ ghost use Rattle.cluster_record.specs.RecordState.{empty_record};
 ghost use Rattle.ckpt_types.specs.Asks.{asked, IsBuilt};
 ghost use Rattle.cluster_record.specs.Calls.{client_of, IsClient};
 ghost use Rattle.ckpt_machine.specs.Driving.{driver_start};
-ghost use Rattle.ckpt_machine.specs.Due.{MayBegin, kept_at_beginning};
+ghost use Rattle.ckpt_machine.specs.Due.{MayBegin, declared_at, kept_at_beginning, room_at};
+ghost use Rattle.ckpt_machine.specs.Tables.{ckpt_of_handle};
+ghost use Rattle.client_calls.specs.HandRooms.{copy_room_for, room_for};
 ghost use Rattle.world_core.specs.Shows.{IsShown, HasNumbersLeft};
 ghost use Rattle.world_core.specs.Happenings.{Adds, BringsUp, Begins};
 
 use crate::hands::Hands;
 use crate::world::World;
 use ckpt_types::{ActorName, Answer, Apart, CallId, Op, Outcome};
-use client_calls::{begin_end, begin_hand, rooms_of, said, take_place, take_room};
+use client_calls::{HandRooms, begin_end, begin_hand, rooms_of, said, take_place, take_room};
 use client_handles::HandleView;
 use cluster_record::Record;
 use node_msgs::Details;
@@ -63,21 +65,33 @@ impl World {
         ensures ok { OnOk result (Adds log.old log.new (Begins c op self.old self.new)) }
         ensures err { OnErr result ((self.new ≡ self.old) × (log.new.labels ≡ log.old.labels)) }
     {
-        if self.hands.of_client(c).is_some() {
-            say(c, &op, Said::Busy, log);
+        if let Some(word) = self.word_for(c, &op) {
+            log.push(said(c, OpWord::of(&op), word));
             return Ok(());
         }
-        if let Op::Client(r, _, _) = &op {
-            if self.cluster.is_live_client(c) {
-                say(c, &op, Said::Live, log);
-                return Ok(());
-            }
-            if !self.cluster.is_up(*r) {
-                say(c, &op, Said::Down, log);
-                return Ok(());
-            }
-        }
         self.begin_call(alloc, c, op, log)
+    }
+
+    // The word that answers the line of a client, where its call may not begin.
+    fn word_for(&self, c: u8, op: &Op) -> Option<Said>
+        requires client { c < client_numbers }
+        requires built { IsBuilt op.now }
+        requires shown { IsShown self.now }
+        ensures { MatchOption result ((hand_at self.now.hands (Actor (Client c)) ≡ None) × MayBegin self.now.cluster c (asked op.now)) (λ word. Begins c op.now self.now self.now (labels.Word (Actor (Client c)) (linewords.Op (word_of_op op.now)) word)) }
+    {
+        if self.hands.of_client(c).is_some() {
+            return Some(Said::Busy);
+        }
+        let Op::Client(r, _, _) = op else {
+            return None;
+        };
+        if self.cluster.is_live_client(c) {
+            return Some(Said::Live);
+        }
+        if !self.cluster.is_up(*r) {
+            return Some(Said::Down);
+        }
+        None
     }
 
     fn begin_call(
@@ -106,19 +120,64 @@ impl World {
         let live = self.cluster.is_live_client(c);
         let due = begin_end(live, &handle, &op, table);
         let (end, rooms) = take_room(alloc, &op, &self.cluster, &handle, due);
-        if let Some(mut end) = end {
-            let details = self.begin_answered(alloc, c, call, &op, &handle, &mut end)?;
-            log.push(Label::Began {
-                call,
-                op,
-                end: Some(end),
-                details,
-            });
-            return Ok(());
+        match end {
+            Some(end) => self.begin_at_once(alloc, c, call, op, &handle, end, log),
+            None => self.begin_in_hand(c, call, op, &handle, rooms, log),
         }
+    }
+
+    // It is answered at once.
+    fn begin_at_once(
+        &mut self,
+        alloc: Global,
+        c: u8,
+        call: CallId,
+        op: Op,
+        handle: &Option<HandleView>,
+        end: Outcome,
+        log: &mut RunLog,
+    ) -> Result<(), AllocError>
+        requires begins { IsAnsweredAtOnce self.old c call op handle.now end }
+        requires shown { IsShown self.old }
+        requires roomy { HasNumbersLeft self.old }
+        requires spare { 1 ≤ log.old.spare }
+        ensures ok { OnOk result (Adds log.old log.new (Begins c op self.old self.new)) }
+        ensures err { OnErr result ((self.new ≡ self.old) × (log.new.labels ≡ log.old.labels)) }
+    {
+        let mut end = end;
+        let details = self.begin_answered(alloc, c, call, &op, handle, &mut end)?;
+        log.push(Label::Began {
+            call,
+            op,
+            end: Some(end),
+            details,
+        });
+        Ok(())
+    }
+
+    // It goes on, with the room that was taken for it.
+    #[inline(always)]
+    fn begin_in_hand(
+        &mut self,
+        c: u8,
+        call: CallId,
+        op: Op,
+        handle: &Option<HandleView>,
+        rooms: HandRooms,
+        log: &mut RunLog,
+    ) -> Result<(), AllocError>
+        requires begins { IsNextBegun self.old c call op handle.now None }
+        requires iteration { rooms.iteration ≡ room_for (asked op) (room_at self.old.cluster (ckpt_of_handle handle.now)) }
+        requires snapshot { rooms.snapshot ≡ copy_room_for (asked op) (declared_at self.old.cluster (ckpt_of_handle handle.now)) }
+        requires shown { IsShown self.old }
+        requires roomy { HasNumbersLeft self.old }
+        requires spare { 1 ≤ log.old.spare }
+        ensures ok { OnOk result (Adds log.old log.new (Begins c op self.old self.new)) }
+        ensures err { OnErr result ((self.new ≡ self.old) × (log.new.labels ≡ log.old.labels)) }
+    {
+        let hand = begin_hand(call, &op, handle, &self.cluster, rooms)?;
         let slot = self.hands.at_client(c);
-        let hand = begin_hand(call, &op, &handle, &self.cluster, rooms)?;
-        self.tables.at(c).begin(call, &op, &handle, &None);
+        self.tables.at(c).begin(call, &op, handle, &None);
         take_place(slot, hand);
         log.push(Label::Began {
             call,
@@ -243,13 +302,4 @@ fn put_alone(
     let rooms = rooms_of(alloc, op, cluster, handle)?;
     let hand = begin_hand(call, op, handle, cluster, rooms)?;
     hands.add(hand)
-}
-
-// A word answers the line of a client that asks for this.
-#[inline(never)]
-fn say(c: u8, op: &Op, word: Said, log: &mut RunLog)
-    requires spare { 1 ≤ log.old.spare }
-    ensures { log.new.labels ≡ log.old.labels ++ labels.Word (Actor (Client c)) (linewords.Op (word_of_op op.now)) word ∷ [] }
-{
-    log.push(said(c, OpWord::of(op), word));
 }

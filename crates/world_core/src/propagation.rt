@@ -63,24 +63,16 @@ fn take_snapshot(
     }
 }
 
-// The replica that a pull takes a snapshot of, if there is one.
+// The replica that a pull takes a snapshot of, if there is one: the active, of a checkpoint that is made and whose updates
+// go to the active alone.
 fn source<'a>(cluster: &Record, nodes: &'a Nodes, ckpt: CkptId) -> Option<&'a Replica>
     ensures { MatchOption result (source_in cluster.now nodes.now ckpt ≡ None) (λ replica. source_in cluster.now nodes.now ckpt ≡ Some replica.now) }
-{
-    let active = source_node(cluster, ckpt)?;
-    nodes.find(active, ckpt)
-}
-
-// The node of the active, of a checkpoint that is made and whose updates go to the active alone.
-fn source_node(cluster: &Record, ckpt: CkptId) -> Option<NodeId>
-    ensures node { result ≡ source_of (entry_of ckpt cluster.now.entries) }
-    ensures complete { IfSome result (λ r. IsComplete r (complete_of (entry_of ckpt cluster.now.entries))) }
 {
     let entry = cluster.entry(ckpt)?;
     if entry.making.is_some() || is_all(&entry.attributes) {
         return None;
     }
-    entry.active
+    nodes.find(entry.active?, ckpt)
 }
 
 fn put_snapshot(

@@ -126,7 +126,7 @@ fn lead(cluster: &Record, nodes: &mut Nodes, ckpt: CkptId, r: NodeId, held: &Opt
     let Some(entry) = cluster.entry(ckpt) else {
         return;
     };
-    if !is_complete(entry, r) {
+    if entry.complete[r as usize] == 0 {
         return;
     }
     match held {
@@ -142,15 +142,6 @@ fn lead(cluster: &Record, nodes: &mut Nodes, ckpt: CkptId, r: NodeId, held: &Opt
             nodes.at(r, ckpt).complete_from(snap, entry.generation);
         }
     }
-}
-
-// Whether a node is complete for a checkpoint.
-fn is_complete(entry: &Entry, r: NodeId) -> bool
-    requires node { r < nodes_max }
-    requires nodes { length entry.now.complete ≡ nodes_max }
-    ensures { result ≡ not (slice_index entry.now.complete r == 0) }
-{
-    entry.complete[r as usize] != 0
 }
 
 // It copies what the replica of a checkpoint on a node has, unless the marks of a weak write keep it from that. It

@@ -108,17 +108,17 @@ impl World {
         ensures err { OnErr result ((self.new ≡ self.old) × (log.new.labels ≡ log.old.labels)) }
     {
         match next {
-            Next::Serve(r, Request::Read(ckpt)) => self.read_step(alloc, who, r, ckpt, log),
-            Next::Serve(r, request) => self.serve_step(alloc, who, r, &request, log),
-            Next::Event(step) => {
-                self.take_event(alloc, who, step, log);
-                Ok(())
+            Next::Serve(r, Request::Read(ckpt)) => {
+                return self.read_step(alloc, who, r, ckpt, log);
             }
-            Next::End(end) => {
-                self.look_step(who, end, log);
-                Ok(())
-            }
+            Next::Serve(r, request) => return self.serve_step(alloc, who, r, &request, log),
+            Next::Event(RecordStep::Enter) => self.enter_step(alloc, who, log),
+            Next::Event(RecordStep::Hold(r)) => self.hold_step(who, r, log),
+            Next::Event(RecordStep::Activate(r)) => self.activate_step(who, r, log),
+            Next::Event(step) => self.record_step(alloc, who, step, log),
+            Next::End(end) => self.look_step(who, end, log),
         }
+        Ok(())
     }
 
     // The active reads for the call. Nothing is lent but the room for what it gives.
@@ -201,24 +201,6 @@ impl World {
         Ok(())
     }
 
-    // The call takes a step of the record.
-    #[inline(always)]
-    fn take_event(&mut self, alloc: Global, who: Who, step: RecordStep, log: &mut RunLog)
-        requires next { IsNext self.old who (nexts.Event step) }
-        requires client { IsClientName who }
-        requires shown { IsShown self.old }
-        requires roomy { HasNumbersLeft self.old }
-        requires spare { 1 ≤ log.old.spare }
-        ensures { Adds log.old log.new (IsStep who self.old self.new) }
-    {
-        match step {
-            RecordStep::Enter => self.enter_step(alloc, who, log),
-            RecordStep::Hold(r) => self.hold_step(who, r, log),
-            RecordStep::Activate(r) => self.activate_step(who, r, log),
-            _ => self.record_step(alloc, who, step, log),
-        }
-    }
-
     // A client becomes live, with room for its handles and iterations; where that is refused, the call ends.
     #[inline(never)]
     fn enter_step(&mut self, alloc: Global, who: Who, log: &mut RunLog)
@@ -285,7 +267,7 @@ impl World {
         let node = event_node(&hand.driver, &step);
         let verb = step.verb();
         let before = gone_by(&self.cluster);
-        let applied = apply(
+        let Ok(()) = apply(
             alloc,
             &mut self.cluster,
             &mut self.nodes,
@@ -294,14 +276,9 @@ impl World {
             &hand.driver,
             step,
             ckpt,
-        );
-        if applied.is_err() {
-            let end = hand.take_refusal(&self.cluster, &Reply::NoMemory);
-            let_go(slot, &end);
-            self.end_alone(who, &end);
-            log.push(stepped(call, op, verb, ckpt, node, StepReply::Memory, end));
-            return;
-        }
+        ) else {
+            return self.refuse_step(who, step, &Reply::NoMemory, log);
+        };
         let c = client_by(who);
         let table = self.tables.at(c);
         let closed = table.handle_closed(&hand.op);

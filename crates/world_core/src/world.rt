@@ -1,5 +1,5 @@
 //! The cluster, and the events that may happen to it.
-ghost use Rattle.std.specs.Prelude.{◌≡◌, ◌≤◌, IfOk, OnOk, OnErr, is_some};
+ghost use Rattle.std.specs.Prelude.{◌≡◌, ◌≤◌, IfOk, Ok, OnOk, OnErr, is_some};
 ghost use Rattle.world_core.specs.Shows.{IsShown, HasNumbersLeft};
 ghost use Rattle.world_core.specs.Parts.{record_in, call_in_hand};
 ghost use Rattle.world_core.specs.Happenings.{Adds, ComesNow, IsAnswered};
@@ -57,12 +57,15 @@ impl World {
     pub fn new(alloc: Global) -> Result<World, AllocError>
         ensures { IfOk result IsNew }
     {
+        let shared = both(Record::new(alloc, 0), Nodes::new(alloc));
+        let kept = both(Tables::new(alloc), Hands::new(alloc));
+        let ((cluster, nodes), (tables, hands)) = both(shared, kept)?;
         Ok(World {
-            cluster: Record::new(alloc, 0)?,
-            nodes: Nodes::new(alloc)?,
+            cluster,
+            nodes,
             snapshots: Snapshots::new(alloc),
-            tables: Tables::new(alloc)?,
-            hands: Hands::new(alloc)?,
+            tables,
+            hands,
         })
     }
 
@@ -152,4 +155,14 @@ impl World {
             _ => unreachable!(),
         }
     }
+}
+
+// Both values, where there are both.
+fn both<A: Drop, B: Drop>(
+    first: Result<A, AllocError>,
+    second: Result<B, AllocError>,
+) -> Result<(A, B), AllocError>
+    ensures { IfOk result (λ pair. (first ≡ Ok pair.0) × (second ≡ Ok pair.1)) }
+{
+    Ok((first?, second?))
 }

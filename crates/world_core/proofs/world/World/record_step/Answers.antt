@@ -1,13 +1,9 @@
-use Rattle.std.proofs.Common.{◌≡◌, length, Some, None, sym, ap, subst, ◌∙◌}
-use Rattle.std.specs.Prelude.{Option, IsTrue, slice_set}
+use Rattle.std.proofs.Common.{◌≡◌, length, Some, sym, ap, subst, ◌∙◌}
+use Rattle.std.specs.Prelude.{Option, slice_set}
 use Rattle.ckpt_types.specs.Asks.{asked}
 use Rattle.ckpt_types.specs.declared.answers.Outcome.{Outcome}
-use Rattle.node_msgs.specs.declared.details.Details.TheVariants.{Nothing}
 use Rattle.node_msgs.specs.declared.replies.Reply.TheVariants.{Held, NoMemory}
-use Rattle.node_msgs.specs.declared.steps.StepReply.TheVariants.{Memory}
 use Rattle.run_labels.specs.declared.labels.Label.{Label}
-use Rattle.run_labels.specs.declared.labels.Label.TheVariants.{Stepped}
-use Rattle.cluster_record.specs.Calls.{left}
 use Rattle.world_core.specs.declared.world.World.{World}
 use Rattle.world_core.specs.Happenings.{IsNext, IsStep}
 use Rattle.world_core.specs.Shows.{IsShown, HasNumbersLeft}
@@ -15,23 +11,21 @@ use Rattle.world_core.specs.Settling.{CanSettle}
 use Rattle.ckpt_machine.specs.RecordReady.{IsRefusedAs}
 use Rattle.client_calls.specs.declared.in_hand.InHand.{InHand}
 use Rattle.ckpt_machine.specs.Granting.{event_granted}
-use Rattle.client_calls.specs.Taking.{hand_outcome}
 use Rattle.node_msgs.specs.declared.next.Next.TheVariants.{Event}
-use Rattle.ckpt_machine.specs.Driving.{event_refusal, takes_memory}
+use Rattle.ckpt_machine.specs.Driving.{event_refusal}
 use Rattle.ckpt_machine.specs.Tables.{handle_closed}
 use Rattle.ckpt_machine.specs.RecordAfter.{event_after, nodes_behind}
 use Rattle.world_core.specs.Backgrounds.{snapshots_behind}
-use Rattle.world_core.specs.HandsState.{hand_at, set_at}
+use Rattle.world_core.specs.HandsState.{hand_at}
 use Rattle.world_core.specs.Alone.{ended_at}
 use Rattle.world_core.specs.Freeing.{freed_world}
-use Rattle.world_core.proofs.EventEnds.{done_ends, done_keeps, granted_at, kept_off_as, refused_ends}
+use Rattle.world_core.proofs.EventEnds.{done_ends, done_keeps, granted_at, kept_off_as}
 use Rattle.ckpt_machine.proofs.Granted.{granted_ok}
 use Rattle.ckpt_machine.proofs.Going.{length-behind}
-use Rattle.world_core.proofs.HandLaws.{same_world}
+use Rattle.world_core.proofs.HandLaws.{as_it_was, same_world, when_not_ok}
 use Rattle.world_core.proofs.Held.{next_for}
 use Rattle.world_core.proofs.NoneGone.{none_freed}
-use Rattle.world_core.proofs.RecordEvent.{can_add, can_settle, is_found, is_ready, event_step, refused_step}
-use Rattle.ckpt_machine.proofs.StepDone.{when_ok, when_err}
+use Rattle.world_core.proofs.RecordEvent.{can_add, can_settle, is_found, is_ready, event_step}
 use Rattle.world_core.proofs.TableSteps.{kept_is, may_settle, settled_is}
 use Rattle.world_core.proofs.world.World.record_step.Goals as goal
 
@@ -64,24 +58,24 @@ returns-in-Err c =
       is = subst (λ (w : World). IsStep c.args.who w c.refuse_step.new.self refused.label) (same_world c.args.self.now c.args.who (Some c.in-Some.hand) (c.at-slot.ensures.value ∙ c.in-Some.is)) refused.is;
     }
 
-pub apply-applied-requires-clause-ready : goal.apply-applied-requires-clause-ready
-apply-applied-requires-clause-ready c =
+pub apply-requires-clause-ready : goal.apply-requires-clause-ready
+apply-requires-clause-ready c =
     let w = c.args.self.now in
     let hand = c.in-Some.hand in
     let held : hand_at w.hands c.args.who ≡ Some hand = c.at-slot.ensures.value ∙ c.in-Some.is in
     let granted = granted_ok w.cluster hand.driver c.args.step c.event_granted.result c.in-Ok.ckpt c.in-Ok.is (granted_at w c.args.who c.args.step hand held (next_for w c.args.who (Event c.args.step) hand held c.requires.next) c.requires.shown c.event_granted.result c.event_granted.ensures) in
     is_ready w c.args.who c.args.step hand held (next_for w c.args.who (Event c.args.step) hand held c.requires.next) c.requires.shown granted.0 c.requires.roomy
 
-pub apply-applied-requires-clause-free : goal.apply-applied-requires-clause-free
-apply-applied-requires-clause-free c =
+pub apply-requires-clause-free : goal.apply-requires-clause-free
+apply-requires-clause-free c =
     let w = c.args.self.now in
     let hand = c.in-Some.hand in
     let held : hand_at w.hands c.args.who ≡ Some hand = c.at-slot.ensures.value ∙ c.in-Some.is in
     let granted = granted_ok w.cluster hand.driver c.args.step c.event_granted.result c.in-Ok.ckpt c.in-Ok.is (granted_at w c.args.who c.args.step hand held (next_for w c.args.who (Event c.args.step) hand held c.requires.next) c.requires.shown c.event_granted.result c.event_granted.ensures) in
     can_add w c.args.who c.args.step hand held (next_for w c.args.who (Event c.args.step) hand held c.requires.next) c.requires.shown granted.0
 
-pub apply-applied-requires-clause-found : goal.apply-applied-requires-clause-found
-apply-applied-requires-clause-found c =
+pub apply-requires-clause-found : goal.apply-requires-clause-found
+apply-requires-clause-found c =
     let w = c.args.self.now in
     let hand = c.in-Some.hand in
     let held : hand_at w.hands c.args.who ≡ Some hand = c.at-slot.ensures.value ∙ c.in-Some.is in
@@ -97,25 +91,35 @@ settle-requires c =
     may_settle w.tables c.client_by-c.result _ c.at-table.ensures.value hand.op c.args.step
     (subst (λ n. CanSettle n hand.op c.args.step w.tables) (sym c.client_by-c.ensures) (can_settle w c.args.who c.args.step hand held (next_for w c.args.who (Event c.args.step) hand held c.requires.next) c.requires.shown granted.0 c.requires.roomy c.requires.has_room))
 
-pub returns-then-is_err : goal.returns-then-is_err
-returns-then-is_err c =
+-- the memory for it is refused; all comes back as it was
+pub refuse_step-requires-in_default-apply-clause-next : goal.refuse_step-requires-in_default-apply-clause-next
+refuse_step-requires-in_default-apply-clause-next c = subst (λ (w : World). IsNext w c.args.who (Event c.args.step)) (sym (as_it_was c.args.self.now c.args.who (Some c.in-Some.hand) _ _ _ (c.at-slot.ensures.value ∙ c.in-Some.is) (when_not_ok _ c.apply.result c.in_default-apply.not-Ok c.apply.ensures.err))) c.requires.next
+
+pub refuse_step-requires-in_default-apply-clause-refused : goal.refuse_step-requires-in_default-apply-clause-refused
+refuse_step-requires-in_default-apply-clause-refused c =
     let w = c.args.self.now in
     let hand = c.in-Some.hand in
     let held : hand_at w.hands c.args.who ≡ Some hand = c.at-slot.ensures.value ∙ c.in-Some.is in
     let granted = granted_ok w.cluster hand.driver c.args.step c.event_granted.result c.in-Ok.ckpt c.in-Ok.is (granted_at w c.args.who c.args.step hand held (next_for w c.args.who (Event c.args.step) hand held c.requires.next) c.requires.shown c.event_granted.result c.event_granted.ensures) in
-    let err = sym c.is_err.ensures.value ∙ c.if-is_err.true in
-    let same : (c.apply-applied.new.cluster ≡ w.cluster) × (c.apply-applied.new.nodes ≡ w.nodes) × (c.apply-applied.new.snapshots ≡ w.snapshots) = when_err ((c.apply-applied.new.cluster ≡ w.cluster) × (c.apply-applied.new.nodes ≡ w.nodes) × (c.apply-applied.new.snapshots ≡ w.snapshots)) c.apply-applied.result err c.apply-applied.ensures.err in
-    let takes : IsTrue (takes_memory c.args.step) = when_err (IsTrue (takes_memory c.args.step)) c.apply-applied.result err c.apply-applied.ensures.memory in
-    let refused = refused_ends w c.args.who c.args.step hand held (next_for w c.args.who (Event c.args.step) hand held c.requires.next) c.requires.shown NoMemory (subst (λ (o : Option Outcome). IsRefusedAs o c.args.step NoMemory) (sym granted.0) takes) in
-    let end_is : c.take_refusal-end.result ≡ Some refused.0 = c.take_refusal-end.ensures.outcome ∙ ap (λ R. hand_outcome R NoMemory hand) same.0 ∙ refused.1 in
-    let gone : c.let_go.new.slot ≡ None = c.let_go.ensures ∙ ap (λ end. left end c.take_refusal-end.new.self) end_is in
+    subst (λ (w : World). (hand : InHand) → hand_at w.hands c.args.who ≡ Some hand → IsRefusedAs (event_refusal w.cluster c.args.step hand.driver) c.args.step NoMemory) (sym (as_it_was w c.args.who (Some hand) _ _ _ held (when_not_ok _ c.apply.result c.in_default-apply.not-Ok c.apply.ensures.err)))
+    (λ other is.
+    let both : Some hand ≡ Some other = sym held ∙ is in
+    let one : hand ≡ other = cc both in
+    subst (λ (o : Option Outcome). IsRefusedAs o c.args.step NoMemory) (sym granted.0 ∙ ap (λ (h : InHand). event_refusal w.cluster c.args.step h.driver) one) (when_not_ok _ c.apply.result c.in_default-apply.not-Ok c.apply.ensures.memory))
+
+pub refuse_step-requires-in_default-apply-clause-shown : goal.refuse_step-requires-in_default-apply-clause-shown
+refuse_step-requires-in_default-apply-clause-shown c = subst IsShown (sym (as_it_was c.args.self.now c.args.who (Some c.in-Some.hand) _ _ _ (c.at-slot.ensures.value ∙ c.in-Some.is) (when_not_ok _ c.apply.result c.in_default-apply.not-Ok c.apply.ensures.err))) c.requires.shown
+
+pub refuse_step-requires-in_default-apply-clause-roomy : goal.refuse_step-requires-in_default-apply-clause-roomy
+refuse_step-requires-in_default-apply-clause-roomy c = subst HasNumbersLeft (sym (as_it_was c.args.self.now c.args.who (Some c.in-Some.hand) _ _ _ (c.at-slot.ensures.value ∙ c.in-Some.is) (when_not_ok _ c.apply.result c.in_default-apply.not-Ok c.apply.ensures.err))) c.requires.roomy
+
+pub returns-in_default-apply : goal.returns-in_default-apply
+returns-in_default-apply c =
+    let refused = c.refuse_step-in_default-apply.ensures in
     record {
-      label = _;
-      labels = c.push.ensures.labels;
-      is = subst (λ (label : Label). IsStep c.args.who w c.end_alone.new.self label)
-          (sym (c.stepped.ensures ∙ ap (λ end. Stepped hand.call c.word-op.result c.verb-verb.result c.in-Ok.ckpt c.event_node-node.result Memory end Nothing) end_is))
-          (refused_step w c.args.who c.args.step hand held (next_for w c.args.who (Event c.args.step) hand held c.requires.next) c.requires.shown c.end_alone.new.self c.word-op.result c.verb-verb.result c.in-Ok.ckpt c.event_node-node.result Memory refused.0 c.requires.plain refused.2
-          (c.end_alone.ensures ∙ (λ i. ended_at c.args.who (end_is i) (record w { cluster = same.0 i; nodes = same.1 i; snapshots = same.2 i; hands = set_at w.hands c.args.who (gone i) }))) granted.1 c.event_node-node.ensures c.word-op.ensures c.verb-verb.ensures);
+      label = refused.label;
+      labels = refused.labels;
+      is = subst (λ (w : World). IsStep c.args.who w c.refuse_step-in_default-apply.new.self refused.label) (as_it_was c.args.self.now c.args.who (Some c.in-Some.hand) _ _ _ (c.at-slot.ensures.value ∙ c.in-Some.is) (when_not_ok _ c.apply.result c.in_default-apply.not-Ok c.apply.ensures.err)) refused.is;
     }
 
 -- behind the apply, where it takes place
@@ -123,10 +127,9 @@ pub free_gone_since-requires : goal.free_gone_since-requires
 free_gone_since-requires c =
     let w = c.args.self.now in
     let hand = c.in-Some.hand in
-    let ok = sym c.is_err.ensures.value ∙ c.if-is_err.false in
-    let record_is : c.apply-applied.new.cluster ≡ event_after hand.call hand.driver c.args.step w.cluster = when_ok (c.apply-applied.new.cluster ≡ event_after hand.call hand.driver c.args.step w.cluster) c.apply-applied.result ok c.apply-applied.ensures.ok in
-    let nodes_are : c.apply-applied.new.nodes ≡ nodes_behind hand.driver c.args.step w.cluster w.nodes = when_ok (c.apply-applied.new.nodes ≡ nodes_behind hand.driver c.args.step w.cluster w.nodes) c.apply-applied.result ok c.apply-applied.ensures.nodes in
-    let snapshots_are : c.apply-applied.new.snapshots ≡ snapshots_behind hand.driver c.args.step w.cluster w.snapshots = when_ok (c.apply-applied.new.snapshots ≡ snapshots_behind hand.driver c.args.step w.cluster w.snapshots) c.apply-applied.result ok c.apply-applied.ensures.snapshots in
+    let record_is : c.apply.new.cluster ≡ event_after hand.call hand.driver c.args.step w.cluster = c.in-Ok-apply.ensures.ok in
+    let nodes_are : c.apply.new.nodes ≡ nodes_behind hand.driver c.args.step w.cluster w.nodes = c.in-Ok-apply.ensures.nodes in
+    let snapshots_are : c.apply.new.snapshots ≡ snapshots_behind hand.driver c.args.step w.cluster w.snapshots = c.in-Ok-apply.ensures.snapshots in
     record {
       none = λ same. none_freed w c.let_go_with.new.self hand.call hand.driver c.args.step c.gone_by-before.result c.requires.shown
           (ap (λ (x : World). x.cluster) c.let_go_with.ensures ∙ record_is) (ap (λ (x : World). x.nodes) c.let_go_with.ensures ∙ nodes_are) (ap (λ (x : World). x.snapshots) c.let_go_with.ensures ∙ snapshots_are)
@@ -140,20 +143,19 @@ returns c =
     let held : hand_at w.hands c.args.who ≡ Some hand = c.at-slot.ensures.value ∙ c.in-Some.is in
     let granted = granted_ok w.cluster hand.driver c.args.step c.event_granted.result c.in-Ok.ckpt c.in-Ok.is (granted_at w c.args.who c.args.step hand held (next_for w c.args.who (Event c.args.step) hand held c.requires.next) c.requires.shown c.event_granted.result c.event_granted.ensures) in
     let next = next_for w c.args.who (Event c.args.step) hand held c.requires.next in
-    let ok = sym c.is_err.ensures.value ∙ c.if-is_err.false in
-    let record_is : c.apply-applied.new.cluster ≡ event_after hand.call hand.driver c.args.step w.cluster = when_ok (c.apply-applied.new.cluster ≡ event_after hand.call hand.driver c.args.step w.cluster) c.apply-applied.result ok c.apply-applied.ensures.ok in
-    let nodes_are : c.apply-applied.new.nodes ≡ nodes_behind hand.driver c.args.step w.cluster w.nodes = when_ok (c.apply-applied.new.nodes ≡ nodes_behind hand.driver c.args.step w.cluster w.nodes) c.apply-applied.result ok c.apply-applied.ensures.nodes in
-    let snapshots_are : c.apply-applied.new.snapshots ≡ snapshots_behind hand.driver c.args.step w.cluster w.snapshots = when_ok (c.apply-applied.new.snapshots ≡ snapshots_behind hand.driver c.args.step w.cluster w.snapshots) c.apply-applied.result ok c.apply-applied.ensures.snapshots in
+    let record_is : c.apply.new.cluster ≡ event_after hand.call hand.driver c.args.step w.cluster = c.in-Ok-apply.ensures.ok in
+    let nodes_are : c.apply.new.nodes ≡ nodes_behind hand.driver c.args.step w.cluster w.nodes = c.in-Ok-apply.ensures.nodes in
+    let snapshots_are : c.apply.new.snapshots ≡ snapshots_behind hand.driver c.args.step w.cluster w.snapshots = c.in-Ok-apply.ensures.snapshots in
     let eight : length w.nodes ≡ 8 = sym (ap length nodes_are ∙ length-behind hand.driver c.args.step w.cluster w.nodes) ∙ sym (ap (λ (x : World). length x.nodes) c.let_go_with.ensures) ∙ c.free_gone_since.ensures.eight in
     let there = c.at-table.ensures.value in
-    let tables_are = ap (slice_set w.tables c.client_by-c.result) c.settle.ensures ∙ settled_is w.tables c.client_by-c.result _ there c.apply-applied.new.cluster hand.op c.args.step c.in-Ok.ckpt in
+    let tables_are = ap (slice_set w.tables c.client_by-c.result) c.settle.ensures ∙ settled_is w.tables c.client_by-c.result _ there c.apply.new.cluster hand.op c.args.step c.in-Ok.ckpt in
     let closed_is = c.handle_closed-closed.ensures ∙ ap (handle_closed (asked hand.op)) (sym (kept_is w.tables c.client_by-c.result _ there)) in
-    let new_is = c.end_alone-2.ensures ∙ ap (ended_at c.args.who c.take_done-end.result) (c.free_gone_since.ensures.new ∙ ap freed_world c.let_go_with.ensures) in
+    let new_is = c.end_alone.ensures ∙ ap (ended_at c.args.who c.take_done-end.result) (c.free_gone_since.ensures.new ∙ ap freed_world c.let_go_with.ensures) in
     record {
       label = _;
-      labels = c.push-2.ensures.labels;
-      is = subst (λ (label : Label). IsStep c.args.who w c.end_alone-2.new.self label) (sym c.stepped-2.ensures)
-          (event_step w c.args.who c.args.step hand held next c.requires.shown c.end_alone-2.new.self c.apply-applied.new.cluster c.apply-applied.new.nodes c.apply-applied.new.snapshots (slice_set w.tables c.client_by-c.result c.settle.new.table) c.take_done-end.new.self c.let_go-2.new.slot c.client_by-c.result c.handle_closed-closed.result c.word-op.result c.verb-verb.result c.in-Ok.ckpt c.event_node-node.result c.take_done-end.result
-          granted.0 c.requires.plain c.requires.roomy c.requires.has_room eight record_is granted.1 c.event_node-node.ensures (c.take_done-end.ensures.outcome ∙ done_ends w c.args.who c.args.step hand held next c.requires.shown granted.0 c.apply-applied.new.cluster c.in-Ok.ckpt record_is granted.1) tables_are
-          (c.take_done-end.ensures.new ∙ done_keeps w c.args.who c.args.step hand held next c.requires.shown granted.0 c.apply-applied.new.cluster c.in-Ok.ckpt c.event_node-node.result record_is granted.1 c.event_node-node.ensures) c.let_go-2.ensures nodes_are snapshots_are c.client_by-c.ensures closed_is new_is c.word-op.ensures c.verb-verb.ensures);
+      labels = c.push.ensures.labels;
+      is = subst (λ (label : Label). IsStep c.args.who w c.end_alone.new.self label) (sym c.stepped.ensures)
+          (event_step w c.args.who c.args.step hand held next c.requires.shown c.end_alone.new.self c.apply.new.cluster c.apply.new.nodes c.apply.new.snapshots (slice_set w.tables c.client_by-c.result c.settle.new.table) c.take_done-end.new.self c.let_go.new.slot c.client_by-c.result c.handle_closed-closed.result c.word-op.result c.verb-verb.result c.in-Ok.ckpt c.event_node-node.result c.take_done-end.result
+          granted.0 c.requires.plain c.requires.roomy c.requires.has_room eight record_is granted.1 c.event_node-node.ensures (c.take_done-end.ensures.outcome ∙ done_ends w c.args.who c.args.step hand held next c.requires.shown granted.0 c.apply.new.cluster c.in-Ok.ckpt record_is granted.1) tables_are
+          (c.take_done-end.ensures.new ∙ done_keeps w c.args.who c.args.step hand held next c.requires.shown granted.0 c.apply.new.cluster c.in-Ok.ckpt c.event_node-node.result record_is granted.1 c.event_node-node.ensures) c.let_go.ensures nodes_are snapshots_are c.client_by-c.ensures closed_is new_is c.word-op.ensures c.verb-verb.ensures);
     }
