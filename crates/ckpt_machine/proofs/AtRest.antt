@@ -10,7 +10,7 @@ use Rattle.ckpt_types.specs.Asks as asks
 use Rattle.section_iter.specs.KeptIds.{KeptIds}
 use Rattle.section_iter.specs.Next.{kept_after}
 use Rattle.section_iter.specs.declared.room.Room.{Room}
-use Rattle.client_handles.specs.ClientState.{ClientState, NoneLent, handle_at, kept_at, iteration_number, with_kept, returned, bound, opened_at, can_stand_for}
+use Rattle.client_handles.specs.ClientState.{ClientState, NoneLent, handle_at, kept_at, iteration_number, with_kept, returned}
 use Rattle.ckpt_types.specs.declared.calls.AsyncKind.{AsyncKind}
 use Rattle.ckpt_types.specs.declared.calls.AsyncKind.TheVariants as async
 use Rattle.call_dispatch.specs.PendingCalls.{PendingCalls, given_by}

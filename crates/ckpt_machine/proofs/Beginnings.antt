@@ -1,5 +1,5 @@
 -- Where each operation begins, with any calls of others in hand.
-use Rattle.std.proofs.Common.{◌≡◌, ◌⊎◌, inl, inr, ℕ, ◌<◌, List, [], ◌∷◌, length, Option, Some, None, is_some, Bool, true, false, cond, ◌==◌, ◌||◌, ℤ, refl, sym, ap, subst, ◌∙◌, arith}
+use Rattle.std.proofs.Common.{◌≡◌, ◌⊎◌, inl, inr, ℕ, List, [], ◌∷◌, length, Option, Some, None, is_some, Bool, true, false, cond, ◌==◌, ◌||◌, ℤ, refl, sym, ap, subst, ◌∙◌, arith}
 use Rattle.std.specs.Option.{option_and_then, option_map}
 use Rattle.std.specs.Prelude.{IsSome, is_none, IfSome, Contains, int_lt, nat_lt, not, pos, ◌≤ℤ◌, slice_index}
 use Rattle.std.proofs.lemmas.Bool.{or_parts, and_parts, ltb-false, ltb-true}
@@ -9,8 +9,6 @@ use Rattle.std.proofs.lemmas.Option.{same_Some}
 use Rattle.ckpt_types.specs.declared.answers.Outcome.{Outcome}
 use Rattle.ckpt_types.specs.declared.answers.Outcome.TheVariants.{Done}
 use Rattle.ckpt_types.specs.declared.attributes.CreationAttributes.{CreationAttributes}
-use Rattle.ckpt_types.specs.declared.identities.ActorName.{ActorName}
-use Rattle.ckpt_types.specs.declared.identities.ActorName.TheVariants.{Client, Node}
 use Rattle.ckpt_types.specs.declared.identities.CallId.{CallId}
 use Rattle.ckpt_types.specs.declared.identities.Who.TheVariants.{Actor}
 use Rattle.ckpt_types.specs.declared.operation.Op.{Op}
@@ -19,7 +17,7 @@ use Rattle.ckpt_types.specs.declared.update.Update.{Update}
 use Rattle.ckpt_types.specs.declared.update.Update.TheVariants as updates
 use Rattle.ckpt_types.specs.Attributes.{has_flag}
 use Rattle.ckpt_types.specs.OpWord.{is_async, word_of_op, stepped_as}
-use Rattle.ckpt_types.specs.Limits.{client_numbers, nodes_max, checkpoint_collocated}
+use Rattle.ckpt_types.specs.Limits.{nodes_max, checkpoint_collocated}
 use Rattle.section_iter.specs.Room.{room_declared}
 use Rattle.client_handles.specs.declared.begun.BegunIteration.{BegunIteration}
 use Rattle.client_handles.specs.declared.handle_view.HandleView.{HandleView}

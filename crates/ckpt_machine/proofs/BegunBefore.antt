@@ -1,14 +1,11 @@
 -- Each call in hand began in the log before: with its operation, and on the checkpoint that it keeps.
-use Rattle.std.proofs.Common.{◌≡◌, ℕ, inl, inr, List, [], ◌∷◌, ◌++◌, Option, Some, None, Bool, true, false, cond, refl, sym, ap, subst, ◌∙◌, append_assoc}
+use Rattle.std.proofs.Common.{◌≡◌, ℕ, inl, inr, List, [], ◌∷◌, ◌++◌, Option, Some, None, refl, sym, ap, subst, ◌∙◌, append_assoc}
 use Rattle.std.proofs.lemmas.Option.{same_Some}
-use Rattle.std.specs.Option.{option_map}
 use Rattle.ckpt_machine.proofs.Dropped.{held_as}
 use Rattle.ckpt_machine.proofs.Whose.{put_who-cases}
 use Rattle.node_msgs.specs.declared.details.Details.{Details}
-use Rattle.ckpt_types.specs.Asks.{asked}
 use Rattle.ckpt_types.specs.OpWord.{word_of_op, stepped_as}
-use Rattle.ckpt_machine.specs.Driving.{Kept, driver_start}
-use Rattle.ckpt_machine.specs.After.{goes_on, started_call, call_begun, kept_behind, changed, step_of, after}
+use Rattle.ckpt_machine.specs.After.{call_begun, kept_behind, changed, step_of, after}
 use Rattle.ckpt_types.specs.declared.answers.Outcome.{Outcome}
 use Rattle.ckpt_types.specs.declared.identities.CallId.{CallId}
 use Rattle.ckpt_types.specs.declared.operation.Op.{Op}

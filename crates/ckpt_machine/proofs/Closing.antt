@@ -12,7 +12,7 @@ use Rattle.ckpt_types.specs.declared.operation.Op.TheVariants as ops
 use Rattle.ckpt_types.specs.Asks.{asked, is_async_ask}
 use Rattle.ckpt_types.specs.Asks as asks
 use Rattle.ckpt_types.specs.OpWord.{is_async, word_of_op}
-use Rattle.call_dispatch.specs.PendingCalls.{PendingCalls, find_async, is_sync}
+use Rattle.call_dispatch.specs.PendingCalls.{find_async, is_sync}
 use Rattle.call_dispatch.specs.declared.async_call.AsyncCall.{AsyncCall}
 use Rattle.cluster_record.specs.Calls.{same_actor, put_actor}
 use Rattle.cluster_record.specs.declared.calls.SyncKind.{SyncKind}

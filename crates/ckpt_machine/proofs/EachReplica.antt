@@ -28,7 +28,6 @@ use Rattle.cluster_record.specs.RecordState.{RecordState, entry_of, identity_of,
 use Rattle.cluster_record.proofs.IdentityLaws.{IdentitiesRise-filter}
 use Rattle.ckpt_machine.specs.Beginning.{update_is_bad}
 use Rattle.ckpt_machine.specs.BeginRows.{has_bad_arguments}
-use Rattle.ckpt_machine.specs.Driving.{Kept}
 use Rattle.ckpt_machine.specs.Guards.{IsOnOwn, Row, Allowed}
 use Rattle.ckpt_machine.specs.ActiveGuards.{ApplyOk, MarkOk, AreMarksOf, PullOk, HoldOk}
 use Rattle.ckpt_machine.specs.UpdateGuards.{CommitOk}
@@ -63,7 +62,7 @@ use Rattle.ckpt_machine.proofs.PulledInHand.{begun_empty}
 use Rattle.ckpt_machine.proofs.Prefixes.{prefix_of_same, prefix_of_none, prefix_then}
 use Rattle.ckpt_machine.proofs.References.{released-identity}
 use Rattle.ckpt_machine.proofs.Runs.{along}
-use Rattle.ckpt_machine.proofs.Starting.{first_kept, begun_as}
+use Rattle.ckpt_machine.proofs.Starting.{first_kept}
 use Rattle.ckpt_machine.proofs.Sync.{left_is}
 use Rattle.ckpt_machine.specs.Whose.{put_who}
 use Rattle.ckpt_types.specs.declared.identities.Who.{Who}

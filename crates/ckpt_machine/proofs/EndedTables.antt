@@ -1,9 +1,8 @@
 -- What a call makes of its client's tables, once it has ended: no handle of a checkpoint that was not made comes to them.
 use Rattle.std.proofs.lemmas.List.Elements.{Contains-push_cases}
-use Rattle.std.proofs.Common.{filter, length, ◌∷◌, ◌++◌, ◌+◌, ◌<◌, ◌≤◌, ◌≡◌, ◌⊎◌, ℕ, inl, inr, List, [], Option, Some, None, true, false, cond, ◌==◌, refl, sym, ap, subst, ◌∙◌, arith, Bool}
+use Rattle.std.proofs.Common.{length, ◌∷◌, ◌++◌, ◌+◌, ◌<◌, ◌≤◌, ◌≡◌, ◌⊎◌, ℕ, inl, inr, List, [], Option, Some, None, true, false, cond, ◌==◌, refl, sym, ap, subst, ◌∙◌, arith, Bool}
 use Rattle.std.specs.Prelude.{Contains, find, is_some, IsSome}
 use Rattle.std.specs.Option.{option_and_then}
-use Rattle.std.proofs.lemmas.List.Sums.{length-filter, count_by-le-length}
 use Rattle.ckpt_types.specs.declared.answers.Outcome.{Outcome}
 use Rattle.ckpt_types.specs.declared.answers.Outcome.TheVariants as outcomes
 use Rattle.ckpt_types.specs.declared.identities.ActorName.{ActorName}

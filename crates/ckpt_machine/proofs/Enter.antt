@@ -1,5 +1,5 @@
 -- A client becomes live, with any calls of others in hand.
-use Rattle.std.proofs.Common.{◌≡◌, ℕ, ◌<◌, ◌≤◌, inl, inr, length, Option, Some, None, Bool, true, false, cond, not, nat_le, ◌==◌, refl, sym, ap, subst, ◌∙◌}
+use Rattle.std.proofs.Common.{◌≡◌, ℕ, ◌<◌, ◌≤◌, inl, inr, length, Some, Bool, true, false, cond, not, nat_le, ◌==◌, refl, sym, ap, subst, ◌∙◌}
 use Rattle.std.specs.Prelude.{is_some, IfSome, slice_index}
 use Rattle.std.proofs.lemmas.Bool.{eqb-true, leb-true, leb-false, lt-ltb}
 use Rattle.ckpt_types.specs.declared.ais_error.AisError.TheVariants.{NoResources}

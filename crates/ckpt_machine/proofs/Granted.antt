@@ -1,5 +1,5 @@
 -- The checkpoint of a step of the record, which is looked up once.
-use Rattle.std.proofs.Common.{◌≡◌, ℕ, refl, sym, subst, ◌∙◌}
+use Rattle.std.proofs.Common.{◌≡◌, ℕ, sym, subst, ◌∙◌}
 use Rattle.std.specs.Prelude.{Option, Some, None, Result, Ok}
 use Rattle.ckpt_types.specs.declared.identities.CallId.{CallId}
 use Rattle.node_msgs.specs.declared.next.RecordStep.{RecordStep}
@@ -7,7 +7,6 @@ use Rattle.node_msgs.specs.declared.next.RecordStep.TheVariants as events
 use Rattle.ckpt_machine.specs.Drivers.{Driver}
 use Rattle.ckpt_machine.specs.Drivers as drivers
 use Rattle.ckpt_machine.specs.Driving.{event_ckpt, event_refusal}
-use Rattle.cluster_record.specs.DueOnce as once
 use Rattle.cluster_record.specs.Identities.{IdentitiesRise}
 use Rattle.cluster_record.specs.LookUps.{identity_in}
 use Rattle.cluster_record.specs.RecordReady.{CanReferAt}

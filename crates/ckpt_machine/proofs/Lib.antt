@@ -51,6 +51,7 @@ pub mod UpdateReady
 pub mod OtherCalls
 pub mod Entries
 pub mod PlainCalls
+mod ChangedHands
 pub mod EndedAsync
 pub mod EndedTables
 pub mod OneReplica

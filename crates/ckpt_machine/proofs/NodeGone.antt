@@ -1,5 +1,5 @@
 -- Lists by node, where a node goes.
-use Rattle.std.proofs.Common.{◌≡◌, ℕ, zero, suc, List, [], ◌∷◌, true, false, ◌==◌, refl, sym, ap, ◌∙◌, replicate}
+use Rattle.std.proofs.Common.{◌≡◌, ℕ, List, true, false, ◌==◌, refl, sym, ap, ◌∙◌, replicate}
 use Rattle.std.specs.Prelude.{slice_set, slice_index}
 use Rattle.std.proofs.lemmas.Bool.{eqb-true}
 use Rattle.ckpt_machine.proofs.NodeLists.{index-other}

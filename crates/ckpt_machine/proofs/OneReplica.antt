@@ -1,7 +1,6 @@
 -- A step on one replica: what its row says of the replica and of the entry, and that the replica has its generation and its effects still.
-use Rattle.std.proofs.Common.{◌≡◌, ◌⊎◌, ℕ, inr, [], ◌∷◌, Option, Some, None, Bool, true, false, cond, ◌==◌, ℤ, List, refl, sym, ap}
+use Rattle.std.proofs.Common.{◌≡◌, ◌⊎◌, ℕ, inr, [], ◌∷◌, Option, Some, None, Bool, true, false, ℤ, List, refl}
 use Rattle.std.specs.Prelude.{IsOk}
-use Rattle.std.proofs.lemmas.Bool.{eqb-true}
 use Rattle.ckpt_types.specs.declared.identities.CallId.{CallId}
 use Rattle.ckpt_types.specs.declared.update.Update.{Update}
 use Rattle.ckpt_types.specs.Updates.{outcome}
@@ -20,15 +19,12 @@ use Rattle.cluster_record.specs.RecordState.{entry_of}
 use Rattle.ckpt_machine.specs.Beginning.{update_is_bad}
 use Rattle.ckpt_machine.specs.ActiveGuards.{AreMarksOf}
 use Rattle.ckpt_machine.specs.Invariant.{Invariant}
-use Rattle.ckpt_machine.specs.Listing.{is_active}
 use Rattle.ckpt_machine.specs.Machine.{Machine, Staged, ReplicaState, CallState, who}
 use Rattle.ckpt_machine.specs.Options.{is_weak, is_by_element}
 use Rattle.cluster_record.specs.Placement.{is_all}
 use Rattle.ckpt_machine.specs.Replays.{IsPrefix}
-use Rattle.ckpt_machine.specs.Shape.{marks_at}
 use Rattle.ckpt_machine.specs.After.{committed_slot, with_committed, next_element_written, with_next_element, effect_of}
 use Rattle.ckpt_machine.specs.Due.{Told, IsDone, due}
-use Rattle.ckpt_machine.proofs.Copying.{not_active}
 use Rattle.ckpt_machine.proofs.Histories.{HasHistory}
 use Rattle.ckpt_machine.proofs.Prefixes.{prefix_same, prefix_of_same}
 

@@ -4,7 +4,6 @@ use Rattle.std.specs.Prelude.{IsSome, IsSomeAnd, Contains}
 use Rattle.ckpt_types.specs.declared.identities.ActorName.{ActorName}
 use Rattle.ckpt_types.specs.declared.identities.CallId.{CallId}
 use Rattle.call_dispatch.specs.declared.async_call.AsyncCall.{AsyncCall}
-use Rattle.call_dispatch.specs.PendingCalls.{PendingCalls}
 use Rattle.cluster_record.specs.declared.entries.Entry.{Entry}
 use Rattle.cluster_record.specs.RecordState.{entry_of}
 use Rattle.ckpt_machine.specs.Invariant.{IsMaker, IsGoodIn, Invariant}

@@ -1,7 +1,7 @@
 -- A refusal leaves the record, the replicas, and the tables as they were.
 use Rattle.node_msgs.specs.declared.details.Details.{Details}
 use Rattle.ckpt_types.specs.Reads.{NextGiven, given}
-use Rattle.cluster_record.specs.Calls.{same_actor, put_actor, left}
+use Rattle.cluster_record.specs.Calls.{left}
 use Rattle.ckpt_machine.specs.Driving.{Kept, refused_cause}
 use Rattle.cluster_record.specs.Makings.{making_of}
 use Rattle.std.proofs.Common.{◌≡◌, ◌⊎◌, inl, inr, ℕ, List, length, Option, Some, None, Bool, true, false, cond, refl, sym, ap, subst, ◌∙◌, IsSomeAnd}
@@ -19,7 +19,6 @@ use Rattle.node_msgs.specs.declared.steps.Verb.{Verb}
 use Rattle.node_msgs.specs.declared.steps.Verb.TheVariants as verbs
 use Rattle.node_msgs.specs.declared.steps.StepReply.{StepReply}
 use Rattle.node_msgs.specs.declared.steps.StepReply.TheVariants as words
-use Rattle.ckpt_types.specs.declared.identities.ActorName.{ActorName}
 use Rattle.ckpt_types.specs.declared.operation.Op.{Op}
 use Rattle.ckpt_types.specs.declared.identities.CallId.{CallId}
 use Rattle.ckpt_types.specs.declared.words.OpWord.{OpWord}
@@ -45,7 +44,6 @@ use Rattle.ckpt_machine.specs.ActiveGuards.{HoldOk, ActivateOk, ActiveRefused, A
 use Rattle.ckpt_machine.specs.UpdateGuards.{CommitOk, ends_update}
 use Rattle.ckpt_machine.specs.GuardTerms.{OnReplica, OnAll, OnActive}
 use Rattle.ckpt_machine.specs.Refusals.{IsRefused, IsRefusal, LeavesAll, UndoesOwn, LeavesBy, end_kept, unmade_swept}
-use Rattle.ckpt_machine.proofs.Actors.{same_actor-true}
 use Rattle.std.specs.Prelude.{if◌then◌else◌}
 use Rattle.call_dispatch.specs.PendingCalls.{PendingCalls, ended_in}
 use Rattle.client_handles.specs.declared.handle_view.HandleView.{HandleView}

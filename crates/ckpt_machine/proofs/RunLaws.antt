@@ -10,7 +10,7 @@ use Rattle.ckpt_machine.proofs.Counting.{counts_empty, counts_up}
 use Rattle.ckpt_machine.proofs.Lawful.{lawful}
 use Rattle.ckpt_machine.specs.Guards.{Allowed}
 use Rattle.std.proofs.lemmas.List.{length-append}
-use Rattle.ckpt_machine.proofs.Runs.{along, run_more}
+use Rattle.ckpt_machine.proofs.Runs.{along}
 use Rattle.ckpt_machine.proofs.Start.{invariant_empty}
 
 -- after every run the invariant holds, and no more is counted than it has labels

@@ -1,6 +1,6 @@
 -- Each asynchronous call that its client is to be told of, and that has not ended, is in hand under its own name, and is the one of that name.
-use Rattle.std.proofs.Common.{◌≡◌, ◌≢◌, ℕ, ◌<◌, inl, inr, arith, List, [], ◌∷◌, ◌++◌, filter, Option, Some, None, is_some, Bool, true, false, cond, not, ◌&&◌, refl, sym, ap, subst, ◌∙◌}
-use Rattle.std.specs.Prelude.{IsSome, Contains, find}
+use Rattle.std.proofs.Common.{◌≡◌, ◌≢◌, ℕ, ◌<◌, inl, inr, arith, List, [], ◌∷◌, ◌++◌, Option, Some, None, is_some, Bool, true, false, cond, not, ◌&&◌, refl, sym, ap, subst, ◌∙◌}
+use Rattle.std.specs.Prelude.{IsSome, Contains}
 use Rattle.std.proofs.lemmas.List.Elements.{Contains-push_cases}
 use Rattle.ckpt_types.specs.declared.answers.Outcome.{Outcome}
 use Rattle.ckpt_types.specs.declared.answers.Outcome.TheVariants.{Done}
@@ -11,36 +11,31 @@ use Rattle.ckpt_types.specs.declared.identities.Who.TheVariants.{Actor}
 use Rattle.ckpt_types.specs.declared.identities.Who.TheVariants as whos
 use Rattle.ckpt_types.specs.declared.operation.Op.{Op}
 use Rattle.ckpt_types.specs.declared.operation.Op.TheVariants as ops
-use Rattle.ckpt_types.specs.Asks.{asked}
 use Rattle.ckpt_types.specs.OpWord.{is_async, word_of_op, stepped_as}
-use Rattle.call_dispatch.specs.PendingCalls.{PendingCalls, no_pending, is_call, find_async, goes_over, other_calls, ending, ended_in, forgotten_over, dispatched, given_number, with_begun}
+use Rattle.call_dispatch.specs.PendingCalls.{PendingCalls, no_pending, is_call, find_async, goes_over, ending, ended_in, forgotten_over, dispatched, given_number, with_begun}
 use Rattle.call_dispatch.specs.declared.async_call.AsyncCall.{AsyncCall}
 use Rattle.client_handles.specs.ClientState.{ClientState}
 use Rattle.client_handles.specs.declared.handle_view.HandleView.{HandleView}
-use Rattle.cluster_record.specs.Calls.{client_of, same_actor, same_call, put_actor, left}
-use Rattle.cluster_record.specs.Makings.{making_of}
-use Rattle.cluster_record.specs.RecordState.{closed, active_set}
+use Rattle.cluster_record.specs.Calls.{same_actor, put_actor, left}
 use Rattle.node_msgs.specs.declared.details.Details.{Details}
 use Rattle.node_msgs.specs.declared.steps.StepReply.{StepReply}
-use Rattle.node_msgs.specs.declared.steps.StepReply.TheVariants as words
 use Rattle.node_msgs.specs.declared.steps.Verb.{Verb}
-use Rattle.node_msgs.specs.declared.steps.Verb.TheVariants as verbs
 use Rattle.run_labels.specs.declared.labels.Label.{Label}
 use Rattle.run_labels.specs.declared.labels.Label.TheVariants as labels
 use Rattle.ckpt_machine.specs.Invariant.{IsBegunBy, Invariant}
-use Rattle.ckpt_machine.specs.Machine.{Machine, ReplicaState, CallState, who}
-use Rattle.ckpt_machine.specs.After.{after, after_beginning, changed, change_replica, record_step, on_ok, on_look, at_some, with_closed, without_calls, without_making, without_syncs, async_call, call_begun, pending_begun, goes_with, is_over, left_over, kept_behind, stepped, step_of, ended_calls, handle_opened}
+use Rattle.ckpt_machine.specs.Machine.{Machine, CallState, who}
+use Rattle.ckpt_machine.specs.After.{after, after_beginning, changed, async_call, call_begun, goes_with, is_over, left_over, kept_behind, step_of, ended_calls, handle_opened}
 use Rattle.ckpt_machine.specs.Due.{IsBegun, IsDue, asked_handle}
 use Rattle.ckpt_machine.specs.Owners.{IsCallInHand}
 use Rattle.ckpt_machine.specs.Runs.{last, IsRun}
-use Rattle.ckpt_machine.specs.Tables.{handle_closed}
 use Rattle.ckpt_machine.specs.Whose.{is_of, put_who, same_who}
+use Rattle.ckpt_machine.proofs.ChangedHands.{changed_holds}
 use Rattle.ckpt_machine.proofs.Actors.{same_actor-refl, same_actor-true, same_call-false}
 use Rattle.ckpt_machine.proofs.AsyncNames.{async_named}
 use Rattle.ckpt_machine.proofs.Copying.{after_pull, after_put}
 use Rattle.ckpt_machine.proofs.Histories.{run_history}
 use Rattle.ckpt_machine.proofs.KeptLists.{among_none, among_filtered, passes_filtered, none_found, found_filtered, found_front, found_last}
-use Rattle.ckpt_machine.proofs.PendingNames.{is_call-true, is_call-refl, is_call-false, among_unfinished}
+use Rattle.ckpt_machine.proofs.PendingNames.{is_call-true, is_call-refl, among_unfinished}
 use Rattle.ckpt_machine.proofs.Runs.{along}
 use Rattle.ckpt_machine.proofs.Starting.{first_kept, goes_on_in_hand}
 use Rattle.ckpt_machine.proofs.Whose.{put_who-other, stepped_as-plain, stepped_as-async}
@@ -140,71 +135,14 @@ module _ (in_hand : Who → Option CallState) (pending : ActorName → PendingCa
                 held = apart c other was.held;
               }
 
--- ---- what a step changes
+-- ---- what a label leaves
 
 module _ (m : Machine) (under_way : HasUnderWay m) where
-  ok_under_way : (reply : StepReply) (n : Machine) → HasUnderWay n → HasUnderWay (on_ok reply m n)
-  ok_under_way words.Ok n has = has
-  ok_under_way reply n has = under_way
-
-  some_under_way : (o : Option ℕ) (f : ℕ → Machine) → ((k : ℕ) → HasUnderWay (f k)) → HasUnderWay (at_some o m f)
-  some_under_way None f has = under_way
-  some_under_way (Some k) f has = has k
-
-  replica_under_way : (n : Machine) (k r : ℕ) (o : Option ReplicaState) (change : ReplicaState → ReplicaState) → HasUnderWay n → HasUnderWay (change_replica n k r o change)
-  replica_under_way n k r None change has = has
-  replica_under_way n k r (Some x) change has = has
-
-  -- a replica is changed by a step that names its checkpoint and its node
-  one_under_way : (reply : StepReply) (k r : Option ℕ) (change : ℕ → ℕ → ReplicaState → ReplicaState) → HasUnderWay (on_ok reply m (at_some k m (λ k. at_some r m (λ r. change_replica m k r (m.replicas k r) (change k r)))))
-  one_under_way reply k r change = ok_under_way reply _ (some_under_way k _ (λ k. some_under_way r _ (λ r. replica_under_way m k r (m.replicas k r) (change k r) under_way)))
-
-  look_under_way : (reply : StepReply) (done refused : Machine) → HasUnderWay done → HasUnderWay refused → HasUnderWay (on_look reply m done refused)
-  look_under_way words.Done done refused has also = has
-  look_under_way words.Refused done refused has also = also
-  look_under_way reply done refused has also = under_way
-
-  making_under_way : (k : Option ℕ) → HasUnderWay (without_making k m)
-  making_under_way None = under_way
-  making_under_way (Some k) = under_way
-
-  -- where a handle is closed, the synchronisations over it go
-  handle_under_way : (s : CallState) (n : Machine) → HasUnderWay n → HasUnderWay (with_closed s n)
-  handle_under_way s n has = closed_under_way n.in_hand n.pending has (handle_closed (asked s.op) (n.tables s.call.actor)) s.call.actor
-
-  -- whatever the step is
-  changed_under_way : (s : CallState) (verb : Verb) (k r : Option ℕ) (reply : StepReply) → HasUnderWay (changed m s verb k r reply)
-  changed_under_way s verbs.Enter k r reply = ok_under_way reply _ (some_under_way r _ (λ r. under_way))
-  changed_under_way s verbs.Leave k r reply = ok_under_way reply _ (dropped_under_way m.in_hand m.pending under_way s.call.actor)
-  changed_under_way s verbs.Create k r reply = ok_under_way reply _ under_way
-  changed_under_way s verbs.Reserve k r reply = ok_under_way reply _ (some_under_way k _ (λ k. some_under_way r _ (λ r. under_way)))
-  changed_under_way s verbs.Finish k r reply = ok_under_way reply _ (some_under_way k _ (λ k. under_way))
-  changed_under_way s verbs.Undo k r reply = ok_under_way reply _ (some_under_way k _ (λ k. under_way))
-  changed_under_way s verbs.Open k r reply = ok_under_way reply _ (some_under_way k _ (λ k. under_way))
-  changed_under_way s verbs.Close k r reply = ok_under_way reply _ (some_under_way k _ (λ k. handle_under_way s (record_step (closed k (client_of s.call)) m) under_way))
-  changed_under_way s verbs.Unlink k r reply = ok_under_way reply _ (some_under_way k _ (λ k. under_way))
-  changed_under_way s verbs.Retain k r reply = ok_under_way reply _ (some_under_way k _ (λ k. under_way))
-  changed_under_way s verbs.Stage k r reply = one_under_way reply k r _
-  changed_under_way s verbs.Commit k r reply = one_under_way reply k r _
-  changed_under_way s verbs.Apply k r reply = one_under_way reply k r _
-  changed_under_way s verbs.Mark k r reply = one_under_way reply k r _
-  changed_under_way s verbs.Element k r reply = one_under_way reply k r _
-  changed_under_way s verbs.Unmark k r reply = one_under_way reply k r _
-  changed_under_way s verbs.Install k r reply = one_under_way reply k r _
-  changed_under_way s verbs.Iter k r reply = ok_under_way reply _ (some_under_way k _ (λ k. some_under_way r _ (λ r. under_way)))
-  changed_under_way s verbs.Next k r reply = ok_under_way reply _ (some_under_way k _ (λ k. some_under_way r _ (λ r. under_way)))
-  changed_under_way s verbs.Hold k r reply = ok_under_way reply _ (some_under_way k _ (λ k. under_way))
-  changed_under_way s verbs.Activate k r reply = ok_under_way reply _ (some_under_way k _ (λ k. some_under_way r _ (λ r. replica_under_way (record_step (active_set k r) m) k r ((record_step (active_set k r) m).replicas k r) _ under_way)))
-  changed_under_way s verbs.Look k r reply = look_under_way reply _ _ (handle_under_way s m under_way) (making_under_way (making_of s.call m.cluster))
-  changed_under_way s verb k r reply = under_way
-
-  -- ---- each label
-
   step_under_way : (o : Option CallState) (verb : Verb) (k r : Option ℕ) (reply : StepReply) (end : Option Outcome) → HasUnderWay (step_of m o verb k r reply end)
   step_under_way None verb k r reply end = under_way
   step_under_way (Some s) verb k r reply end =
       let n = changed m s verb k r reply in
-      stepped_under_way n.in_hand n.pending (changed_under_way s verb k r reply) (kept_behind m s n.cluster verb k r reply) end (n.tables s.call.actor)
+      stepped_under_way n.in_hand n.pending (changed_holds AreUnderWay m under_way (dropped_under_way m.in_hand m.pending under_way) (closed_under_way m.in_hand m.pending under_way) s verb k r reply) (kept_behind m s n.cluster verb k r reply) end (n.tables s.call.actor)
 
   module _ (inv : Invariant m) (call : CallId) (op : Op) (end : Option Outcome) (details : Details) (is : IsBegun m call op end details) where
     abbrev p : PendingCalls

@@ -104,7 +104,7 @@ abbrev pub is_marking : Verb → StepReply → Bool
 is_marking verbs.Mark words.Ok = true
 is_marking verb reply = false
 
--- and this was the generation
+-- the step made the marks of a weak write, in this generation
 abbrev pub marks_in : ℕ → StepDone → Bool
 marks_in generation d = is_marking d.verb d.reply && (d.generation == generation)
 

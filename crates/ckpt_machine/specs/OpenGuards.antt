@@ -1,5 +1,5 @@
 -- Which steps of clients, makings and opens the machine allows, and of the end of a checkpoint's life, with their answers and causes.
-use Rattle.std.specs.Prelude.{◌≡◌, ℕ, ◌+◌, ◌<◌, List, length, Option, Some, None, IsSome, IsSomeAnd, Ok, true, false, ◌==◌, slice_index}
+use Rattle.std.specs.Prelude.{◌≡◌, ℕ, ◌+◌, ◌<◌, List, length, Option, Some, None, IsSome, IsSomeAnd, true, false, ◌==◌, slice_index}
 use Rattle.ckpt_types.specs.declared.ais_error.AisError.TheVariants as errors
 use Rattle.ckpt_types.specs.declared.answers.Answer.TheVariants as answers
 use Rattle.ckpt_types.specs.declared.answers.Cause.TheVariants.{Holder}
@@ -7,7 +7,6 @@ use Rattle.ckpt_types.specs.declared.answers.Outcome.{Outcome}
 use Rattle.ckpt_types.specs.declared.answers.Outcome.TheVariants.{Done, Refused, NoMemory}
 use Rattle.ckpt_types.specs.declared.attributes.CreationAttributes.{CreationAttributes}
 use Rattle.ckpt_types.specs.declared.identities.CallId.{CallId}
-use Rattle.ckpt_types.specs.declared.calls.Version.{Version}
 use Rattle.ckpt_types.specs.Limits.{clients_max, checkpoints_max}
 use Rattle.node_msgs.specs.declared.steps.StepReply.{StepReply}
 use Rattle.node_msgs.specs.declared.steps.StepReply.TheVariants as words
@@ -17,7 +16,6 @@ use Rattle.cluster_record.specs.Placement.{targets}
 use Rattle.cluster_record.specs.RecordState.{entry_of, home_of, named, is_live, is_live_client, is_up}
 use Rattle.cluster_record.specs.DueOpen.{accepts}
 use Rattle.cluster_record.specs.Makings.{making_of}
-use Rattle.ckpt_types.specs.Asks.{asked}
 use Rattle.ckpt_machine.specs.Machine.{Machine, CallState}
 use Rattle.ckpt_machine.specs.Due.{rooms_of}
 use Rattle.ckpt_machine.specs.GuardTerms.{IsInTime}

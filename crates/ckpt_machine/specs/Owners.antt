@@ -7,7 +7,6 @@ use Rattle.ckpt_types.specs.declared.identities.Who.{Who}
 use Rattle.run_labels.specs.declared.labels.Label.{Label}
 use Rattle.weak_marks.specs.Marks.{Marked}
 use Rattle.call_dispatch.specs.declared.async_call.AsyncCall.{AsyncCall}
-use Rattle.call_dispatch.specs.PendingCalls.{PendingCalls}
 use Rattle.cluster_record.specs.declared.entries.Entry.{Entry}
 use Rattle.cluster_record.specs.RecordState.{entry_of}
 use Rattle.ckpt_machine.specs.Machine.{Machine, Staged, ReplicaState, CallState}

@@ -1,5 +1,5 @@
 -- A snapshot of the active of a checkpoint, and what it brings to another replica.
-use Rattle.std.specs.Prelude.{ℕ, length, Option, Some, None, is_some, Bool, not, ◌&&◌, ◌||◌, ◌==◌, nat_lt, if◌then◌else◌}
+use Rattle.std.specs.Prelude.{ℕ, length, Option, Some, None, is_some, Bool, not, ◌||◌, ◌==◌, if◌then◌else◌}
 use Rattle.ckpt_types.specs.declared.identities.CallId.{CallId}
 use Rattle.weak_marks.specs.Marks.{call_of}
 use Rattle.run_labels.specs.declared.labels.PullReply.{PullReply}

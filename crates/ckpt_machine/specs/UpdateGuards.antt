@@ -1,5 +1,5 @@
 -- Which steps of an update on all replicas the machine allows, with their answers and causes.
-use Rattle.std.specs.Prelude.{◌≡◌, ◌⊎◌, ℕ, ◌+◌, List, [], ◌∷◌, ◌++◌, Option, Some, None, IsSomeAnd, Ok, Err, IsOk, Bool, true, false, not, ◌&&◌, if◌then◌else◌}
+use Rattle.std.specs.Prelude.{◌≡◌, ◌⊎◌, ℕ, List, [], ◌∷◌, ◌++◌, Option, Some, None, IsSomeAnd, Err, IsOk, Bool, true, false, not, ◌&&◌, if◌then◌else◌}
 use Rattle.ckpt_types.specs.declared.ais_error.AisError.TheVariants as errors
 use Rattle.ckpt_types.specs.declared.answers.Cause.TheVariants.{Holder}
 use Rattle.ckpt_types.specs.declared.answers.Outcome.{Outcome}

@@ -5,7 +5,6 @@ use Rattle.ckpt_types.specs.declared.identities.CallId.{CallId}
 use Rattle.ckpt_types.specs.declared.identities.Who.{Who}
 use Rattle.ckpt_types.specs.declared.identities.Who.TheVariants.{Actor}
 use Rattle.ckpt_types.specs.declared.identities.Who.TheVariants as whos
-use Rattle.ckpt_types.specs.declared.operation.Op.{Op}
 use Rattle.ckpt_types.specs.Limits.{nodes_max}
 use Rattle.ckpt_types.specs.declared.words.OpWord.TheVariants as opwords
 use Rattle.run_labels.specs.declared.words.LineWord.{LineWord}
