@@ -21,7 +21,7 @@ use std::mem;
 use std::string::String;
 use std::sync::Wait;
 use std::thread::Threads;
-use world_core::{World, world_law};
+use world_core::{Cluster, world_law};
 
 /// What kept reading or writing from its end.
 #[derive(Clone, Copy)]
@@ -100,7 +100,7 @@ fn wants_steps(words: &[String]) -> bool
 
 /// Reads a script from the source, plays it on the cluster, and writes the lines of its log to the sink. Whatever it
 /// answers, the log is a run; what a run promises is read off that by its caller.
-pub fn run_command<R: Threads + Wait + Sync, S: Source, K: Sink, G: Gate>(
+pub fn run_command<R: Threads + Wait + Sync, S: Source, K: Sink, G: Gate, W: Cluster>(
     rt: &R,
     alloc: Global,
     words: &[String],
@@ -108,11 +108,11 @@ pub fn run_command<R: Threads + Wait + Sync, S: Source, K: Sink, G: Gate>(
     sink: &mut K,
     gate: &G,
     log: &mut RunLog,
-    world: &mut World,
+    world: &mut W,
 ) -> Status
     requires log { log.old.labels ≡ [] }
-    requires world { IsNew world.old }
-    ensures run { IsRunTo world.new log.new.labels }
+    requires world { IsNew (W.shown world.old) }
+    ensures run { IsRunTo (W.shown world.new) log.new.labels }
     ensures played { HasPlayed result (S.left source.old) (S.left source.new) log.new.labels }
     ensures kept { PlayedNothing result → (sink.new ≡ sink.old) × (world.new ≡ world.old) }
     ensures written { result ≡ Status.Ran → Appends (K.held sink.old) (K.held sink.new) (printed (asks_steps words.now) log.new.labels) }
@@ -133,7 +133,7 @@ pub fn run_command<R: Threads + Wait + Sync, S: Source, K: Sink, G: Gate>(
 }
 
 // What the command does behind its words.
-fn run_script<R: Threads + Wait + Sync, S: Source, K: Sink, G: Gate>(
+fn run_script<R: Threads + Wait + Sync, S: Source, K: Sink, G: Gate, W: Cluster>(
     rt: &R,
     alloc: Global,
     words: &[String],
@@ -141,11 +141,11 @@ fn run_script<R: Threads + Wait + Sync, S: Source, K: Sink, G: Gate>(
     sink: &mut K,
     gate: &G,
     log: &mut RunLog,
-    world: &mut World,
+    world: &mut W,
 ) -> Status
     requires log { log.old.labels ≡ [] }
-    requires world { IsNew world.old }
-    ensures run { IsRunTo world.new log.new.labels }
+    requires world { IsNew (W.shown world.old) }
+    ensures run { IsRunTo (W.shown world.new) log.new.labels }
     ensures kept { PlayedNothing result → (sink.new ≡ sink.old) × (world.new ≡ world.old) }
     ensures told { Tells (end_of (S.left source.old) (S.faults source.old)) (end_of (S.left source.new) (S.faults source.new))
         (end_of (K.held sink.old) (K.faults sink.old)) (end_of (K.held sink.new) (K.faults sink.new))
@@ -192,7 +192,7 @@ fn script_in(alloc: Global, bytes: &[u8], ended: Ended) -> Result<Script, Status
 }
 
 // Plays a script, and writes the lines of the log.
-fn play_script<R: Threads + Wait + Sync, K: Sink, G: Gate>(
+fn play_script<R: Threads + Wait + Sync, K: Sink, G: Gate, W: Cluster>(
     rt: &R,
     alloc: Global,
     script: &Script,
@@ -200,12 +200,12 @@ fn play_script<R: Threads + Wait + Sync, K: Sink, G: Gate>(
     sink: &mut K,
     gate: &G,
     log: &mut RunLog,
-    world: &mut World,
+    world: &mut W,
 ) -> Status
     requires log { log.old.labels ≡ [] }
-    requires world { IsNew world.old }
+    requires world { IsNew (W.shown world.old) }
     requires built { IsBuiltScript script.now }
-    ensures run { IsRunTo world.new log.new.labels }
+    ensures run { IsRunTo (W.shown world.new) log.new.labels }
     ensures plays { Plays script.now log.new.labels (K.held sink.old) (K.held sink.new) (printed steps log.new.labels) (K.faults sink.old) (K.faults sink.new) result }
 {
     if session(rt, alloc, script, gate, log, world).is_err() {

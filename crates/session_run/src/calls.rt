@@ -16,24 +16,24 @@ ghost use Rattle.session_run.specs.Growing.{GrowsBy, GrowsTowards, IsFinish, IsS
 use ckpt_types::{ActorName, Op, Who};
 use run_labels::RunLog;
 use std::alloc::{AllocError, Global};
-use world_core::{Event, World, world_law};
+use world_core::{Cluster, Event, world_law};
 
 /// A call of a client, from its beginning to its end, and of an asynchronous one its beginning alone; where the client
 /// has one in hand, the word that says so.
-pub(crate) fn play_call(
+pub(crate) fn play_call<W: Cluster>(
     alloc: Global,
     client: u8,
     op: &Op,
     log: &mut RunLog,
-    world: &mut World,
+    world: &mut W,
 ) -> Result<(), AllocError>
-    requires run { IsRunTo world.old log.old.labels }
+    requires run { IsRunTo (W.shown world.old) log.old.labels }
     requires client { client < client_numbers }
     requires built { IsBuilt op.now }
     requires room { length log.old.labels + built_line_labels < 2 ^ 32 - 2 }
-    ensures run { IsRunTo world.new log.new.labels }
+    ensures run { IsRunTo (W.shown world.new) log.new.labels }
     ensures few { length log.new.labels ≤ length log.old.labels + built_line_labels }
-    ensures moment { OnOk result (world.new.cluster.moment ≡ world.old.cluster.moment) }
+    ensures moment { OnOk result ((W.shown world.new).cluster.moment ≡ (W.shown world.old).cluster.moment) }
     ensures answers { OnOk result (GrowsBy log.old.labels log.new.labels (IsWholeCall (last log.old.labels) (Client client) op.now)) }
     ensures front { GrowsTowards log.old.labels log.new.labels (IsWholeCall (last log.old.labels) (Client client) op.now) }
 {
@@ -47,20 +47,20 @@ pub(crate) fn play_call(
 }
 
 /// The beginning of a call, or the word that answers its line. Only clients begin calls yet.
-pub(crate) fn begin_of(
+pub(crate) fn begin_of<W: Cluster>(
     alloc: Global,
     actor: ActorName,
     op: &Op,
     log: &mut RunLog,
-    world: &mut World,
+    world: &mut W,
 ) -> Result<(), AllocError>
-    requires run { IsRunTo world.old log.old.labels }
+    requires run { IsRunTo (W.shown world.old) log.old.labels }
     requires client { IsScriptClient actor }
     requires built { IsBuilt op.now }
     requires room { length log.old.labels + built_line_labels < 2 ^ 32 - 2 }
-    ensures run { IsRunTo world.new log.new.labels }
+    ensures run { IsRunTo (W.shown world.new) log.new.labels }
     ensures few { length log.new.labels ≤ length log.old.labels + built_line_labels }
-    ensures moment { OnOk result (world.new.cluster.moment ≡ world.old.cluster.moment) }
+    ensures moment { OnOk result ((W.shown world.new).cluster.moment ≡ (W.shown world.old).cluster.moment) }
     ensures answers { OnOk result (GrowsBy log.old.labels log.new.labels (IsBegunCall (last log.old.labels) actor op.now)) }
     ensures front { GrowsTowards log.old.labels log.new.labels (IsBegunCall (last log.old.labels) actor op.now) }
 {
@@ -73,19 +73,19 @@ pub(crate) fn begin_of(
 // A call begins, of an operation that shares what the line has. The most used are told apart, so that each is known where
 // its event is made.
 #[inline(always)]
-fn begin(
+fn begin<W: Cluster>(
     alloc: Global,
     client: u8,
     op: &Op,
     log: &mut RunLog,
-    world: &mut World,
+    world: &mut W,
 ) -> Result<(), AllocError>
-    requires run { IsRunTo world.old log.old.labels }
+    requires run { IsRunTo (W.shown world.old) log.old.labels }
     requires client { client < client_numbers }
     requires built { IsBuilt op.now }
     requires room { length log.old.labels < 2 ^ 32 - 2 }
-    ensures run { IsRunTo world.new log.new.labels }
-    ensures happens { OnOk result (Happens (happenings.Begin (Client client) op.now) world.old world.new log.old.labels log.new.labels) }
+    ensures run { IsRunTo (W.shown world.new) log.new.labels }
+    ensures happens { OnOk result (Happens (happenings.Begin (Client client) op.now) (W.shown world.old) (W.shown world.new) log.old.labels log.new.labels) }
     ensures err { OnErr result (log.new.labels ≡ log.old.labels) }
 {
     match op {
@@ -112,19 +112,19 @@ fn begin(
 }
 
 #[inline(always)]
-fn begin_with(
+fn begin_with<W: Cluster>(
     alloc: Global,
     client: u8,
     op: Op,
     log: &mut RunLog,
-    world: &mut World,
+    world: &mut W,
 ) -> Result<(), AllocError>
-    requires run { IsRunTo world.old log.old.labels }
+    requires run { IsRunTo (W.shown world.old) log.old.labels }
     requires client { client < client_numbers }
     requires built { IsBuilt op }
     requires room { length log.old.labels < 2 ^ 32 - 2 }
-    ensures run { IsRunTo world.new log.new.labels }
-    ensures happens { OnOk result (Happens (happenings.Begin (Client client) op) world.old world.new log.old.labels log.new.labels) }
+    ensures run { IsRunTo (W.shown world.new) log.new.labels }
+    ensures happens { OnOk result (Happens (happenings.Begin (Client client) op) (W.shown world.old) (W.shown world.new) log.old.labels log.new.labels) }
     ensures err { OnErr result (log.new.labels ≡ log.old.labels) }
 {
     let event = Event::Begin(ActorName::Client(client), op);
@@ -133,19 +133,19 @@ fn begin_with(
 
 /// At most so many steps of the call in hand that is named, fewer where it ends; where there is none, the word that says
 /// so.
-pub(crate) fn steps_of(
+pub(crate) fn steps_of<W: Cluster>(
     alloc: Global,
     who: Who,
     most: u32,
     log: &mut RunLog,
-    world: &mut World,
+    world: &mut W,
 ) -> Result<(), AllocError>
-    requires run { IsRunTo world.old log.old.labels }
+    requires run { IsRunTo (W.shown world.old) log.old.labels }
     requires comes { MayBeStepped who }
     requires room { length log.old.labels + built_line_labels < 2 ^ 32 - 2 }
-    ensures run { IsRunTo world.new log.new.labels }
+    ensures run { IsRunTo (W.shown world.new) log.new.labels }
     ensures few { length log.new.labels ≤ length log.old.labels + built_line_labels }
-    ensures moment { OnOk result (world.new.cluster.moment ≡ world.old.cluster.moment) }
+    ensures moment { OnOk result ((W.shown world.new).cluster.moment ≡ (W.shown world.old).cluster.moment) }
     ensures answers { OnOk result (GrowsBy log.old.labels log.new.labels (AreSteps (stepped_call (last log.old.labels) who) who linewords.Step (λ call. StepsUpTo call most None))) }
     ensures front { GrowsTowards log.old.labels log.new.labels (AreSteps (stepped_call (last log.old.labels) who) who linewords.Step (λ call. StepsUpTo call most None)) }
 {
@@ -157,18 +157,18 @@ pub(crate) fn steps_of(
 }
 
 /// The steps of the call in hand that is named, to its end; where there is none, the word that says so.
-pub(crate) fn finish_of(
+pub(crate) fn finish_of<W: Cluster>(
     alloc: Global,
     who: Who,
     log: &mut RunLog,
-    world: &mut World,
+    world: &mut W,
 ) -> Result<(), AllocError>
-    requires run { IsRunTo world.old log.old.labels }
+    requires run { IsRunTo (W.shown world.old) log.old.labels }
     requires comes { MayBeStepped who }
     requires room { length log.old.labels + built_line_labels < 2 ^ 32 - 2 }
-    ensures run { IsRunTo world.new log.new.labels }
+    ensures run { IsRunTo (W.shown world.new) log.new.labels }
     ensures few { length log.new.labels ≤ length log.old.labels + built_line_labels }
-    ensures moment { OnOk result (world.new.cluster.moment ≡ world.old.cluster.moment) }
+    ensures moment { OnOk result ((W.shown world.new).cluster.moment ≡ (W.shown world.old).cluster.moment) }
     ensures answers { OnOk result (GrowsBy log.old.labels log.new.labels (AreSteps (stepped_call (last log.old.labels) who) who linewords.Finish (λ call. StepsToEnd call None))) }
     ensures front { GrowsTowards log.old.labels log.new.labels (AreSteps (stepped_call (last log.old.labels) who) who linewords.Finish (λ call. StepsToEnd call None)) }
 {
@@ -180,21 +180,21 @@ pub(crate) fn finish_of(
 }
 
 // At most so many steps of the call in hand, fewer where it ends.
-fn steps(
+fn steps<W: Cluster>(
     alloc: Global,
     who: Who,
     most: u32,
     log: &mut RunLog,
-    world: &mut World,
+    world: &mut W,
 ) -> Result<(), AllocError>
-    requires run { IsRunTo world.old log.old.labels }
+    requires run { IsRunTo (W.shown world.old) log.old.labels }
     requires comes { MayBeStepped who }
-    requires room { length log.old.labels + left_of world.old who < 2 ^ 32 - 2 }
-    ensures run { IsRunTo world.new log.new.labels }
-    ensures few { length log.new.labels ≤ length log.old.labels + left_of world.old who }
-    ensures moment { OnOk result (world.new.cluster.moment ≡ world.old.cluster.moment) }
-    ensures steps { OnOk result (GrowsBy log.old.labels log.new.labels (IsStepping most (hand_at world.old.hands who))) }
-    ensures front { GrowsTowards log.old.labels log.new.labels (IsStepping most (hand_at world.old.hands who)) }
+    requires room { length log.old.labels + left_of (W.shown world.old) who < 2 ^ 32 - 2 }
+    ensures run { IsRunTo (W.shown world.new) log.new.labels }
+    ensures few { length log.new.labels ≤ length log.old.labels + left_of (W.shown world.old) who }
+    ensures moment { OnOk result ((W.shown world.new).cluster.moment ≡ (W.shown world.old).cluster.moment) }
+    ensures steps { OnOk result (GrowsBy log.old.labels log.new.labels (IsStepping most (hand_at (W.shown world.old).hands who))) }
+    ensures front { GrowsTowards log.old.labels log.new.labels (IsStepping most (hand_at (W.shown world.old).hands who)) }
 {
     for _done in 0..most {
         if !world.in_hand(who) {
@@ -207,15 +207,20 @@ fn steps(
 
 // The steps of the call in hand, to its end.
 #[inline(always)]
-fn finish(alloc: Global, who: Who, log: &mut RunLog, world: &mut World) -> Result<(), AllocError>
-    requires run { IsRunTo world.old log.old.labels }
+fn finish<W: Cluster>(
+    alloc: Global,
+    who: Who,
+    log: &mut RunLog,
+    world: &mut W,
+) -> Result<(), AllocError>
+    requires run { IsRunTo (W.shown world.old) log.old.labels }
     requires comes { MayBeStepped who }
-    requires room { length log.old.labels + left_of world.old who < 2 ^ 32 - 2 }
-    ensures run { IsRunTo world.new log.new.labels }
-    ensures few { length log.new.labels ≤ length log.old.labels + left_of world.old who }
-    ensures moment { OnOk result (world.new.cluster.moment ≡ world.old.cluster.moment) }
-    ensures steps { OnOk result (GrowsBy log.old.labels log.new.labels (IsFinish (hand_at world.old.hands who))) }
-    ensures front { GrowsTowards log.old.labels log.new.labels (IsFinish (hand_at world.old.hands who)) }
+    requires room { length log.old.labels + left_of (W.shown world.old) who < 2 ^ 32 - 2 }
+    ensures run { IsRunTo (W.shown world.new) log.new.labels }
+    ensures few { length log.new.labels ≤ length log.old.labels + left_of (W.shown world.old) who }
+    ensures moment { OnOk result ((W.shown world.new).cluster.moment ≡ (W.shown world.old).cluster.moment) }
+    ensures steps { OnOk result (GrowsBy log.old.labels log.new.labels (IsFinish (hand_at (W.shown world.old).hands who))) }
+    ensures front { GrowsTowards log.old.labels log.new.labels (IsFinish (hand_at (W.shown world.old).hands who)) }
 {
     'stepping: while world.in_hand(who) {
         step(alloc, who, log, world)?;
@@ -225,13 +230,18 @@ fn finish(alloc: Global, who: Who, log: &mut RunLog, world: &mut World) -> Resul
 
 // The next step of the call in hand.
 #[inline(always)]
-fn step(alloc: Global, who: Who, log: &mut RunLog, world: &mut World) -> Result<(), AllocError>
-    requires run { IsRunTo world.old log.old.labels }
+fn step<W: Cluster>(
+    alloc: Global,
+    who: Who,
+    log: &mut RunLog,
+    world: &mut W,
+) -> Result<(), AllocError>
+    requires run { IsRunTo (W.shown world.old) log.old.labels }
     requires comes { MayBeStepped who }
     requires room { length log.old.labels < 2 ^ 32 - 2 }
-    ensures run { IsRunTo world.new log.new.labels }
-    ensures happens { OnOk result (Happens (happenings.Step who false) world.old world.new log.old.labels log.new.labels) }
-    ensures nearer { OnOk result (ComesNearer (happenings.Step who false) world.old world.new) }
+    ensures run { IsRunTo (W.shown world.new) log.new.labels }
+    ensures happens { OnOk result (Happens (happenings.Step who false) (W.shown world.old) (W.shown world.new) log.old.labels log.new.labels) }
+    ensures nearer { OnOk result (ComesNearer (happenings.Step who false) (W.shown world.old) (W.shown world.new)) }
     ensures err { OnErr result (log.new.labels ≡ log.old.labels) }
 {
     let event = Event::Step(who, false);

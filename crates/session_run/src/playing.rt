@@ -18,26 +18,26 @@ use script_lang::{Line, Script};
 use std::alloc::{AllocError, Global};
 use std::sync::Wait;
 use std::thread::Threads;
-use world_core::{Event, World, world_law};
+use world_core::{Cluster, Event, world_law};
 
 // Most lines give no more labels.
 const LABELS_A_LINE: usize = 3;
 
 /// Plays a script. The log is a run that follows it, and the world shows the state after it. Where
 /// memory for the log or for an event is refused, the log is a run all the same, and follows it as far as it goes.
-pub fn session<R: Threads + Wait + Sync, G: Gate>(
+pub fn session<R: Threads + Wait + Sync, G: Gate, W: Cluster>(
     _rt: &R,
     alloc: Global,
     script: &Script,
     _gate: &G,
     log: &mut RunLog,
-    world: &mut World,
+    world: &mut W,
 ) -> Result<(), AllocError>
     requires log { log.old.labels ≡ [] }
-    requires world { IsNew world.old }
+    requires world { IsNew (W.shown world.old) }
     requires form { IsPlayable script.now }
     requires lines { length script.now ≤ played_lines_max }
-    ensures run { IsRunTo world.new log.new.labels }
+    ensures run { IsRunTo (W.shown world.new) log.new.labels }
     ensures follows { OnOk result (Follows script.now log.new.labels) }
     ensures front { FollowsFront script.now log.new.labels }
 
@@ -51,17 +51,17 @@ pub fn session<R: Threads + Wait + Sync, G: Gate>(
     play(alloc, script.as_slice(), log, world)
 }
 
-fn play(
+fn play<W: Cluster>(
     alloc: Global,
     lines: &[Line],
     log: &mut RunLog,
-    world: &mut World,
+    world: &mut W,
 ) -> Result<(), AllocError>
     requires log { log.old.labels ≡ [] }
-    requires world { IsNew world.old }
+    requires world { IsNew (W.shown world.old) }
     requires form { IsPlayable lines.now }
     requires lines { length lines.now ≤ played_lines_max }
-    ensures run { IsRunTo world.new log.new.labels }
+    ensures run { IsRunTo (W.shown world.new) log.new.labels }
     ensures follows { OnOk result (Follows lines.now log.new.labels) }
     ensures front { FollowsFront lines.now log.new.labels }
 {
@@ -73,18 +73,18 @@ fn play(
 }
 
 // One line: its labels, from the first to the last.
-fn play_line(
+fn play_line<W: Cluster>(
     alloc: Global,
     line: &Line,
     log: &mut RunLog,
-    world: &mut World,
+    world: &mut W,
 ) -> Result<(), AllocError>
-    requires run { IsRunTo world.old log.old.labels }
-    requires comes { CanPlay world.old.cluster.moment log.old.labels line.now }
+    requires run { IsRunTo (W.shown world.old) log.old.labels }
+    requires comes { CanPlay (W.shown world.old).cluster.moment log.old.labels line.now }
     requires room { length log.old.labels + built_line_labels < 2 ^ 32 - 2 }
-    ensures run { IsRunTo world.new log.new.labels }
+    ensures run { IsRunTo (W.shown world.new) log.new.labels }
     ensures few { length log.new.labels ≤ length log.old.labels + built_line_labels }
-    ensures moment { OnOk result (world.new.cluster.moment ≡ moment_behind world.old.cluster.moment line.now) }
+    ensures moment { OnOk result ((W.shown world.new).cluster.moment ≡ moment_behind (W.shown world.old).cluster.moment line.now) }
     ensures answers { OnOk result (GrowsBy log.old.labels log.new.labels (AnswersLine (last log.old.labels) line.now)) }
     ensures front { GrowsTowards log.old.labels log.new.labels (AnswersLine (last log.old.labels) line.now) }
 {

@@ -13,20 +13,20 @@ use ckpt_types::{CkptId, Incarnation, NODES_MAX, NodeId};
 use cluster_record::is_active;
 use run_labels::{Label, PullReply, RunLog};
 use std::alloc::{AllocError, Global};
-use world_core::{Event, World};
+use world_core::{Cluster, Event};
 
 /// A pull, and where a snapshot was pulled, a put at each complete node but the active's, from the lowest up.
-pub(crate) fn propagate(
+pub(crate) fn propagate<W: Cluster>(
     alloc: Global,
     ckpt: CkptId,
     log: &mut RunLog,
-    world: &mut World,
+    world: &mut W,
 ) -> Result<(), AllocError>
-    requires run { IsRunTo world.old log.old.labels }
+    requires run { IsRunTo (W.shown world.old) log.old.labels }
     requires room { length log.old.labels + built_line_labels < 2 ^ 32 - 2 }
-    ensures run { IsRunTo world.new log.new.labels }
+    ensures run { IsRunTo (W.shown world.new) log.new.labels }
     ensures few { length log.new.labels ≤ length log.old.labels + built_line_labels }
-    ensures moment { OnOk result (world.new.cluster.moment ≡ world.old.cluster.moment) }
+    ensures moment { OnOk result ((W.shown world.new).cluster.moment ≡ (W.shown world.old).cluster.moment) }
     ensures answers { OnOk result (GrowsBy log.old.labels log.new.labels (IsPropagation ckpt (other_nodes (entry_of ckpt (last log.old.labels).cluster.entries)))) }
     ensures front { GrowsTowards log.old.labels log.new.labels (IsPropagation ckpt (other_nodes (entry_of ckpt (last log.old.labels).cluster.entries))) }
 {
@@ -41,8 +41,8 @@ pub(crate) fn propagate(
 }
 
 // By node, the incarnation with which it is complete.
-fn complete_nodes(ckpt: CkptId, world: &World) -> [Incarnation; NODES_MAX]
-    ensures { result ≡ complete_of (entry_of ckpt world.now.cluster.entries) }
+fn complete_nodes<W: Cluster>(ckpt: CkptId, world: &W) -> [Incarnation; NODES_MAX]
+    ensures { result ≡ complete_of (entry_of ckpt (W.shown world.now).cluster.entries) }
 {
     match world.record().entry(ckpt) {
         None => [0; NODES_MAX],
@@ -51,8 +51,8 @@ fn complete_nodes(ckpt: CkptId, world: &World) -> [Incarnation; NODES_MAX]
 }
 
 // The node of the active, if there is one.
-fn active_node(ckpt: CkptId, world: &World) -> Option<NodeId>
-    ensures { result ≡ active_in (entry_of ckpt world.now.cluster.entries) }
+fn active_node<W: Cluster>(ckpt: CkptId, world: &W) -> Option<NodeId>
+    ensures { result ≡ active_in (entry_of ckpt (W.shown world.now).cluster.entries) }
 {
     match world.record().entry(ckpt) {
         None => None,
@@ -61,11 +61,16 @@ fn active_node(ckpt: CkptId, world: &World) -> Option<NodeId>
 }
 
 // A pull.
-fn pull(alloc: Global, ckpt: CkptId, log: &mut RunLog, world: &mut World) -> Result<(), AllocError>
-    requires run { IsRunTo world.old log.old.labels }
+fn pull<W: Cluster>(
+    alloc: Global,
+    ckpt: CkptId,
+    log: &mut RunLog,
+    world: &mut W,
+) -> Result<(), AllocError>
+    requires run { IsRunTo (W.shown world.old) log.old.labels }
     requires room { length log.old.labels < 2 ^ 32 - 2 }
-    ensures run { IsRunTo world.new log.new.labels }
-    ensures happens { OnOk result (Happens (happenings.Pull ckpt) world.old world.new log.old.labels log.new.labels) }
+    ensures run { IsRunTo (W.shown world.new) log.new.labels }
+    ensures happens { OnOk result (Happens (happenings.Pull ckpt) (W.shown world.old) (W.shown world.new) log.old.labels log.new.labels) }
     ensures err { OnErr result (log.new.labels ≡ log.old.labels) }
 {
     world.event(alloc, Event::Pull(ckpt), log)
@@ -88,19 +93,19 @@ fn is_pulled(reply: PullReply) -> bool
 }
 
 // A put at each of the nodes that take one, from the lowest up.
-fn put_all(
+fn put_all<W: Cluster>(
     alloc: Global,
     ckpt: CkptId,
     complete: &[Incarnation; NODES_MAX],
     active: Option<NodeId>,
     log: &mut RunLog,
-    world: &mut World,
+    world: &mut W,
 ) -> Result<(), AllocError>
-    requires run { IsRunTo world.old log.old.labels }
+    requires run { IsRunTo (W.shown world.old) log.old.labels }
     requires room { length log.old.labels + nodes_max < 2 ^ 32 - 2 }
-    ensures run { IsRunTo world.new log.new.labels }
+    ensures run { IsRunTo (W.shown world.new) log.new.labels }
     ensures few { length log.new.labels ≤ length log.old.labels + nodes_max }
-    ensures moment { OnOk result (world.new.cluster.moment ≡ world.old.cluster.moment) }
+    ensures moment { OnOk result ((W.shown world.new).cluster.moment ≡ (W.shown world.old).cluster.moment) }
     ensures puts { OnOk result (GrowsBy log.old.labels log.new.labels (ArePuts ckpt (filter (takes_put complete.now active) all_nodes))) }
     ensures front { GrowsTowards log.old.labels log.new.labels (ArePuts ckpt (filter (takes_put complete.now active) all_nodes)) }
 {
@@ -120,20 +125,20 @@ fn takes_put(complete: &[Incarnation; NODES_MAX], active: Option<NodeId>, r: Nod
 }
 
 // A put at the node, where it takes one.
-fn put_where(
+fn put_where<W: Cluster>(
     alloc: Global,
     ckpt: CkptId,
     r: NodeId,
     takes: bool,
     log: &mut RunLog,
-    world: &mut World,
+    world: &mut W,
 ) -> Result<(), AllocError>
-    requires run { IsRunTo world.old log.old.labels }
+    requires run { IsRunTo (W.shown world.old) log.old.labels }
     requires node { r < nodes_max }
     requires room { length log.old.labels < 2 ^ 32 - 2 }
-    ensures run { IsRunTo world.new log.new.labels }
+    ensures run { IsRunTo (W.shown world.new) log.new.labels }
     ensures few { length log.new.labels ≤ length log.old.labels + 1 }
-    ensures moment { OnOk result (world.new.cluster.moment ≡ world.old.cluster.moment) }
+    ensures moment { OnOk result ((W.shown world.new).cluster.moment ≡ (W.shown world.old).cluster.moment) }
     ensures puts { OnOk result ((rest : List ℕ) → GrowsToPuts ckpt rest (if takes then r ∷ rest else rest) log.old.labels log.new.labels) }
     ensures err { OnErr result (log.new.labels ≡ log.old.labels) }
 {
@@ -144,18 +149,18 @@ fn put_where(
 }
 
 // A put.
-fn put(
+fn put<W: Cluster>(
     alloc: Global,
     ckpt: CkptId,
     r: NodeId,
     log: &mut RunLog,
-    world: &mut World,
+    world: &mut W,
 ) -> Result<(), AllocError>
-    requires run { IsRunTo world.old log.old.labels }
+    requires run { IsRunTo (W.shown world.old) log.old.labels }
     requires node { r < nodes_max }
     requires room { length log.old.labels < 2 ^ 32 - 2 }
-    ensures run { IsRunTo world.new log.new.labels }
-    ensures happens { OnOk result (Happens (happenings.Put ckpt r) world.old world.new log.old.labels log.new.labels) }
+    ensures run { IsRunTo (W.shown world.new) log.new.labels }
+    ensures happens { OnOk result (Happens (happenings.Put ckpt r) (W.shown world.old) (W.shown world.new) log.old.labels log.new.labels) }
     ensures err { OnErr result (log.new.labels ≡ log.old.labels) }
 {
     world.event(alloc, Event::Put(ckpt, r), log)

@@ -18,4 +18,4 @@ mod updating;
 mod world;
 
 pub use law::world_law;
-pub use world::{Event, World};
+pub use world::{Cluster, Event, World};

@@ -5,6 +5,7 @@ ghost use Rattle.world_core.specs.Parts.{record_in, call_in_hand};
 ghost use Rattle.world_core.specs.Happenings.{Adds, ComesNow, IsAnswered};
 ghost use Rattle.world_core.specs.Runs.{IsNew, IsRunTo, MayHappen, Happens};
 ghost use Rattle.ckpt_machine.specs.Promises.{KeepsPromises};
+ghost use Rattle.world_core.specs.declared.world.World.{World};
 ghost use Rattle.world_core.specs.StepsLeft.{ComesNearer};
 
 use crate::hands::Hands;
@@ -68,41 +69,57 @@ impl World {
             hands,
         })
     }
+}
+
+/// A cluster to which one event after another happens. Whoever makes events happen by this knows what the world promises, and
+/// its proof reads nothing of how the world keeps that.
+pub trait Cluster {
+    /// The world that it is.
+    ghost shown: { Self → World };
 
     /// What all nodes agree on.
-    pub fn record(&self) -> &Record
-        ensures { result.now ≡ record_in self.now }
-    {
-        &self.cluster
-    }
+    fn record(&self) -> &Record
+        ensures { result.now ≡ record_in (shown self.now) };
 
     /// Whether a call is in hand under a name: that of a client, or that of an asynchronous call.
-    pub fn in_hand(&self, who: Who) -> bool
-        ensures { result ≡ is_some (call_in_hand self.now who) }
-    {
-        self.hands.find(who).is_some()
-    }
+    fn in_hand(&self, who: Who) -> bool
+        ensures { result ≡ is_some (call_in_hand (shown self.now) who) };
 
     /// One event, and one label more, which answers it. Want of memory leaves the world and the log as
     /// they were; a call whose own memory is refused ends with it instead.
-    // Put in line: a call would move the event once more.
-    #[inline(always)]
-    pub fn event(&mut self, alloc: Global, event: Event, log: &mut RunLog) -> Result<(), AllocError>
-        requires { MayHappen self.old log.old.labels event }
-        ensures run { IsRunTo self.new log.new.labels }
-        ensures happens { OnOk result (Happens event self.old self.new log.old.labels log.new.labels) }
-        ensures err { OnErr result ((self.new ≡ self.old) × (log.new.labels ≡ log.old.labels)) }
+    fn event(&mut self, alloc: Global, event: Event, log: &mut RunLog) -> Result<(), AllocError>
+        requires { MayHappen (shown self.old) log.old.labels event }
+        ensures run { IsRunTo (shown self.new) log.new.labels }
+        ensures happens { OnOk result (Happens event (shown self.old) (shown self.new) log.old.labels log.new.labels) }
+        ensures err { OnErr result ((shown self.new ≡ shown self.old) × (log.new.labels ≡ log.old.labels)) }
 
         // The log is a run, so it keeps all that a run promises.
         ensures promises { KeepsPromises log.new.labels }
 
         // For whoever steps a call to its end.
-        ensures nearer { OnOk result (ComesNearer event self.old self.new) }
-    {
+        ensures nearer { OnOk result (ComesNearer event (shown self.old) (shown self.new)) };
+}
+
+impl Cluster for World {
+    ghost shown = { λ world. world };
+
+    fn record(&self) -> &Record {
+        &self.cluster
+    }
+
+    fn in_hand(&self, who: Who) -> bool {
+        self.hands.find(who).is_some()
+    }
+
+    // Put in line: a call would move the event once more.
+    #[inline(always)]
+    fn event(&mut self, alloc: Global, event: Event, log: &mut RunLog) -> Result<(), AllocError> {
         machine_law();
         self.run_on(alloc, event, log)
     }
+}
 
+impl World {
     // The run goes on by one label, which answers the event, or stays as it is.
     #[inline(always)]
     fn run_on(&mut self, alloc: Global, event: Event, log: &mut RunLog) -> Result<(), AllocError>

@@ -6,7 +6,7 @@ use Rattle.command_run.proofs.running.run_script.Goals as goal
 
 -- nothing was played
 pub returns-in-Err-clause-run : goal.returns-in-Err-clause-run
-returns-in-Err-clause-run g c = nothing_ran c.world_law.ensures.begins c.args.world.now c.args.log.now.labels c.requires.world c.requires.log
+returns-in-Err-clause-run g c = nothing_ran c.world_law.ensures.begins (g.W.Cluster.shown c.args.world.now) c.args.log.now.labels c.requires.world c.requires.log
 
 pub returns-in-Err-clause-told : goal.returns-in-Err-clause-told
 returns-in-Err-clause-told g c =

@@ -2,4 +2,4 @@ use Rattle.std.proofs.Common.{rules}
 use Rattle.session_run.proofs.calls.begin_with.Goals as goal
 
 pub returns-clause-happens : goal.returns-clause-happens
-returns-clause-happens c = search rules
+returns-clause-happens g c = search rules

@@ -7,12 +7,12 @@ use Rattle.session_run.specs.Growing.{GrowsBy, IsFinish}
 use Rattle.session_run.proofs.calls.finish.Given as goal
 
 abbrev pub invariant-stepping : goal.invariant-stepping
-invariant-stepping l = record {
-  run : IsRunTo l.world l.log.labels;
-  few : length l.log.labels + left_of l.world l.fn.who ≤ length l.initial.log.labels + left_of l.initial.world l.fn.who;
-  moment : l.world.cluster.moment ≡ l.initial.world.cluster.moment;
-  steps : (more : List Label) → IsFinish (hand_at l.world.hands l.fn.who) more → GrowsBy l.initial.log.labels (l.log.labels ++ more) (IsFinish (hand_at l.initial.world.hands l.fn.who));
+invariant-stepping g l = record {
+  run : IsRunTo (g.W.Cluster.shown l.world) l.log.labels;
+  few : length l.log.labels + left_of (g.W.Cluster.shown l.world) l.fn.who ≤ length l.initial.log.labels + left_of (g.W.Cluster.shown l.initial.world) l.fn.who;
+  moment : (g.W.Cluster.shown l.world).cluster.moment ≡ (g.W.Cluster.shown l.initial.world).cluster.moment;
+  steps : (more : List Label) → IsFinish (hand_at (g.W.Cluster.shown l.world).hands l.fn.who) more → GrowsBy l.initial.log.labels (l.log.labels ++ more) (IsFinish (hand_at (g.W.Cluster.shown l.initial.world).hands l.fn.who));
 }
 
 abbrev pub decreases-stepping : goal.decreases-stepping
-decreases-stepping l = left_of l.world l.fn.who
+decreases-stepping g l = left_of (g.W.Cluster.shown l.world) l.fn.who

@@ -8,33 +8,33 @@ use Rattle.session_run.proofs.calls.finish_of.Goals as goal
 -- ---- nothing is in hand under the name
 
 pub returns-then-not-in_hand-clause-answers : goal.returns-then-not-in_hand-clause-answers
-returns-then-not-in_hand-clause-answers c =
-    let none = none_if_not (hand_at c.args.world.now.hands c.args.who) (sym c.in_hand.ensures ∙ c.if-not-in_hand.true) in
-    OnOk-map c.event.result c.event.ensures.happens (λ h. idle_alone c.args.who true _ c.args.world.now c.event.new.self c.args.log.now.labels c.event.new.log.labels c.requires.run none h)
+returns-then-not-in_hand-clause-answers g c =
+    let none = none_if_not (hand_at (g.W.Cluster.shown c.args.world.now).hands c.args.who) (sym c.in_hand.ensures ∙ c.if-not-in_hand.true) in
+    OnOk-map c.event.result c.event.ensures.happens (λ h. idle_alone c.args.who true _ (g.W.Cluster.shown c.args.world.now) (g.W.Cluster.shown c.event.new.self) c.args.log.now.labels c.event.new.log.labels c.requires.run none h)
 
 pub returns-then-not-in_hand-clause-front : goal.returns-then-not-in_hand-clause-front
-returns-then-not-in_hand-clause-front c =
-    let none = none_if_not (hand_at c.args.world.now.hands c.args.who) (sym c.in_hand.ensures ∙ c.if-not-in_hand.true) in
-    towards_idle c.event.result c.args.who true _ c.args.world.now c.event.new.self c.args.log.now.labels c.event.new.log.labels c.requires.run none c.event.ensures.happens (fault_leaves _ _ c.event.result c.event.ensures.err)
+returns-then-not-in_hand-clause-front g c =
+    let none = none_if_not (hand_at (g.W.Cluster.shown c.args.world.now).hands c.args.who) (sym c.in_hand.ensures ∙ c.if-not-in_hand.true) in
+    towards_idle c.event.result c.args.who true _ (g.W.Cluster.shown c.args.world.now) (g.W.Cluster.shown c.event.new.self) c.args.log.now.labels c.event.new.log.labels c.requires.run none c.event.ensures.happens (fault_leaves _ _ c.event.result c.event.ensures.err)
 
 -- ---- a call is
 
 pub finish-requires-clause-room : goal.finish-requires-clause-room
-finish-requires-clause-room c =
-    let few : left_of c.args.world.now c.args.who ≤ 66 = c.world_law.ensures.few c.args.world.now c.args.log.now.labels c.args.who c.requires.run in
+finish-requires-clause-room g c =
+    let few : left_of (g.W.Cluster.shown c.args.world.now) c.args.who ≤ 66 = c.world_law.ensures.few (g.W.Cluster.shown c.args.world.now) c.args.log.now.labels c.args.who c.requires.run in
     omega (arith, few, c.requires.room)
 
 pub returns-clause-few : goal.returns-clause-few
-returns-clause-few c =
-    let few : left_of c.args.world.now c.args.who ≤ 66 = c.world_law.ensures.few c.args.world.now c.args.log.now.labels c.args.who c.requires.run in
+returns-clause-few g c =
+    let few : left_of (g.W.Cluster.shown c.args.world.now) c.args.who ≤ 66 = c.world_law.ensures.few (g.W.Cluster.shown c.args.world.now) c.args.log.now.labels c.args.who c.requires.run in
     omega (arith, few, c.finish.ensures.few)
 
 pub returns-clause-answers : goal.returns-clause-answers
-returns-clause-answers c =
+returns-clause-answers g c =
     let held = sym c.in_hand.ensures ∙ c.if-not-in_hand.false in
-    OnOk-map c.finish.result c.finish.ensures.steps (λ f. GrowsBy-map c.args.log.now.labels c.finish.new.log.labels f (are_finishing c.args.world.now c.args.log.now.labels c.args.who c.requires.run held))
+    OnOk-map c.finish.result c.finish.ensures.steps (λ f. GrowsBy-map c.args.log.now.labels c.finish.new.log.labels f (are_finishing (g.W.Cluster.shown c.args.world.now) c.args.log.now.labels c.args.who c.requires.run held))
 
 pub returns-clause-front : goal.returns-clause-front
-returns-clause-front c =
+returns-clause-front g c =
     let held = sym c.in_hand.ensures ∙ c.if-not-in_hand.false in
-    towards_map c.args.log.now.labels c.finish.new.log.labels c.finish.ensures.front (are_finishing c.args.world.now c.args.log.now.labels c.args.who c.requires.run held)
+    towards_map c.args.log.now.labels c.finish.new.log.labels c.finish.ensures.front (are_finishing (g.W.Cluster.shown c.args.world.now) c.args.log.now.labels c.args.who c.requires.run held)

@@ -10,49 +10,49 @@ use Rattle.session_run.proofs.calls.play_call.Goals as goal
 -- ---- a call is in hand
 
 pub returns-then-in_hand-clause-answers : goal.returns-then-in_hand-clause-answers
-returns-then-in_hand-clause-answers c =
+returns-then-in_hand-clause-answers g c =
     let held = sym c.in_hand.ensures ∙ c.if-in_hand.true in
     OnOk-map c.begin.result c.begin.ensures.happens (λ h.
-    (h.label ∷ [], h.grows, busy_alone c.args.client c.args.op.now c.args.world.now c.begin.new.world c.args.log.now.labels c.begin.new.log.labels h.label c.requires.run c.begin.ensures.run h.grows h.answers held))
+    (h.label ∷ [], h.grows, busy_alone c.args.client c.args.op.now (g.W.Cluster.shown c.args.world.now) (g.W.Cluster.shown c.begin.new.world) c.args.log.now.labels c.begin.new.log.labels h.label c.requires.run c.begin.ensures.run h.grows h.answers held))
 
 pub returns-then-in_hand-clause-front : goal.returns-then-in_hand-clause-front
-returns-then-in_hand-clause-front c =
+returns-then-in_hand-clause-front g c =
     let held = sym c.in_hand.ensures ∙ c.if-in_hand.true in
     towards_begun c.begin.result c.args.log.now.labels c.begin.new.log.labels (could_begin c.args.client c.args.op.now) (could_begin-whole (last c.args.log.now.labels) c.args.client c.args.op.now) c.begin.ensures.err
     (OnOk-map c.begin.result c.begin.ensures.happens (λ h.
-    (h.label ∷ [], h.grows, busy_alone c.args.client c.args.op.now c.args.world.now c.begin.new.world c.args.log.now.labels c.begin.new.log.labels h.label c.requires.run c.begin.ensures.run h.grows h.answers held)))
+    (h.label ∷ [], h.grows, busy_alone c.args.client c.args.op.now (g.W.Cluster.shown c.args.world.now) (g.W.Cluster.shown c.begin.new.world) c.args.log.now.labels c.begin.new.log.labels h.label c.requires.run c.begin.ensures.run h.grows h.answers held)))
 
 -- ---- none is
 
 pub finish-requires-clause-room : goal.finish-requires-clause-room
-finish-requires-clause-room c =
+finish-requires-clause-room g c =
     let h = c.in_ok-begin.ensures.happens in
     let longer : length c.begin-2.new.log.labels ≡ length c.args.log.now.labels + 1 = ap length h.grows ∙ length-append c.args.log.now.labels (h.label ∷ []) in
-    let few = c.world_law.ensures.few c.begin-2.new.world c.begin-2.new.log.labels (Actor (Client c.args.client)) c.begin-2.ensures.run in
+    let few = c.world_law.ensures.few (g.W.Cluster.shown c.begin-2.new.world) c.begin-2.new.log.labels (Actor (Client c.args.client)) c.begin-2.ensures.run in
     omega (arith, c.requires.room, few)
 
 pub returns-clause-few : goal.returns-clause-few
-returns-clause-few c =
+returns-clause-few g c =
     let h = c.in_ok-begin.ensures.happens in
     let longer : length c.begin-2.new.log.labels ≡ length c.args.log.now.labels + 1 = ap length h.grows ∙ length-append c.args.log.now.labels (h.label ∷ []) in
-    let few = c.world_law.ensures.few c.begin-2.new.world c.begin-2.new.log.labels (Actor (Client c.args.client)) c.begin-2.ensures.run in
+    let few = c.world_law.ensures.few (g.W.Cluster.shown c.begin-2.new.world) c.begin-2.new.log.labels (Actor (Client c.args.client)) c.begin-2.ensures.run in
     omega (arith, c.finish.ensures.few, few)
 
 pub returns-clause-answers : goal.returns-clause-answers
-returns-clause-answers c =
+returns-clause-answers g c =
     let h = c.in_ok-begin.ensures.happens in
-    let idle = none_if_not (hand_at c.args.world.now.hands (Actor (Client c.args.client))) (sym c.in_hand.ensures ∙ c.if-in_hand.false) in
+    let idle = none_if_not (hand_at (g.W.Cluster.shown c.args.world.now).hands (Actor (Client c.args.client))) (sym c.in_hand.ensures ∙ c.if-in_hand.false) in
     OnOk-map c.finish.result c.finish.ensures.steps (λ f.
     GrowsBy-begin c.args.log.now.labels c.begin-2.new.log.labels c.finish.new.log.labels h.label h.grows f
-    (λ more g. begin_grows c.args.client c.args.op.now c.args.world.now c.begin-2.new.world c.args.log.now.labels c.begin-2.new.log.labels h.label more c.requires.run c.begin-2.ensures.run h.grows h.answers idle g))
+    (λ more goes. begin_grows c.args.client c.args.op.now (g.W.Cluster.shown c.args.world.now) (g.W.Cluster.shown c.begin-2.new.world) c.args.log.now.labels c.begin-2.new.log.labels h.label more c.requires.run c.begin-2.ensures.run h.grows h.answers idle goes))
 
 pub returns-clause-front : goal.returns-clause-front
-returns-clause-front c =
+returns-clause-front g c =
     let h = c.in_ok-begin.ensures.happens in
-    let idle = none_if_not (hand_at c.args.world.now.hands (Actor (Client c.args.client))) (sym c.in_hand.ensures ∙ c.if-in_hand.false) in
+    let idle = none_if_not (hand_at (g.W.Cluster.shown c.args.world.now).hands (Actor (Client c.args.client))) (sym c.in_hand.ensures ∙ c.if-in_hand.false) in
     towards_begin c.args.log.now.labels c.begin-2.new.log.labels c.finish.new.log.labels h.label h.grows c.finish.ensures.front
-    (λ more g. begin_grows c.args.client c.args.op.now c.args.world.now c.begin-2.new.world c.args.log.now.labels c.begin-2.new.log.labels h.label more c.requires.run c.begin-2.ensures.run h.grows h.answers idle g)
+    (λ more goes. begin_grows c.args.client c.args.op.now (g.W.Cluster.shown c.args.world.now) (g.W.Cluster.shown c.begin-2.new.world) c.args.log.now.labels c.begin-2.new.log.labels h.label more c.requires.run c.begin-2.ensures.run h.grows h.answers idle goes)
 
 pub returns-in_err-begin-clause-front : goal.returns-in_err-begin-clause-front
-returns-in_err-begin-clause-front c =
+returns-in_err-begin-clause-front g c =
     towards_one c.args.log.now.labels c.begin-2.new.log.labels (could_begin c.args.client c.args.op.now) c.in_err-begin.ensures.err (could_begin-whole (last c.args.log.now.labels) c.args.client c.args.op.now)

@@ -7,9 +7,9 @@ use Rattle.session_run.specs.Growing.{GrowsBy, IsStepping}
 use Rattle.session_run.proofs.calls.steps.Given as goal
 
 abbrev pub invariant-loop-done : goal.invariant-loop-done
-invariant-loop-done l = record {
-  run : IsRunTo l.world l.log.labels;
-  few : length l.log.labels + left_of l.world l.who ≤ length l.initial.log.labels + left_of l.initial.world l.who;
-  moment : l.world.cluster.moment ≡ l.initial.world.cluster.moment;
-  steps : (more : List Label) → IsStepping (l.most - l._done) (hand_at l.world.hands l.who) more → GrowsBy l.initial.log.labels (l.log.labels ++ more) (IsStepping l.most (hand_at l.initial.world.hands l.who));
+invariant-loop-done g l = record {
+  run : IsRunTo (g.W.Cluster.shown l.world) l.log.labels;
+  few : length l.log.labels + left_of (g.W.Cluster.shown l.world) l.who ≤ length l.initial.log.labels + left_of (g.W.Cluster.shown l.initial.world) l.who;
+  moment : (g.W.Cluster.shown l.world).cluster.moment ≡ (g.W.Cluster.shown l.initial.world).cluster.moment;
+  steps : (more : List Label) → IsStepping (l.most - l._done) (hand_at (g.W.Cluster.shown l.world).hands l.who) more → GrowsBy l.initial.log.labels (l.log.labels ++ more) (IsStepping l.most (hand_at (g.W.Cluster.shown l.initial.world).hands l.who));
 }

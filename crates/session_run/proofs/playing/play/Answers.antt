@@ -12,8 +12,8 @@ use Rattle.session_run.proofs.Fronts.{front_of_whole, front_in_line, rest_follow
 use Rattle.session_run.proofs.playing.play.Goals as goal
 
 pub loop-line-init : goal.loop-line-init
-loop-line-init c = record {
-  run = subst (IsRunTo c.args.world.now) (sym c.requires.log) (c.world_law.ensures.begins c.args.world.now c.requires.world);
+loop-line-init g c = record {
+  run = subst (IsRunTo (g.W.Cluster.shown c.args.world.now)) (sym c.requires.log) (c.world_law.ensures.begins (g.W.Cluster.shown c.args.world.now) c.requires.world);
   few = omega (arith, ap length c.requires.log);
   form = c.requires.form;
   start = λ e. ap (λ (R : RecordState). R.moment) c.requires.world.cluster;
@@ -22,43 +22,43 @@ loop-line-init c = record {
 }
 
 pub play_line-requires-clause-comes : goal.play_line-requires-clause-comes
-play_line-requires-clause-comes c =
+play_line-requires-clause-comes g c =
     let i = c.loop-line.line-index in
     let next = drop_item c.args.lines.now i c.line-item.result c.loop-line-test.true c.line-item.is in
-    let left = subst (AreLeft i c.loop-line.world.cluster.moment) next c.loop-line.invariant.form in
-    CanPlay-next i c.loop-line.world.cluster.moment c.line-item.result (drop (i + 1) c.args.lines.now) c.loop-line.log.labels left c.loop-line.invariant.first
+    let left = subst (AreLeft i (g.W.Cluster.shown c.loop-line.world).cluster.moment) next c.loop-line.invariant.form in
+    CanPlay-next i (g.W.Cluster.shown c.loop-line.world).cluster.moment c.line-item.result (drop (i + 1) c.args.lines.now) c.loop-line.log.labels left c.loop-line.invariant.first
 
 pub play_line-requires-clause-room : goal.play_line-requires-clause-room
-play_line-requires-clause-room c = omega (arith, c.loop-line.invariant.few, c.loop-line-test.true, c.requires.lines)
+play_line-requires-clause-room g c = omega (arith, c.loop-line.invariant.few, c.loop-line-test.true, c.requires.lines)
 
 pub loop-line-preserved : goal.loop-line-preserved
-loop-line-preserved c =
+loop-line-preserved g c =
     let i = c.loop-line.line-index in
     let next = drop_item c.args.lines.now i c.line-item.result c.loop-line-test.true c.line-item.is in
-    let left = subst (AreLeft i c.loop-line.world.cluster.moment) next c.loop-line.invariant.form in
+    let left = subst (AreLeft i (g.W.Cluster.shown c.loop-line.world).cluster.moment) next c.loop-line.invariant.form in
     let done = c.in_ok-play_line.ensures in
     record {
       run = c.play_line.ensures.run;
       few = omega (arith, c.play_line.ensures.few, c.loop-line.invariant.few);
-      form = AreLeft-next i c.loop-line.world.cluster.moment c.play_line.new.world.cluster.moment c.line-item.result (drop (i + 1) c.args.lines.now) left c.loop-line.invariant.start done.moment;
+      form = AreLeft-next i (g.W.Cluster.shown c.loop-line.world).cluster.moment (g.W.Cluster.shown c.play_line.new.world).cluster.moment c.line-item.result (drop (i + 1) c.args.lines.now) left c.loop-line.invariant.start done.moment;
       start = λ e. absurd (omega (arith, e));
       first = λ e. absurd (omega (arith, e));
       follows = follows_line c.args.lines.now (drop i c.args.lines.now) c.line-item.result (drop (i + 1) c.args.lines.now) c.loop-line.log.labels c.play_line.new.log.labels next done.answers c.play_line.ensures.few c.loop-line.invariant.follows;
     }
 
 pub returns-clause-follows : goal.returns-clause-follows
-returns-clause-follows c =
+returns-clause-follows g c =
     follows_end c.args.lines.now (drop c.loop-line.line-index c.args.lines.now) c.loop-line.log.labels (drop_all c.loop-line.line-index c.args.lines.now c.loop-line-test.false) c.loop-line.invariant.follows
 
 pub returns-clause-front : goal.returns-clause-front
-returns-clause-front c =
+returns-clause-front g c =
     front_of_whole c.args.lines.now c.loop-line.log.labels
     (follows_end c.args.lines.now (drop c.loop-line.line-index c.args.lines.now) c.loop-line.log.labels (drop_all c.loop-line.line-index c.args.lines.now c.loop-line-test.false) c.loop-line.invariant.follows)
 
 pub returns-in_err-play_line-clause-front : goal.returns-in_err-play_line-clause-front
-returns-in_err-play_line-clause-front c =
+returns-in_err-play_line-clause-front g c =
     let i = c.loop-line.line-index in
-    let t = c.loop-line.world.cluster.moment in
+    let t = (g.W.Cluster.shown c.loop-line.world).cluster.moment in
     let line = c.line-item.result in
     let others = drop (i + 1) c.args.lines.now in
     let next = drop_item c.args.lines.now i line c.loop-line-test.true c.line-item.is in

@@ -16,7 +16,7 @@ use Rattle.session_run.proofs.Fronts.{towards_label, towards_begun, fault_leaves
 use Rattle.session_run.proofs.playing.play_line.Goals as goal
 
 pub returns-in-Nodes-clause-front : goal.returns-in-Nodes-clause-front
-returns-in-Nodes-clause-front c =
+returns-in-Nodes-clause-front g c =
     let old = c.args.log.now.labels in
     let label = labels.Nodes c.in-Nodes.count in
     subst (λ (line : Line). GrowsTowards old c.event.new.log.labels (AnswersLine (last old) line)) (sym c.in-Nodes.is)
@@ -24,12 +24,12 @@ returns-in-Nodes-clause-front c =
     (OnOk-map c.event.result c.event.ensures.happens (λ h. h.grows ∙ ap (λ (l : Label). old ++ l ∷ []) h.answers.0)) c.event.ensures.err)
 
 pub returns-in-Call-clause-front : goal.returns-in-Call-clause-front
-returns-in-Call-clause-front c =
+returns-in-Call-clause-front g c =
     let old = c.args.log.now.labels in
     subst (λ (line : Line). GrowsTowards old c.play_call.new.log.labels (AnswersLine (last old) line)) (sym c.in-Call.is) c.play_call.ensures.front
 
 pub returns-in-At-clause-front : goal.returns-in-At-clause-front
-returns-in-At-clause-front c =
+returns-in-At-clause-front g c =
     let old = c.args.log.now.labels in
     let label = labels.Moved c.in-At.t in
     let fits : FitsSigned w64 c.in-At.t = search rules in
@@ -38,12 +38,12 @@ returns-in-At-clause-front c =
     (towards_label _ c.event-in-At.result old c.event-in-At.new.log.labels label refl (simp to_z-of_z at grows) c.event-in-At.ensures.err)
 
 pub returns-in-Begin-clause-front : goal.returns-in-Begin-clause-front
-returns-in-Begin-clause-front c =
+returns-in-Begin-clause-front g c =
     let old = c.args.log.now.labels in
     subst (λ (line : Line). GrowsTowards old c.begin_of.new.log.labels (AnswersLine (last old) line)) (sym c.in-Begin.is) c.begin_of.ensures.front
 
 pub returns-in-Show-clause-front : goal.returns-in-Show-clause-front
-returns-in-Show-clause-front c =
+returns-in-Show-clause-front g c =
     let old = c.args.log.now.labels in
     let k = c.in-Show.ckpt in
     subst (λ (line : Line). GrowsTowards old c.event-in-Show.new.log.labels (AnswersLine (last old) line)) (sym c.in-Show.is)
@@ -51,7 +51,7 @@ returns-in-Show-clause-front c =
     (OnOk-map c.event-in-Show.result c.event-in-Show.ensures.happens (λ h. (h.label ∷ [], h.grows, listing_alone k h.label h.answers.0))))
 
 pub returns-in-Pull-clause-front : goal.returns-in-Pull-clause-front
-returns-in-Pull-clause-front c =
+returns-in-Pull-clause-front g c =
     let old = c.args.log.now.labels in
     let k = c.in-Pull.ckpt in
     subst (λ (line : Line). GrowsTowards old c.event-in-Pull.new.log.labels (AnswersLine (last old) line)) (sym c.in-Pull.is)
@@ -59,7 +59,7 @@ returns-in-Pull-clause-front c =
     (OnOk-map c.event-in-Pull.result c.event-in-Pull.ensures.happens (λ h. (h.label ∷ [], h.grows, pull_alone k h.label h.answers.0))))
 
 pub returns-in-Put-clause-front : goal.returns-in-Put-clause-front
-returns-in-Put-clause-front c =
+returns-in-Put-clause-front g c =
     let old = c.args.log.now.labels in
     let k = c.in-Put.ckpt in
     let r = c.in-Put.node in
@@ -68,6 +68,6 @@ returns-in-Put-clause-front c =
     (OnOk-map c.event-in-Put.result c.event-in-Put.ensures.happens (λ h. (h.label ∷ [], h.grows, put_before k r [] h.label [] h.answers.0 refl))))
 
 pub returns-in-Propagate-clause-front : goal.returns-in-Propagate-clause-front
-returns-in-Propagate-clause-front c =
+returns-in-Propagate-clause-front g c =
     let old = c.args.log.now.labels in
     subst (λ (line : Line). GrowsTowards old c.propagate.new.log.labels (AnswersLine (last old) line)) (sym c.in-Propagate.is) c.propagate.ensures.front

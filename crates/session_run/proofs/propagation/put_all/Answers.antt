@@ -6,10 +6,10 @@ use Rattle.session_run.proofs.Putting.{taking, next_taking, none_taking, puts_fo
 use Rattle.session_run.proofs.propagation.put_all.Goals as goal
 
 pub put_where-requires-clause-room : goal.put_where-requires-clause-room
-put_where-requires-clause-room c = omega (arith, c.loop-r.invariant.few, c.loop-r-test.true, c.requires.room)
+put_where-requires-clause-room g c = omega (arith, c.loop-r.invariant.few, c.loop-r-test.true, c.requires.room)
 
 pub loop-r-preserved : goal.loop-r-preserved
-loop-r-preserved c =
+loop-r-preserved g c =
     let k = c.args.ckpt in
     let p = takes_put c.args.complete.now c.args.active in
     let r = c.loop-r.r in
@@ -24,14 +24,14 @@ loop-r-preserved c =
     }
 
 pub returns-in_err-put_where-clause-front : goal.returns-in_err-put_where-clause-front
-returns-in_err-put_where-clause-front c =
+returns-in_err-put_where-clause-front g c =
     let p = takes_put c.args.complete.now c.args.active in
     towards_puts c.args.ckpt (taking p c.loop-r.r) (taking p 0) c.args.log.now.labels c.loop-r.log.labels c.put_where.new.log.labels (taking_few p c.loop-r.r) c.in_err-put_where.ensures.err c.loop-r.invariant.puts
 
 pub returns-clause-puts : goal.returns-clause-puts
-returns-clause-puts c =
+returns-clause-puts g c =
     let p = takes_put c.args.complete.now c.args.active in
     puts_end c.args.ckpt (taking p c.loop-r.r) (taking p 0) c.args.log.now.labels c.loop-r.log.labels (none_taking p c.loop-r.r (omega (arith, c.loop-r-test.false))) c.loop-r.invariant.puts
 
 pub returns-clause-front : goal.returns-clause-front
-returns-clause-front c = towards_end c.args.log.now.labels c.loop-r.log.labels (returns-clause-puts c)
+returns-clause-front g c = towards_end c.args.log.now.labels c.loop-r.log.labels (returns-clause-puts g c)

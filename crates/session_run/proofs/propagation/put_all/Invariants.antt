@@ -6,9 +6,9 @@ use Rattle.session_run.proofs.Putting.{taking}
 use Rattle.session_run.proofs.propagation.put_all.Given as goal
 
 abbrev pub invariant-loop-r : goal.invariant-loop-r
-invariant-loop-r l = record {
-  run : IsRunTo l.world l.log.labels;
+invariant-loop-r g l = record {
+  run : IsRunTo (g.W.Cluster.shown l.world) l.log.labels;
   few : length l.log.labels ≤ length l.initial.log.labels + l.r;
-  moment : l.world.cluster.moment ≡ l.initial.world.cluster.moment;
+  moment : (g.W.Cluster.shown l.world).cluster.moment ≡ (g.W.Cluster.shown l.initial.world).cluster.moment;
   puts : GrowsToPuts l.ckpt (taking (takes_put l.complete l.active) l.r) (taking (takes_put l.complete l.active) 0) l.initial.log.labels l.log.labels;
 }
