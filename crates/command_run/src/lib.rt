@@ -5,8 +5,6 @@ mod arguments;
 mod command_line;
 mod reading;
 mod running;
-#[cfg(test)]
-mod tests;
 mod writing;
 
 pub use arguments::{Arguments, StdArguments};

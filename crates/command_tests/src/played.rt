@@ -1,5 +1,5 @@
 //! A script is played and printed.
-use crate::running::{Status, run_command};
+use command_run::{Status, run_command};
 use outside_io::{MemSink, MemSource, OpenGate, Sink, Source};
 use run_labels::RunLog;
 use std::alloc::{AllocError, Global};
@@ -25,6 +25,15 @@ pub const STEPPED_LINES: &[u8] = b"+ c0.1 begin client\n+ c0.1 enter n0 ok\nc0.1
 /// A read or a write that never comes, of those that are counted from 0.
 pub const NONE: u64 = 1_000_000;
 
+// The words, as a command takes them.
+fn owned(alloc: Global, words: &[&str]) -> Result<Vec<String>, AllocError> {
+    let mut owned = Vec::new(alloc);
+    for word in words {
+        owned.push(String::from_str(alloc, word)?)?;
+    }
+    Ok(owned)
+}
+
 /// How the run of these words ends, on a cluster of which no node is up.
 fn status_of<R: Threads + Wait + Sync, S: Source, K: Sink>(
     rt: &R,
@@ -33,21 +42,22 @@ fn status_of<R: Threads + Wait + Sync, S: Source, K: Sink>(
     source: &mut S,
     sink: &mut K,
 ) -> Result<Status, AllocError> {
-    let mut owned = Vec::new(alloc);
-    for word in words {
-        owned.push(String::from_str(alloc, word)?)?;
-    }
+    let owned = owned(alloc, words)?;
+    ended(rt, alloc, owned.as_slice(), source, sink)
+}
+
+// The same of the words that are there.
+fn ended<R: Threads + Wait + Sync, S: Source, K: Sink>(
+    rt: &R,
+    alloc: Global,
+    words: &[String],
+    source: &mut S,
+    sink: &mut K,
+) -> Result<Status, AllocError> {
     let mut world = World::new(alloc)?;
     let mut log = RunLog::new(alloc);
     Ok(run_command(
-        rt,
-        alloc,
-        owned.as_slice(),
-        source,
-        sink,
-        &OpenGate,
-        &mut log,
-        &mut world,
+        rt, alloc, words, source, sink, &OpenGate, &mut log, &mut world,
     ))
 }
 

@@ -1,9 +1,8 @@
 //! The words of the command line are read.
 ghost use Rattle.std.specs.Prelude.{◌≡◌, ◌≤◌, Some, length, map, take};
 
-use crate::arguments::Arguments;
-use crate::command_line::words;
-use crate::running::Status;
+use crate::rows::holds;
+use command_run::{Arguments, Status, words};
 use std::alloc::Global;
 use std::env::FillError;
 use std::string::String;
@@ -54,37 +53,38 @@ fn are_read(alloc: Global, called: &[&[u8]], wanted: &[&str]) -> bool {
     true
 }
 
+// A name alone; two words; a third; a name that is no text; no letter, and one of two bytes.
 #[test]
 fn the_words_behind_the_name_are_read(rt: HostRuntime) {
     let alloc = rt.alloc();
-    assert!(rt; are_read(alloc, &[b"ckptsim"], &[]), "a name alone");
-    assert!(rt;
+    holds(&rt, 1, are_read(alloc, &[b"ckptsim"], &[]));
+    holds(
+        &rt,
+        2,
         are_read(
             alloc,
             &[b"ckptsim", b"run", b"--steps"],
-            &["run", "--steps"]
+            &["run", "--steps"],
         ),
-        "two words"
     );
-    assert!(rt;
+    holds(
+        &rt,
+        3,
         are_read(
             alloc,
             &[b"ckptsim", b"run", b"--steps", b"x"],
-            &["run", "--steps", "x"]
+            &["run", "--steps", "x"],
         ),
-        "a third"
     );
-    assert!(rt;
-        are_read(alloc, &[b"name \xff", b"run"], &["run"]),
-        "a name that is no text"
-    );
-    assert!(rt;
+    holds(&rt, 4, are_read(alloc, &[b"name \xff", b"run"], &["run"]));
+    holds(
+        &rt,
+        5,
         are_read(
             alloc,
             &[b"ckptsim", b"", "k\u{e4}".as_bytes()],
-            &["", "k\u{e4}"]
+            &["", "k\u{e4}"],
         ),
-        "no letter, and one of two bytes"
     );
 }
 
@@ -96,31 +96,23 @@ fn is_usage(alloc: Global, called: &[&[u8]]) -> bool {
     }
 }
 
+// No first byte of a letter; half of a letter; a letter's second byte; both words; a third word; and a word longer than
+// each of a command.
 #[test]
 fn a_word_that_is_no_text_is_no_command(rt: HostRuntime) {
     let alloc = rt.alloc();
-    assert!(rt;
-        is_usage(alloc, &[b"ckptsim", b"\xff"]),
-        "no first byte of a letter"
-    );
-    assert!(rt;
-        is_usage(alloc, &[b"ckptsim", b"run", b"\xc3"]),
-        "half of a letter"
-    );
-    assert!(rt;
+    holds(&rt, 1, is_usage(alloc, &[b"ckptsim", b"\xff"]));
+    holds(&rt, 2, is_usage(alloc, &[b"ckptsim", b"run", b"\xc3"]));
+    holds(
+        &rt,
+        3,
         is_usage(alloc, &[b"ckptsim", b"run\x80", b"--steps"]),
-        "a letter's second byte"
     );
-    assert!(rt;
-        is_usage(alloc, &[b"ckptsim", b"\xff", b"\xff"]),
-        "both words"
-    );
-    assert!(rt;
+    holds(&rt, 4, is_usage(alloc, &[b"ckptsim", b"\xff", b"\xff"]));
+    holds(
+        &rt,
+        5,
         is_usage(alloc, &[b"ckptsim", b"run", b"--steps", b"\xff"]),
-        "a third word"
     );
-    assert!(rt;
-        is_usage(alloc, &[b"ckptsim", &[b'r'; 65]]),
-        "a word longer than each of a command"
-    );
+    holds(&rt, 6, is_usage(alloc, &[b"ckptsim", &[b'r'; 65]]));
 }

@@ -1,0 +1,13 @@
+//! The tests of a command: a user of command_run, over streams in memory.
+#![tactic(auto)]
+
+#[cfg(test)]
+mod commands;
+#[cfg(test)]
+mod failing;
+#[cfg(test)]
+mod played;
+#[cfg(test)]
+mod rows;
+#[cfg(test)]
+mod words;
