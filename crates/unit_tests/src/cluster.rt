@@ -1,7 +1,9 @@
 //! The record of the cluster where memory is there: a client comes and makes a checkpoint, and a copy goes its own way.
 ghost use Rattle.std.specs.Prelude.{◌≡◌, IfSome, true};
 ghost use Rattle.ckpt_types.specs.Attributes.{IsWellFormed};
+ghost use Rattle.cluster_record.specs.RecordReady.{CanOpen};
 
+use crate::rows::{holds, met};
 use ckpt_types::{
     ActorName, Bytes, CLIENT_NUMBERS, CallId, CkptId, CreationAttributes, Moment, NodeId, OpenAsk,
     WR_ALL_REPLICAS, name_fits,
@@ -9,7 +11,6 @@ use ckpt_types::{
 use cluster_record::{OpenAnswer, Record};
 use std::alloc::{AllocError, Global};
 use std::process::Abort;
-use std::test::Fail;
 
 pub const ATTRIBUTES: CreationAttributes = CreationAttributes {
     creation_flags: WR_ALL_REPLICAS,
@@ -30,6 +31,31 @@ fn pass(attrs: &Option<CreationAttributes>) -> bool
     }
 }
 
+/// Whether a client may ask for this.
+fn may_ask(record: &Record, ask: &OpenAsk) -> bool
+    ensures { result ≡ true → CanOpen ask.now «record».now }
+{
+    if usize::from(ask.client) >= CLIENT_NUMBERS || !record.is_up(ask.node) {
+        return false;
+    }
+    if !pass(&ask.attrs) {
+        return false;
+    }
+    name_fits(&ask.name)
+}
+
+/// What the client gets, where it may ask and the record has numbers left.
+fn answer(record: &mut Record, ask: OpenAsk) -> Option<OpenAnswer> {
+    if !may_ask(record, &ask) || !record.numbers_left() {
+        return None;
+    }
+    let call = CallId {
+        actor: ActorName::Client(ask.client),
+        number: 2,
+    };
+    Some(record.open(call, ask))
+}
+
 /// What a client gets that opens a checkpoint with these attributes, where it may ask and the record has numbers left.
 pub fn open_as(
     record: &mut Record,
@@ -44,22 +70,18 @@ pub fn open_as(
         client,
         node: 0,
     };
-    if usize::from(client) >= CLIENT_NUMBERS || !record.is_up(0) || !pass(&ask.attrs) {
-        return Ok(None);
-    }
-    if !name_fits(&ask.name) || !record.numbers_left() {
-        return Ok(None);
-    }
-    let call = CallId {
-        actor: ActorName::Client(client),
-        number: 2,
-    };
-    Ok(Some(record.open(call, ask)))
+    Ok(answer(record, ask))
 }
 
-fn find(record: &Record, alloc: Global, name: &[u8]) -> Result<Option<CkptId>, AllocError> {
+/// Whether the record finds this by a name.
+fn finds(
+    record: &Record,
+    alloc: Global,
+    name: &[u8],
+    found: Option<CkptId>,
+) -> Result<bool, AllocError> {
     let name = Bytes::from_slice(alloc, name)?;
-    Ok(record.find(&name))
+    Ok(record.find(&name) == found)
 }
 
 /// Takes a client in, where it may come. Whether it is live then.
@@ -85,38 +107,57 @@ fn set_moment(record: &mut Record, t: Moment) {
     record.set_moment(t);
 }
 
-/// Of two equal records, in which c3 is making the checkpoint `a`, one gets a checkpoint more, and c3 leaves it.
-fn go_apart(
-    rt: &impl Abort,
+/// Whether a client that opens a checkpoint of that name makes it, as the one of this identity.
+fn makes(
+    record: &mut Record,
     alloc: Global,
-    record: &Record,
-    copy: &mut Record,
-) -> Result<(), AllocError> {
-    let made = open_as(copy, alloc, 3, b"b", Some(ATTRIBUTES))?;
-    assert!(rt; made == Some(OpenAnswer::Made(2)));
-    assert_eq!(rt; copy.now(), 5);
-    assert_eq!(rt; copy.client(3), Some((1, 1, 7)));
-    assert_eq!(rt; find(copy, alloc, b"a")?, Some(1));
-    assert_eq!(rt; find(record, alloc, b"b")?, None);
+    client: u8,
+    name: &[u8],
+    id: CkptId,
+) -> Result<bool, AllocError> {
+    let answer = open_as(record, alloc, client, name, Some(ATTRIBUTES))?;
+    Ok(answer == Some(OpenAnswer::Made(id)))
+}
+
+/// Of two equal records, in which c3 is making the checkpoint `a`, one gets a checkpoint more.
+fn make_second(rt: &impl Abort, alloc: Global, record: &Record, copy: &mut Record) {
+    met(rt, 3, makes(copy, alloc, 3, b"b", 2));
+    holds(rt, 4, copy.now() == 5);
+    holds(rt, 5, copy.client(3) == Some((1, 1, 7)));
+    met(rt, 6, finds(copy, alloc, b"a", Some(1)));
+    met(rt, 7, finds(record, alloc, b"b", None));
+}
+
+/// Then c3 leaves that one.
+fn leave(rt: &impl Abort, alloc: Global, record: &Record, copy: &mut Record) {
     copy.finish_create(2);
     copy.leave(3);
-    assert_eq!(rt; find(copy, alloc, b"a")?, None);
-    assert_eq!(rt; find(copy, alloc, b"b")?, Some(2));
-    assert_eq!(rt; find(record, alloc, b"a")?, Some(1));
-    Ok(())
+    met(rt, 8, finds(copy, alloc, b"a", None));
+    met(rt, 9, finds(copy, alloc, b"b", Some(2)));
+    met(rt, 10, finds(record, alloc, b"a", Some(1)));
+}
+
+fn go_apart(rt: &impl Abort, alloc: Global, record: &Record, copy: &mut Record) {
+    make_second(rt, alloc, record, copy);
+    leave(rt, alloc, record, copy);
 }
 
 fn copy_goes_apart(rt: &impl Abort, alloc: Global, record: &Record) -> Result<(), AllocError> {
     let mut copy = record.copy(alloc)?;
-    go_apart(rt, alloc, record, &mut copy)
+    go_apart(rt, alloc, record, &mut copy);
+    Ok(())
+}
+
+/// A client comes, and makes the first checkpoint.
+fn make_first(rt: &impl Abort, alloc: Global, record: &mut Record) -> Result<(), AllocError> {
+    holds(rt, 1, enters(record, 3, 1, 7));
+    met(rt, 2, makes(record, alloc, 3, b"a", 1));
+    set_moment(record, 5);
+    copy_goes_apart(rt, alloc, record)
 }
 
 #[test]
-fn a_copy_goes_its_own_way(rt: HostRuntime) -> Result<(), Fail> {
+fn a_copy_goes_its_own_way(rt: HostRuntime) -> Result<(), AllocError> {
     let mut record = Record::new(rt.alloc(), 2)?;
-    assert!(rt; enters(&mut record, 3, 1, 7));
-    open_as(&mut record, rt.alloc(), 3, b"a", Some(ATTRIBUTES))?;
-    set_moment(&mut record, 5);
-    copy_goes_apart(&rt, rt.alloc(), &record)?;
-    Ok(())
+    make_first(&rt, rt.alloc(), &mut record)
 }

@@ -1,11 +1,11 @@
 //! The asynchronous calls of one client where memory is there: whom a dispatch tells of their ends.
+use crate::rows::holds;
 use call_dispatch::{AsyncCall, Callbacks, EndedCall, Pending};
 use ckpt_types::{
     ActorName, AisError, Answer, AsyncKind, CallId, DISPATCH_ALL, DISPATCH_ONE, Given, Outcome,
 };
 use std::alloc::{AllocError, Global};
 use std::process::Abort;
-use std::test::Fail;
 
 /// The numbers of the calls whose ends were told, in order.
 #[derive(Drop)]
@@ -59,22 +59,30 @@ fn gives(
 }
 
 /// Of two calls that have ended, the one that has ended first is given first, and each in a copy too.
-fn gives_each(rt: &impl Abort, alloc: Global, pending: &mut Pending) -> Result<(), AllocError> {
+fn gives_each(rt: &impl Abort, alloc: Global, pending: &mut Pending, equal: &mut Pending) {
+    holds(rt, 3, gives(alloc, pending, DISPATCH_ONE, Ok((1, 1)), &[6]));
+    holds(rt, 4, gives(alloc, pending, DISPATCH_ALL, Ok((1, 0)), &[4]));
+    holds(rt, 5, gives(alloc, pending, DISPATCH_ALL, Ok((0, 0)), &[]));
+    holds(
+        rt,
+        6,
+        gives(alloc, equal, DISPATCH_ALL, Ok((2, 0)), &[6, 4]),
+    );
+}
+
+/// Two calls begin and end.
+fn ends_each(rt: &impl Abort, alloc: Global, pending: &mut Pending) -> Result<(), AllocError> {
+    holds(rt, 1, begins(pending, 4, AsyncKind::Open(1)));
+    holds(rt, 2, begins(pending, 6, AsyncKind::Sync));
+    pending.finish(call_of(6), None, Outcome::Done(Answer::Nothing));
+    pending.finish(call_of(4), Some(9), Outcome::Done(Answer::Nothing));
     let mut equal = pending.copy(alloc)?;
-    assert!(rt; gives(alloc, pending, DISPATCH_ONE, Ok((1, 1)), &[6]));
-    assert!(rt; gives(alloc, pending, DISPATCH_ALL, Ok((1, 0)), &[4]));
-    assert!(rt; gives(alloc, pending, DISPATCH_ALL, Ok((0, 0)), &[]));
-    assert!(rt; gives(alloc, &mut equal, DISPATCH_ALL, Ok((2, 0)), &[6, 4]));
+    gives_each(rt, alloc, pending, &mut equal);
     Ok(())
 }
 
 #[test]
-fn callbacks_come_once_in_the_order_of_the_ends(rt: HostRuntime) -> Result<(), Fail> {
+fn callbacks_come_once_in_the_order_of_the_ends(rt: HostRuntime) -> Result<(), AllocError> {
     let mut pending = Pending::new(rt.alloc())?;
-    assert!(rt; begins(&mut pending, 4, AsyncKind::Open(1)));
-    assert!(rt; begins(&mut pending, 6, AsyncKind::Sync));
-    pending.finish(call_of(6), None, Outcome::Done(Answer::Nothing));
-    pending.finish(call_of(4), Some(9), Outcome::Done(Answer::Nothing));
-    gives_each(&rt, rt.alloc(), &mut pending)?;
-    Ok(())
+    ends_each(&rt, rt.alloc(), &mut pending)
 }

@@ -1,5 +1,6 @@
 //! The drivers of calls where memory is there: a copy of one goes on where that is.
 use crate::cluster::{ATTRIBUTES, open_as};
+use crate::rows::{holds, met};
 use ckpt_types::{ActorName, Answer, Bytes, CallId, NodeId, Shared};
 use cluster_record::{ActiveKind, Record, SyncKind};
 use drive_active::ActiveCall;
@@ -9,7 +10,6 @@ use drive_update::UpdateCall;
 use node_msgs::{Next, Reply, Verb};
 use std::alloc::{AllocError, Global};
 use std::process::Abort;
-use std::test::Fail;
 
 const FIRST: CallId = CallId {
     actor: ActorName::Client(3),
@@ -30,35 +30,32 @@ fn asks(next: Next, node: NodeId, verb: Verb) -> bool {
     }
 }
 
-/// An update that has staged on n0 is to stage on n1, and so is a copy of it.
-fn update_goes_on(rt: &impl Abort, alloc: Global, seen: &Record) -> Result<(), AllocError> {
+/// Whether an update that has staged on n0 is to stage on n1, in a copy of it.
+fn update_goes_on(alloc: Global, seen: &Record) -> Result<bool, AllocError> {
     let mut call = UpdateCall::begin(FIRST, 1);
     call.staged(seen, 1, 0);
     let copy = call.copy(alloc)?;
-    assert!(rt; asks(copy.next(seen), 1, Verb::Stage));
-    Ok(())
+    Ok(asks(copy.next(seen), 1, Verb::Stage))
 }
 
-/// A weak write that has made its marks is to do an element, and so is a copy of it.
-fn weak_write_goes_on(rt: &impl Abort, alloc: Global, seen: &Record) -> Result<(), AllocError> {
+/// Whether a weak write that has made its marks is to do an element, in a copy of it.
+fn weak_write_goes_on(alloc: Global, seen: &Record) -> Result<bool, AllocError> {
     let mut call = ActiveCall::begin(FIRST, 1, ActiveKind::Weak(2));
-    assert!(rt; call.take(seen, &Reply::Done(Answer::Nothing)).is_none());
+    if call.take(seen, &Reply::Done(Answer::Nothing)).is_some() {
+        return Ok(false);
+    }
     let copy = call.copy(alloc)?;
-    assert!(rt; asks(copy.next(seen, true), 0, Verb::Element));
-    Ok(())
+    Ok(asks(copy.next(seen, true), 0, Verb::Element))
 }
 
-/// A synchronisation that has pulled is to install on n1, and so is a copy of it.
-fn synchronisation_goes_on(
-    rt: &impl Abort,
-    alloc: Global,
-    seen: &Record,
-) -> Result<(), AllocError> {
+/// Whether a synchronisation that has pulled is to install on n1, in a copy of it.
+fn synchronisation_goes_on(alloc: Global, seen: &Record) -> Result<bool, AllocError> {
     let mut call = SyncCall::begin(FIRST, 1, SyncKind::Synchronize(None));
-    assert!(rt; call.take(seen, &Reply::Done(Answer::Pulled(4))).is_none());
+    if call.take(seen, &Reply::Done(Answer::Pulled(4))).is_some() {
+        return Ok(false);
+    }
     let copy = call.copy(alloc)?;
-    assert!(rt; asks(copy.next(seen), 1, Verb::Install));
-    Ok(())
+    Ok(asks(copy.next(seen), 1, Verb::Install))
 }
 
 /// What c3 asks for with a name.
@@ -73,39 +70,50 @@ fn ask_for(alloc: Global, name: &[u8]) -> Result<SharedAsk, AllocError> {
     })
 }
 
-/// A copy of an open that is making K2 has its name, and is to reserve on n0.
-fn copy_is_making(
-    rt: &impl Abort,
-    alloc: Global,
-    seen: &Record,
-    call: &OpenCall,
-) -> Result<(), AllocError> {
+/// Whether an open that is making K2 has its name, and is to reserve on n0.
+fn is_making(seen: &Record, call: &OpenCall) -> bool {
+    if call.name().as_slice() != b"b".as_slice() {
+        return false;
+    }
+    asks(call.next(seen, true), 0, Verb::Reserve)
+}
+
+/// Whether a copy of an open is making what that makes.
+fn copy_is_making(alloc: Global, seen: &Record, call: &OpenCall) -> Result<bool, AllocError> {
     let copy = call.copy(alloc)?;
-    assert_eq!(rt; copy.name().as_slice(), b"b".as_slice());
-    assert!(rt; asks(copy.next(seen, true), 0, Verb::Reserve));
-    Ok(())
+    Ok(is_making(seen, &copy))
 }
 
 /// An open is making its checkpoint behind the step that creates it.
-fn open_goes_on(rt: &impl Abort, alloc: Global, seen: &mut Record) -> Result<(), AllocError> {
-    let mut call = OpenCall::begin(MAKER, ask_for(alloc, b"b")?, None);
-    open_as(seen, alloc, 3, b"b", Some(ATTRIBUTES))?;
-    assert!(rt; call.take(seen, &Reply::Done(Answer::Nothing)).is_none());
-    copy_is_making(rt, alloc, seen, &call)
+fn begins_to_make(rt: &impl Abort, alloc: Global, seen: &Record, call: &mut OpenCall) {
+    holds(
+        rt,
+        4,
+        call.take(seen, &Reply::Done(Answer::Nothing)).is_none(),
+    );
+    met(rt, 5, copy_is_making(alloc, seen, call));
 }
 
+fn open_goes_on(rt: &impl Abort, alloc: Global, seen: &mut Record) -> Result<(), AllocError> {
+    open_as(seen, alloc, 3, b"b", Some(ATTRIBUTES))?;
+    let ask = ask_for(alloc, b"b")?;
+    let mut call = OpenCall::begin(MAKER, ask, None);
+    begins_to_make(rt, alloc, seen, &mut call);
+    Ok(())
+}
+
+/// Calls to what the record makes go on, each in a copy.
 fn each_goes_on(rt: &impl Abort, alloc: Global, seen: &mut Record) -> Result<(), AllocError> {
-    update_goes_on(rt, alloc, seen)?;
-    weak_write_goes_on(rt, alloc, seen)?;
-    synchronisation_goes_on(rt, alloc, seen)?;
+    open_as(seen, alloc, 3, b"a", Some(ATTRIBUTES))?;
+    seen.finish_create(1);
+    met(rt, 1, update_goes_on(alloc, seen));
+    met(rt, 2, weak_write_goes_on(alloc, seen));
+    met(rt, 3, synchronisation_goes_on(alloc, seen));
     open_goes_on(rt, alloc, seen)
 }
 
 #[test]
-fn a_copy_of_a_call_goes_on_where_that_is(rt: HostRuntime) -> Result<(), Fail> {
+fn a_copy_of_a_call_goes_on_where_that_is(rt: HostRuntime) -> Result<(), AllocError> {
     let mut seen = Record::new(rt.alloc(), 2)?;
-    open_as(&mut seen, rt.alloc(), 3, b"a", Some(ATTRIBUTES))?;
-    seen.finish_create(1);
-    each_goes_on(&rt, rt.alloc(), &mut seen)?;
-    Ok(())
+    each_goes_on(&rt, rt.alloc(), &mut seen)
 }

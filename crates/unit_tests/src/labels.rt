@@ -1,4 +1,5 @@
 //! Labels at work: each kind is printed, a dispatch's callbacks behind its own line, and a log keeps them in order.
+use crate::rows::{holds, met};
 use ckpt_types::{
     ActorName, AisError, Answer, Apart, AsyncKind, Bytes, CallId, Callback, Cause,
     CheckpointDescriptor, CreationAttributes, Elements, Given, NEVER, Op, Outcome, Pieces, ReadBuf,
@@ -10,7 +11,7 @@ use run_labels::{
     ShownSlot, append_callbacks, append_line, render_callbacks, render_line,
 };
 use std::alloc::{AllocError, Global};
-use std::test::Fail;
+use std::process::Abort;
 
 /// The call of most labels.
 const C0_5: CallId = CallId {
@@ -86,20 +87,27 @@ fn callback(kind: AsyncKind, invocation: u64, outcome: Outcome) -> Callback {
     }
 }
 
-/// A dispatch that gave a callback of each kind, and one that was refused.
-fn dispatched(alloc: Global) -> Result<Label, AllocError> {
+/// A callback of each kind, and one of a call that was refused.
+fn callbacks(alloc: Global) -> Result<Details, AllocError> {
     let held = Outcome::Refused(AisError::TryAgain, Cause::Holder(C0_5));
     let callbacks = vec![in alloc;
         callback(AsyncKind::Sync, 9, Outcome::Done(Answer::Pulled(1))),
         callback(AsyncKind::Open(3), 100, Outcome::Done(Answer::Opened(1))),
         callback(AsyncKind::Open(3), 7, held),
     ]?;
+    let callbacks = Apart::new(alloc, Elements::from_vec(callbacks))?;
+    Ok(Details::Callbacks(callbacks))
+}
+
+/// A dispatch that gave them.
+fn dispatched(alloc: Global) -> Result<Label, AllocError> {
+    let details = callbacks(alloc)?;
     let given = Answer::Dispatched(Given { given: 3, left: 0 });
     Ok(Label::Began {
         call: C0_5,
         op: Op::Dispatch(2),
         end: Some(Outcome::Done(given)),
-        details: Details::Callbacks(Apart::new(alloc, Elements::from_vec(callbacks))?),
+        details,
     })
 }
 
@@ -179,44 +187,94 @@ c0 callback open 7 TRY_AGAIN c0.5
 K1 n1* g3 u3 held c0.5 x VALID end 3 x6e6577
 ";
 
-#[test]
-fn each_kind_of_label_prints_its_lines(rt: HostRuntime) -> Result<(), Fail> {
-    let mut log = RunLog::new(rt.alloc());
-    add_plain(&mut log)?;
-    add_told(rt.alloc(), &mut log)?;
-    let out = printed(rt.alloc(), &log)?;
-    assert!(rt; out.as_slice() == LINES.as_bytes(), "the lines of the log");
+/// Whether the log prints these lines.
+fn prints(alloc: Global, log: &RunLog, lines: &str) -> Result<bool, AllocError> {
+    let out = printed(alloc, log)?;
+    Ok(out.as_slice() == lines.as_bytes())
+}
+
+/// A log gets each kind of label, and prints their lines.
+fn prints_each(rt: &impl Abort, alloc: Global, log: &mut RunLog) -> Result<(), AllocError> {
+    add_plain(log)?;
+    add_told(alloc, log)?;
+    met(rt, 1, prints(alloc, log, LINES));
     Ok(())
 }
 
 #[test]
-fn a_dispatch_is_printed_apart_from_its_callbacks(rt: HostRuntime) -> Result<(), Fail> {
+fn each_kind_of_label_prints_its_lines(rt: HostRuntime) -> Result<(), AllocError> {
     let mut log = RunLog::new(rt.alloc());
+    prints_each(&rt, rt.alloc(), &mut log)
+}
+
+/// Whether this is the own line of the first label of a log.
+fn prints_line(alloc: Global, log: &RunLog, line: &str) -> Result<bool, AllocError> {
+    if log.is_empty() {
+        return Ok(false);
+    }
+    let own = render_line(alloc, log.at(0), false)?;
+    Ok(own.as_slice() == line.as_bytes())
+}
+
+/// Whether these are the callbacks of the first label of a log.
+fn prints_callbacks(alloc: Global, log: &RunLog, lines: &str) -> Result<bool, AllocError> {
+    if log.is_empty() {
+        return Ok(false);
+    }
+    let callbacks = render_callbacks(alloc, log, 0)?;
+    Ok(callbacks.as_slice() == lines.as_bytes())
+}
+
+const CALLBACKS: &str = "\
+c0 callback sync 9 OK 1
+c0 callback open 100 OK K1
+c0 callback open 7 TRY_AGAIN c0.5
+";
+
+/// A log gets a dispatch, and prints it.
+fn prints_apart(rt: &impl Abort, alloc: Global, log: &mut RunLog) -> Result<(), AllocError> {
     log.reserve(1)?;
-    log.push(dispatched(rt.alloc())?);
-    let own = render_line(rt.alloc(), log.at(0), false)?;
-    assert_eq!(rt; own.as_slice(), b"c0.5 dispatch OK 3 0\n".as_slice());
-    let callbacks = render_callbacks(rt.alloc(), &log, 0)?;
-    assert_eq!(rt;
-        callbacks.as_slice(),
-        b"c0 callback sync 9 OK 1\nc0 callback open 100 OK K1\nc0 callback open 7 TRY_AGAIN c0.5\n".as_slice()
-    );
+    log.push(dispatched(alloc)?);
+    met(rt, 1, prints_line(alloc, log, "c0.5 dispatch OK 3 0\n"));
+    met(rt, 2, prints_callbacks(alloc, log, CALLBACKS));
     Ok(())
 }
 
 #[test]
-fn a_log_keeps_its_labels_in_order(rt: HostRuntime) -> Result<(), Fail> {
+fn a_dispatch_is_printed_apart_from_its_callbacks(rt: HostRuntime) -> Result<(), AllocError> {
     let mut log = RunLog::new(rt.alloc());
-    assert!(rt; log.is_empty());
+    prints_apart(&rt, rt.alloc(), &mut log)
+}
+
+/// Of three labels the last goes, and another comes.
+fn change_last(log: &mut RunLog) -> Result<(), AllocError> {
     log.reserve(3)?;
     log.push(Label::Nodes(2));
     log.push(Label::Failed(1, true));
     log.push(Label::Moved(5));
     log.cut(2);
     log.push(Label::Failed(0, false));
-    let out = printed(rt.alloc(), &log)?;
-    assert_eq!(rt; out.as_slice(), b"n1 fail OK\nn0 fail DOWN\n".as_slice());
-    assert_eq!(rt; log.len(), 3);
-    assert!(rt; matches!(log.at(2), Label::Failed(0, false)));
     Ok(())
+}
+
+/// Whether the third label of three is n0's failure, which was down.
+fn has_changed(log: &RunLog) -> bool {
+    if log.len() != 3 {
+        return false;
+    }
+    matches!(log.at(2), Label::Failed(0, false))
+}
+
+fn keeps_order(rt: &impl Abort, alloc: Global, log: &mut RunLog) -> Result<(), AllocError> {
+    holds(rt, 1, log.is_empty());
+    change_last(log)?;
+    met(rt, 2, prints(alloc, log, "n1 fail OK\nn0 fail DOWN\n"));
+    holds(rt, 3, has_changed(log));
+    Ok(())
+}
+
+#[test]
+fn a_log_keeps_its_labels_in_order(rt: HostRuntime) -> Result<(), AllocError> {
+    let mut log = RunLog::new(rt.alloc());
+    keeps_order(&rt, rt.alloc(), &mut log)
 }

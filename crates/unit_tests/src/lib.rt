@@ -16,6 +16,8 @@ mod names;
 #[cfg(test)]
 mod replicas;
 #[cfg(test)]
+mod rows;
+#[cfg(test)]
 mod scripts;
 #[cfg(test)]
 mod store;

@@ -5,6 +5,7 @@ ghost use Rattle.node_core.specs.Fitting.{TakesSnapshot};
 ghost use Rattle.stage_slot.specs.Slots.{IsOwnedBy};
 
 use crate::cluster::{ATTRIBUTES, open_as};
+use crate::rows::{holds, met};
 use ckpt_types::{
     ActorName, Answer, Bytes, CallId, CreationAttributes, IoElement, IoVector, Sections,
     SharedUpdate, Update, WR_ALL_REPLICAS,
@@ -17,7 +18,6 @@ use snap_copy::Snap;
 use stage_slot::Slot;
 use std::alloc::{AllocError, Global};
 use std::process::Abort;
-use std::test::Fail;
 use weak_marks::Marks;
 
 const ONE: CreationAttributes = CreationAttributes {
@@ -70,19 +70,21 @@ fn is_filled(slot: &Slot) -> bool {
     writes(staged.update.value(), b"ab")
 }
 
-/// A copy of the slot has the same staged.
-fn slot_is_copied(rt: &impl Abort, alloc: Global, slot: &Slot) -> Result<(), AllocError> {
+/// Whether a copy of the slot has the same staged.
+fn slot_is_copied(alloc: Global, slot: &Slot) -> Result<bool, AllocError> {
     let copy = slot.copy(alloc)?;
-    assert!(rt; is_filled(&copy));
-    Ok(())
+    Ok(is_filled(&copy))
+}
+
+fn slot_is_filled(rt: &impl Abort, alloc: Global, slot: &mut Slot) {
+    met(rt, 1, fills(slot, alloc));
+    met(rt, 2, slot_is_copied(alloc, slot));
 }
 
 #[test]
-fn a_copy_of_a_slot_has_what_is_staged_there(rt: HostRuntime) -> Result<(), Fail> {
+fn a_copy_of_a_slot_has_what_is_staged_there(rt: HostRuntime) {
     let mut slot = Slot::empty();
-    assert!(rt; fills(&mut slot, rt.alloc())?);
-    slot_is_copied(&rt, rt.alloc(), &slot)?;
-    Ok(())
+    slot_is_filled(&rt, rt.alloc(), &mut slot);
 }
 
 /// Begins a weak write of the call, on a replica of the third generation. Whether it is under way.
@@ -102,30 +104,32 @@ fn is_under_way(marks: &Marks) -> bool {
     marked.left() && writes(marked.update.value(), b"ab")
 }
 
-/// A copy of the marks is of the same write.
-fn marks_are_copied(rt: &impl Abort, alloc: Global, marks: &Marks) -> Result<(), AllocError> {
+/// Whether a copy of the marks is of the same write.
+fn marks_are_copied(alloc: Global, marks: &Marks) -> Result<bool, AllocError> {
     let copy = marks.copy(alloc)?;
-    assert!(rt; is_under_way(&copy));
-    Ok(())
+    Ok(is_under_way(&copy))
+}
+
+fn marks_are_made(rt: &impl Abort, alloc: Global, marks: &mut Marks) {
+    met(rt, 1, begins(marks, alloc));
+    met(rt, 2, marks_are_copied(alloc, marks));
 }
 
 #[test]
-fn a_copy_of_marks_is_of_the_same_write(rt: HostRuntime) -> Result<(), Fail> {
+fn a_copy_of_marks_is_of_the_same_write(rt: HostRuntime) {
     let mut marks = Marks::empty();
-    assert!(rt; begins(&mut marks, rt.alloc())?);
-    marks_are_copied(&rt, rt.alloc(), &marks)?;
-    Ok(())
+    marks_are_made(&rt, rt.alloc(), &mut marks);
 }
 
 /// Stages a write, where one update more can be counted. Whether it is staged.
 fn stages(replica: &mut Replica, alloc: Global, bytes: &[u8]) -> Result<bool, AllocError> {
-    let update = write(alloc, bytes)?;
     if replica.count() == u64::MAX {
         return Ok(false);
     }
     if replica.marks().kept().is_some() {
         return Ok(false);
     }
+    let update = write(alloc, bytes)?;
     Ok(replica.stage(FIRST, update, 5).is_ok())
 }
 
@@ -157,22 +161,30 @@ fn has_bytes(replica: &Replica, bytes: &[u8]) -> bool {
     store.at(0).bytes == bytes
 }
 
-/// A copy commits what the replica has staged, which stays staged there.
+/// Of two equal replicas one commits what is staged in both, which stays staged in the other.
+fn go_apart(rt: &impl Abort, replica: &Replica, copy: &mut Replica) {
+    holds(rt, 2, commits(copy, FIRST));
+    holds(rt, 3, has_bytes(copy, b"ab"));
+    holds(rt, 4, owns(replica, FIRST));
+    holds(rt, 5, has_bytes(replica, b""));
+}
+
 fn copy_goes_apart(rt: &impl Abort, alloc: Global, replica: &Replica) -> Result<(), AllocError> {
     let mut copy = replica.copy(alloc)?;
-    assert!(rt; commits(&mut copy, FIRST));
-    assert!(rt; has_bytes(&copy, b"ab"));
-    assert!(rt; owns(replica, FIRST));
-    assert!(rt; has_bytes(replica, b""));
+    go_apart(rt, replica, &mut copy);
     Ok(())
 }
 
+/// A replica stages a write, which a copy of it commits.
+fn stage_first(rt: &impl Abort, alloc: Global, replica: &mut Replica) -> Result<(), AllocError> {
+    met(rt, 1, stages(replica, alloc, b"ab"));
+    copy_goes_apart(rt, alloc, replica)
+}
+
 #[test]
-fn a_copy_of_a_replica_goes_its_own_way(rt: HostRuntime) -> Result<(), Fail> {
+fn a_copy_of_a_replica_goes_its_own_way(rt: HostRuntime) -> Result<(), AllocError> {
     let mut replica = Replica::reserve(rt.alloc(), 1, &ONE, 2)?;
-    assert!(rt; stages(&mut replica, rt.alloc(), b"ab")?);
-    copy_goes_apart(&rt, rt.alloc(), &replica)?;
-    Ok(())
+    stage_first(&rt, rt.alloc(), &mut replica)
 }
 
 /// Pulls the replica into the snapshot, where both are of the same attributes. Whether it is done.
@@ -205,26 +217,32 @@ fn installs(replica: &mut Replica, snap: &Snap) -> Option<bool> {
 }
 
 /// A replica is pulled after its first update.
+fn update_and_pull(rt: &impl Abort, alloc: Global, replica: &mut Replica, snap: &mut Snap) {
+    met(rt, 1, stages(replica, alloc, b"ab"));
+    holds(rt, 2, has_bytes(replica, b""));
+    holds(rt, 3, commits(replica, FIRST));
+    holds(rt, 4, has_bytes(replica, b"ab"));
+    holds(rt, 5, pulls(replica, snap));
+}
+
 fn give(rt: &impl Abort, alloc: Global, snap: &mut Snap) -> Result<(), AllocError> {
     let mut replica = Replica::reserve(alloc, 1, &ONE, 2)?;
-    assert!(rt; stages(&mut replica, alloc, b"ab")?);
-    assert!(rt; has_bytes(&replica, b""));
-    assert!(rt; commits(&mut replica, FIRST));
-    assert!(rt; has_bytes(&replica, b"ab"));
-    assert!(rt; pulls(&replica, snap));
+    update_and_pull(rt, alloc, &mut replica, snap);
     Ok(())
 }
 
-/// A replica without an update takes what the snapshot has, and takes it once.
+/// A replica takes what the snapshot has, and takes it once: then it is no older any more.
+fn take_once(rt: &impl Abort, replica: &mut Replica, snap: &Snap) {
+    holds(rt, 6, installs(replica, snap) == Some(true));
+    holds(rt, 7, has_bytes(replica, b"ab"));
+    holds(rt, 8, replica.count() == 1);
+    holds(rt, 9, installs(replica, snap) == Some(false));
+}
+
+/// A replica without an update takes over the snapshot.
 fn take_over(rt: &impl Abort, alloc: Global, snap: &Snap) -> Result<(), AllocError> {
     let mut replica = Replica::reserve(alloc, 1, &ONE, 7)?;
-    assert!(rt; installs(&mut replica, snap) == Some(true));
-    assert!(rt; has_bytes(&replica, b"ab"));
-    assert_eq!(rt; replica.count(), 1);
-    assert!(rt;
-        installs(&mut replica, snap) == Some(false),
-        "it is no older any more"
-    );
+    take_once(rt, &mut replica, snap);
     Ok(())
 }
 
@@ -234,56 +252,84 @@ fn copy_is_taken_over(rt: &impl Abort, alloc: Global, snap: &Snap) -> Result<(),
     take_over(rt, alloc, &copy)
 }
 
+/// A snapshot is filled, and brings what it has twice.
+fn brings(rt: &impl Abort, alloc: Global, snap: &mut Snap) -> Result<(), AllocError> {
+    give(rt, alloc, snap)?;
+    take_over(rt, alloc, snap)?;
+    copy_is_taken_over(rt, alloc, snap)
+}
+
 #[test]
-fn a_snapshot_brings_a_replica_what_another_had(rt: HostRuntime) -> Result<(), Fail> {
+fn a_snapshot_brings_a_replica_what_another_had(rt: HostRuntime) -> Result<(), AllocError> {
     let mut snap = Snap::reserve(rt.alloc(), &ONE)?;
-    give(&rt, rt.alloc(), &mut snap)?;
-    take_over(&rt, rt.alloc(), &snap)?;
-    copy_is_taken_over(&rt, rt.alloc(), &snap)?;
-    Ok(())
+    brings(&rt, rt.alloc(), &mut snap)
 }
 
-/// Adds a replica of the first checkpoint, of the first generation, where that may come. Whether it is added.
-fn adds(node: &mut Node, alloc: Global, seen: &Record) -> Result<bool, AllocError> {
-    let mut lent = Lent::nothing();
+/// Adds a replica of the first checkpoint, of the first generation. Whether that may come, and is done.
+fn adds(node: &mut Node, alloc: Global, seen: &Record, lent: &mut Lent) -> bool {
     let change = NodeChange::Add(1, 1);
-    if !node.change_fits(seen, &change, &lent) {
-        return Ok(false);
+    if !node.change_fits(seen, &change, lent) {
+        return false;
     }
-    node.change(alloc, seen, &change, &mut lent)?;
-    Ok(true)
+    node.change(alloc, seen, &change, lent).is_ok()
 }
 
-/// Reserves a replica of the first checkpoint, where that may come. Whether it is reserved.
-fn reserves(node: &mut Node, alloc: Global, seen: &Record) -> Result<bool, AllocError> {
-    let mut lent = Lent::nothing();
+/// Reserves a replica of the first checkpoint. Whether that may come, and is done.
+fn reserves(node: &mut Node, alloc: Global, seen: &Record, lent: &mut Lent) -> bool {
     let request = Request::Reserve(1);
-    if !node.fits(seen, &request, &lent) {
-        return Ok(false);
+    if !node.fits(seen, &request, lent) {
+        return false;
     }
-    match node.serve(alloc, seen, &request, &mut lent) {
-        Reply::Done(Answer::Nothing) => Ok(true),
-        _ => Ok(false),
+    let reply = node.serve(alloc, seen, &request, lent);
+    matches!(reply, Reply::Done(Answer::Nothing))
+}
+
+/// How a node gets a replica.
+#[derive(Clone, Copy)]
+enum Way {
+    Added,
+    Reserved,
+}
+
+fn takes_so(way: Way, node: &mut Node, alloc: Global, seen: &Record, lent: &mut Lent) -> bool {
+    match way {
+        Way::Added => adds(node, alloc, seen, lent),
+        Way::Reserved => reserves(node, alloc, seen, lent),
     }
 }
 
-/// Nodes get a replica of what the record has: n0 adds it, and n1 reserves it.
-fn nodes_take(rt: &impl Abort, alloc: Global, seen: &Record) -> Result<(), AllocError> {
-    let mut first = Node::new(alloc, 0)?;
-    assert!(rt; adds(&mut first, alloc, seen)?);
-    assert!(rt; first.replica(1).is_some());
-    let mut second = Node::new(alloc, 1)?;
-    assert!(rt; reserves(&mut second, alloc, seen)?);
-    assert!(rt; second.replica(1).is_some());
+/// Whether the node gets a replica of the first checkpoint, with nothing lent.
+fn takes(way: Way, node: &mut Node, alloc: Global, seen: &Record) -> bool {
+    let mut lent = Lent::nothing();
+    takes_so(way, node, alloc, seen, &mut lent)
+}
+
+/// Whether the node gets one, and has it then.
+fn has_taken(way: Way, node: &mut Node, alloc: Global, seen: &Record) -> bool {
+    if !takes(way, node, alloc, seen) {
+        return false;
+    }
+    node.replica(1).is_some()
+}
+
+/// Whether a node of that number gets a replica so.
+fn one_takes(number: u8, way: Way, alloc: Global, seen: &Record) -> Result<bool, AllocError> {
+    let mut node = Node::new(alloc, number)?;
+    Ok(has_taken(way, &mut node, alloc, seen))
+}
+
+/// n0 adds a replica of what the record makes, and n1 reserves one.
+fn nodes_take(rt: &impl Abort, alloc: Global, seen: &mut Record) -> Result<(), AllocError> {
+    open_as(seen, alloc, 3, b"a", Some(ATTRIBUTES))?;
+    met(rt, 1, one_takes(0, Way::Added, alloc, seen));
+    met(rt, 2, one_takes(1, Way::Reserved, alloc, seen));
     Ok(())
 }
 
 #[test]
-fn a_node_makes_room_for_what_the_record_has(rt: HostRuntime) -> Result<(), Fail> {
+fn a_node_makes_room_for_what_the_record_has(rt: HostRuntime) -> Result<(), AllocError> {
     let mut seen = Record::new(rt.alloc(), 2)?;
-    open_as(&mut seen, rt.alloc(), 3, b"a", Some(ATTRIBUTES))?;
-    nodes_take(&rt, rt.alloc(), &seen)?;
-    Ok(())
+    nodes_take(&rt, rt.alloc(), &mut seen)
 }
 
 /// Whether the node has a replica of the first checkpoint, as it was made.
@@ -294,23 +340,27 @@ fn has_opened(node: &Node) -> bool {
     }
 }
 
-/// A copy of the node has its replica.
-fn node_is_copied(rt: &impl Abort, alloc: Global, node: &Node) -> Result<(), AllocError> {
+/// Whether a copy of the node has its replica.
+fn node_is_copied(alloc: Global, node: &Node) -> Result<bool, AllocError> {
     let copy = node.copy(alloc)?;
-    assert!(rt; has_opened(&copy));
-    Ok(())
+    Ok(has_opened(&copy))
 }
 
-fn node_takes_one(rt: &impl Abort, alloc: Global, seen: &Record) -> Result<(), AllocError> {
+fn node_has_one(rt: &impl Abort, alloc: Global, node: &mut Node, seen: &Record) {
+    holds(rt, 1, takes(Way::Added, node, alloc, seen));
+    met(rt, 2, node_is_copied(alloc, node));
+}
+
+/// A node gets a replica of what the record makes.
+fn node_takes_one(rt: &impl Abort, alloc: Global, seen: &mut Record) -> Result<(), AllocError> {
+    open_as(seen, alloc, 3, b"a", Some(ATTRIBUTES))?;
     let mut node = Node::new(alloc, 0)?;
-    assert!(rt; adds(&mut node, alloc, seen)?);
-    node_is_copied(rt, alloc, &node)
+    node_has_one(rt, alloc, &mut node, seen);
+    Ok(())
 }
 
 #[test]
-fn a_copy_of_a_node_has_its_replica(rt: HostRuntime) -> Result<(), Fail> {
+fn a_copy_of_a_node_has_its_replica(rt: HostRuntime) -> Result<(), AllocError> {
     let mut seen = Record::new(rt.alloc(), 2)?;
-    open_as(&mut seen, rt.alloc(), 3, b"a", Some(ATTRIBUTES))?;
-    node_takes_one(&rt, rt.alloc(), &seen)?;
-    Ok(())
+    node_takes_one(&rt, rt.alloc(), &mut seen)
 }

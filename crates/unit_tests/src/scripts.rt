@@ -1,9 +1,9 @@
 //! A script with each form of line is read, printed and read again, each reason is told once, and the limits hold that
 //! want a long script. What is read of every other script stands in ScriptRows of script_lang.
+use crate::rows::{holds, met};
 use ckpt_types::{Bytes, SCRIPT_BYTES_MAX};
 use script_lang::{ParseError, parse, print};
 use std::alloc::{AllocError, Global};
-use std::test::Fail;
 
 /// Each form of line that is built, in mixed spelling.
 const SCRIPT: &str = "\
@@ -118,15 +118,18 @@ fn spelled(alloc: Global, script: &[u8]) -> Result<Bytes, ParseError> {
     }
 }
 
-#[test]
-fn each_form_is_read_and_printed_and_read_again(rt: HostRuntime) -> Result<(), Fail> {
-    for text in [SCRIPT, SPELLING] {
-        let Ok(found) = spelled(rt.alloc(), text.as_bytes()) else {
-            return Err(Fail::new("this is a script, and there is memory"));
-        };
-        assert!(rt; found.as_slice() == SPELLING.as_bytes(), "another spelling");
+/// Whether a text is a script of that spelling, and there is memory for it.
+fn is_spelled(alloc: Global, text: &str) -> bool {
+    match spelled(alloc, text.as_bytes()) {
+        Ok(found) => found.as_slice() == SPELLING.as_bytes(),
+        Err(_refused) => false,
     }
-    Ok(())
+}
+
+#[test]
+fn each_form_is_read_and_printed_and_read_again(rt: HostRuntime) {
+    holds(&rt, 1, is_spelled(rt.alloc(), SCRIPT));
+    holds(&rt, 2, is_spelled(rt.alloc(), SPELLING));
 }
 
 /// Adds a text to a script, so many times.
@@ -157,6 +160,24 @@ fn told(alloc: Global, script: &[u8]) -> Result<String, AllocError> {
     }
 }
 
+/// Whether this is told of a script.
+fn is_told(alloc: Global, script: &[u8], want: &str) -> Result<bool, AllocError> {
+    let told = told(alloc, script)?;
+    Ok(told.as_str() == want)
+}
+
+/// Whether this is told of a script that goes on with a text so many times.
+fn goes_on(
+    alloc: Global,
+    script: &mut Vec<u8>,
+    text: &str,
+    count: usize,
+    want: &str,
+) -> Result<bool, AllocError> {
+    add(script, text, count)?;
+    is_told(alloc, script, want)
+}
+
 /// Whether this is told of a script of one node that goes on with a text so many times.
 fn is_told_of_many(
     alloc: Global,
@@ -165,35 +186,52 @@ fn is_told_of_many(
     want: &str,
 ) -> Result<bool, AllocError> {
     let mut script = Vec::from_slice(alloc, b"nodes 1\n")?;
-    add(&mut script, text, count)?;
-    Ok(told(alloc, &script)?.as_str() == want)
+    goes_on(alloc, &mut script, text, count, want)
 }
 
 #[test]
-fn each_reason_is_told_of_its_line(rt: HostRuntime) -> Result<(), Fail> {
+fn each_reason_is_told_of_its_line(rt: HostRuntime) {
     let alloc = rt.alloc();
-    assert!(rt; is_told_of_many(alloc, "foo", 1, "2 word")?);
-    assert!(rt; is_told_of_many(alloc, "client c0 n0 B.2", 1, "2 count")?);
-    assert!(rt; is_told_of_many(alloc, "step c0 0", 1, "2 number")?);
-    assert!(rt; is_told_of_many(alloc, "unlink c0 ck", 1, "2 bytes")?);
-    assert!(rt; is_told_of_many(alloc, "nodes 1", 1, "2 nodes")?);
-    assert!(rt; is_told_of_many(alloc, "at 5\nat 4\n", 1, "3 moment")?);
-    assert!(rt; is_told_of_many(alloc, "read c0 h0 x 0 16777217", 1, "2 reads")?);
-    assert!(rt; is_told_of_many(alloc, "show K1\n", 17, "18 shows")?);
-    assert!(rt; is_told_of_many(alloc, "race", 1, "2 not built")?);
-    Ok(())
+    met(&rt, 1, is_told_of_many(alloc, "foo", 1, "2 word"));
+    met(
+        &rt,
+        2,
+        is_told_of_many(alloc, "client c0 n0 B.2", 1, "2 count"),
+    );
+    met(&rt, 3, is_told_of_many(alloc, "step c0 0", 1, "2 number"));
+    met(&rt, 4, is_told_of_many(alloc, "unlink c0 ck", 1, "2 bytes"));
+    met(&rt, 5, is_told_of_many(alloc, "nodes 1", 1, "2 nodes"));
+    met(
+        &rt,
+        6,
+        is_told_of_many(alloc, "at 5\nat 4\n", 1, "3 moment"),
+    );
+    met(
+        &rt,
+        7,
+        is_told_of_many(alloc, "read c0 h0 x 0 16777217", 1, "2 reads"),
+    );
+    met(&rt, 8, is_told_of_many(alloc, "show K1\n", 17, "18 shows"));
+    met(&rt, 9, is_told_of_many(alloc, "race", 1, "2 not built"));
 }
 
 #[test]
-fn a_script_has_10000_lines_and_262144_bytes_at_most(rt: HostRuntime) -> Result<(), Fail> {
+fn a_script_has_10000_lines_and_262144_bytes_at_most(rt: HostRuntime) {
     let alloc = rt.alloc();
     let read = "read c0 h0 x 0 1\n";
-    assert!(rt; is_told_of_many(alloc, read, 9_999, "ok 10000")?);
-    assert!(rt; is_told_of_many(alloc, read, 10_000, "10001 lines")?);
-    assert!(rt; is_told_of_many(alloc, "\n", 9_999, "ok 1")?);
-    assert!(rt; is_told_of_many(alloc, "\n", 10_000, "10001 lines")?);
-    assert!(rt; is_told_of_many(alloc, "#\n", 12_000, "10001 lines")?);
-    assert!(rt; is_told_of_many(alloc, "#", SCRIPT_BYTES_MAX - 8, "ok 1")?);
-    assert!(rt; is_told_of_many(alloc, "#", SCRIPT_BYTES_MAX - 7, "0 length")?);
-    Ok(())
+    met(&rt, 1, is_told_of_many(alloc, read, 9_999, "ok 10000"));
+    met(&rt, 2, is_told_of_many(alloc, read, 10_000, "10001 lines"));
+    met(&rt, 3, is_told_of_many(alloc, "\n", 9_999, "ok 1"));
+    met(&rt, 4, is_told_of_many(alloc, "\n", 10_000, "10001 lines"));
+    met(&rt, 5, is_told_of_many(alloc, "#\n", 12_000, "10001 lines"));
+    met(
+        &rt,
+        6,
+        is_told_of_many(alloc, "#", SCRIPT_BYTES_MAX - 8, "ok 1"),
+    );
+    met(
+        &rt,
+        7,
+        is_told_of_many(alloc, "#", SCRIPT_BYTES_MAX - 7, "0 length"),
+    );
 }

@@ -1,4 +1,5 @@
 //! A store where memory is there, and at it what is generic over sections: the checks, and an iteration.
+use crate::rows::{holds, met};
 use ckpt_types::{
     AisError, Bytes, Choice, CreationAttributes, Moment, NEVER, NewId, ReadBuf, ReadElement,
     SECTIONS_ANY, Sections, Update, WR_ALL_REPLICAS,
@@ -7,7 +8,6 @@ use section_iter::{Iteration, NoSections, Room};
 use section_store::Store;
 use std::alloc::{AllocError, Global};
 use std::process::Abort;
-use std::test::Fail;
 use update_rules::{check, check_read};
 
 /// Two sections of at most 4 bytes.
@@ -35,77 +35,132 @@ fn make(store: &mut Store, update: &Update, now: Moment) -> Result<(), AisError>
     Ok(())
 }
 
-/// Creates a section, under an identifier that the service makes.
+/// Whether the creation of a section, under an identifier that the service makes, ends so.
 fn creates(
     store: &mut Store,
     alloc: Global,
     expiration: Moment,
     bytes: &[u8],
     now: Moment,
-) -> Result<Result<(), AisError>, AllocError> {
+    end: Result<(), AisError>,
+) -> Result<bool, AllocError> {
     let bytes = Bytes::from_slice(alloc, bytes)?;
     let update = Update::Create(NewId::Generated, expiration, bytes);
-    Ok(make(store, &update, now))
+    Ok(make(store, &update, now) == end)
 }
 
-/// Whether a read of two bytes of the second section gives these; nothing where the read is refused.
-fn gives(
+/// Whether one piece is in the buffer, of these bytes.
+fn has(out: &ReadBuf, bytes: &[u8]) -> bool {
+    if out.len() != 1 {
+        return false;
+    }
+    out.piece(0) == bytes
+}
+
+/// Whether a read of the element gives these bytes.
+fn gives_bytes(
     store: &Store,
     alloc: Global,
-    offset: u64,
+    elements: &[ReadElement; 1],
     bytes: &[u8],
     now: Moment,
-) -> Result<Option<bool>, AllocError> {
-    let elements = [ReadElement {
-        id: Bytes::from_slice(alloc, &numbered(2))?,
-        offset,
-        len: 2,
-    }];
-    let mut out = ReadBuf::reserve(alloc, 1, 8)?;
-    if check_read(store, &elements, now).is_err() {
-        return Ok(None);
+) -> Result<bool, AllocError> {
+    if elements[0].len > 8 || check_read(store, elements, now).is_err() {
+        return Ok(false);
     }
-    store.read_into(&elements, now, &mut out);
-    Ok(Some(out.len() == 1 && out.piece(0) == bytes))
+    let mut out = ReadBuf::reserve(alloc, 1, 8)?;
+    store.read_into(elements, now, &mut out);
+    Ok(has(&out, bytes))
 }
 
-/// The store has two sections: the first of all, and one of these bytes.
-fn has_two(rt: &impl Abort, store: &Store, bytes: &[u8]) {
-    assert_eq!(rt; store.len(), 2);
-    assert_eq!(rt; store.at(0).bytes, b"abcd".as_slice());
-    assert_eq!(rt; store.at(1).bytes, bytes);
-    assert_eq!(rt; store.at(1).id.as_slice(), numbered(2).as_slice());
+/// The element of a read of the last two bytes of the second section.
+fn last_two(alloc: Global) -> Result<[ReadElement; 1], AllocError> {
+    let id = Bytes::from_slice(alloc, &numbered(2))?;
+    Ok([ReadElement {
+        id,
+        offset: 2,
+        len: 2,
+    }])
 }
 
-/// A third section takes the place of what has expired, and none in a copy.
+/// Whether a read of these two bytes gives that.
+fn gives(store: &Store, alloc: Global, bytes: &[u8], now: Moment) -> Result<bool, AllocError> {
+    let elements = last_two(alloc)?;
+    gives_bytes(store, alloc, &elements, bytes, now)
+}
+
+/// Whether it is refused.
+fn refuses(store: &Store, alloc: Global, now: Moment) -> Result<bool, AllocError> {
+    let elements = last_two(alloc)?;
+    Ok(check_read(store, &elements, now).is_err())
+}
+
+/// Whether the store has two sections: the first of all, and one of these bytes.
+fn has_two(store: &Store, bytes: &[u8]) -> bool {
+    if store.len() != 2 {
+        return false;
+    }
+    if store.at(0).bytes != b"abcd".as_slice() {
+        return false;
+    }
+    let second = store.at(1);
+    second.bytes == bytes && second.id.as_slice() == numbered(2).as_slice()
+}
+
+/// A third section takes the place of what has expired.
+fn add_third(rt: &impl Abort, alloc: Global, store: &mut Store) {
+    met(
+        rt,
+        5,
+        creates(store, alloc, NEVER, b"ijkl", 9, Err(AisError::NoSpace)),
+    );
+    met(rt, 6, creates(store, alloc, NEVER, b"ijkl", 10, Ok(())));
+    holds(rt, 7, has_two(store, b"ijkl"));
+    met(rt, 8, gives(store, alloc, b"kl", 10));
+}
+
+/// In a copy it takes none, where what has expired is not read.
+fn copy_stays(rt: &impl Abort, alloc: Global, copy: &Store) {
+    holds(rt, 9, has_two(copy, b"efgh"));
+    met(rt, 10, gives(copy, alloc, b"gh", 9));
+    met(rt, 11, refuses(copy, alloc, 10));
+}
+
+fn go_apart(rt: &impl Abort, alloc: Global, store: &mut Store, copy: &Store) {
+    add_third(rt, alloc, store);
+    copy_stays(rt, alloc, copy);
+}
+
 fn makes_room(rt: &impl Abort, alloc: Global, store: &mut Store) -> Result<(), AllocError> {
     let copy = store.copy(alloc)?;
-    let refused = creates(store, alloc, NEVER, b"ijkl", 9)?;
-    assert_eq!(rt; refused, Err(AisError::NoSpace));
-    assert!(rt; creates(store, alloc, NEVER, b"ijkl", 10)?.is_ok());
-    has_two(rt, store, b"ijkl");
-    has_two(rt, &copy, b"efgh");
-    assert!(rt; gives(store, alloc, 2, b"kl", 10)? == Some(true));
-    assert!(rt; gives(&copy, alloc, 2, b"gh", 9)? == Some(true));
-    assert!(rt;
-        gives(&copy, alloc, 2, b"gh", 10)?.is_none(),
-        "it has expired"
-    );
+    go_apart(rt, alloc, store, &copy);
     Ok(())
+}
+
+/// Fills a store by two sections, of which the second expires.
+fn fill(rt: &impl Abort, alloc: Global, store: &mut Store) {
+    met(rt, 1, creates(store, alloc, NEVER, b"abcd", 6, Ok(())));
+    met(rt, 2, creates(store, alloc, 10, b"efgh", 6, Ok(())));
+}
+
+/// Whether a status tells so many sections and bytes.
+fn counts(store: &Store, now: Moment, sections: u32, bytes: u64) -> bool {
+    let status = store.descriptor(now);
+    status.number_of_sections == sections && status.memory_used == bytes
+}
+
+/// A store is full, and has room once a section has expired.
+fn expires(rt: &impl Abort, alloc: Global, store: &mut Store) -> Result<(), AllocError> {
+    fill(rt, alloc, store);
+    holds(rt, 3, counts(store, 9, 2, 8));
+    holds(rt, 4, counts(store, 10, 1, 4));
+    makes_room(rt, alloc, store)
 }
 
 #[test]
-fn what_has_expired_makes_room_in_a_full_store(rt: HostRuntime) -> Result<(), Fail> {
-    let alloc = rt.alloc();
-    let mut store = Store::reserve(alloc, &TWO, 5)?;
-    assert!(rt; creates(&mut store, alloc, NEVER, b"abcd", 6)?.is_ok());
-    assert!(rt; creates(&mut store, alloc, 10, b"efgh", 6)?.is_ok());
-    let full = store.descriptor(9);
-    assert_eq!(rt; (full.number_of_sections, full.memory_used), (2, 8));
-    let half = store.descriptor(10);
-    assert_eq!(rt; (half.number_of_sections, half.memory_used), (1, 4));
-    makes_room(&rt, alloc, &mut store)?;
-    Ok(())
+fn what_has_expired_makes_room_in_a_full_store(rt: HostRuntime) -> Result<(), AllocError> {
+    let mut store = Store::reserve(rt.alloc(), &TWO, 5)?;
+    expires(&rt, rt.alloc(), &mut store)
 }
 
 /// Begins an iteration over all sections of a store. Whether it has room for what that declares.
@@ -131,35 +186,43 @@ fn gives_next(it: &mut Iteration, store: &Store, number: u8, now: Moment) -> boo
     }
 }
 
+/// Whether an iteration gives none any more.
+fn is_at_end(it: &mut Iteration, store: &Store, now: Moment) -> bool {
+    it.next(store, now).is_err()
+}
+
 /// An iteration that has given the first of two sections goes on, and a copy of it too.
+fn both_go_on(rt: &impl Abort, it: &mut Iteration, again: &mut Iteration, store: &Store) {
+    holds(rt, 6, gives_next(it, store, 2, 9));
+    holds(rt, 7, is_at_end(it, store, 9));
+    holds(rt, 8, is_at_end(again, store, 10));
+    holds(rt, 9, gives_next(again, store, 2, 9));
+}
+
+/// An iteration has room for two sections, and gives them.
 fn goes_on(
     rt: &impl Abort,
     alloc: Global,
     it: &mut Iteration,
     store: &Store,
 ) -> Result<(), AllocError> {
+    holds(rt, 3, it.room() == Room { ids: 2, id_size: 8 });
+    holds(rt, 4, begins(it, store, 9));
+    holds(rt, 5, gives_next(it, store, 1, 9));
     let mut again = it.copy(alloc)?;
-    assert!(rt; gives_next(it, store, 2, 9));
-    assert_eq!(rt; it.next(store, 9), Err(NoSections));
-    assert_eq!(rt; again.next(store, 10), Err(NoSections));
-    assert!(rt; gives_next(&mut again, store, 2, 9));
+    both_go_on(rt, it, &mut again, store);
     Ok(())
 }
 
-fn iterates(rt: &impl Abort, alloc: Global, store: &Store) -> Result<(), AllocError> {
+/// A store of two sections is gone through.
+fn iterates(rt: &impl Abort, alloc: Global, store: &mut Store) -> Result<(), AllocError> {
+    fill(rt, alloc, store);
     let mut it = Iteration::reserve(alloc, &TWO)?;
-    assert_eq!(rt; it.room(), Room { ids: 2, id_size: 8 });
-    assert!(rt; begins(&mut it, store, 9));
-    assert!(rt; gives_next(&mut it, store, 1, 9));
     goes_on(rt, alloc, &mut it, store)
 }
 
 #[test]
-fn an_iteration_gives_what_it_has_chosen(rt: HostRuntime) -> Result<(), Fail> {
-    let alloc = rt.alloc();
-    let mut store = Store::reserve(alloc, &TWO, 5)?;
-    assert!(rt; creates(&mut store, alloc, NEVER, b"abcd", 6)?.is_ok());
-    assert!(rt; creates(&mut store, alloc, 10, b"efgh", 6)?.is_ok());
-    iterates(&rt, alloc, &store)?;
-    Ok(())
+fn an_iteration_gives_what_it_has_chosen(rt: HostRuntime) -> Result<(), AllocError> {
+    let mut store = Store::reserve(rt.alloc(), &TWO, 5)?;
+    iterates(&rt, rt.alloc(), &mut store)
 }

@@ -1,4 +1,5 @@
 //! A word of each class is read and written. What every other word says stands in WordRows of script_words.
+use crate::rows::holds;
 use ckpt_types::{ActorName, Bytes, CallId, CallbackSet, NEVER, NewId, Version, Who};
 use script_words::{
     LineError, bytes, callbacks, ckpt, client, id, iteration, moment, new_id, node, number, place,
@@ -7,6 +8,7 @@ use script_words::{
     write_version, write_who,
 };
 use std::alloc::{AllocError, Global};
+use std::process::Abort;
 
 const B_2_10: Version = Version {
     release: b'B',
@@ -35,50 +37,79 @@ fn said(alloc: Global) -> Result<Vec<u8>, LineError> {
     Ok(out)
 }
 
+/// Words that name something.
+fn names_are_read(rt: &impl Abort) {
+    holds(rt, 1, client(b"c99") == Ok(99));
+    holds(rt, 2, node(b"n7") == Ok(7));
+    holds(rt, 3, place(b"h99") == Ok(99));
+    holds(rt, 4, iteration(b"i99") == Ok(99));
+    holds(rt, 5, ckpt(b"K9999") == Ok(9999));
+}
+
+/// Words that say a number or more.
+fn values_are_read(rt: &impl Abort) {
+    holds(rt, 6, number(0, 9, b"9") == Ok(9));
+    holds(rt, 7, time(b"-1") == Ok(-1));
+    holds(rt, 8, moment(b"0") == Ok(0));
+    holds(rt, 9, version(b"B.2.10") == Ok(B_2_10));
+    holds(rt, 10, callbacks(b"sync") == Ok(SYNC));
+    holds(rt, 11, who(b"c0.5") == Ok(C0_5));
+}
+
+/// Whether the bytes are read, and there is memory for them.
+fn bytes_are_read(alloc: Global) -> bool {
+    match said(alloc) {
+        Ok(out) => out.as_slice() == b"\xff\x0a~'x\x0f\xa0".as_slice(),
+        Err(_refused) => false,
+    }
+}
+
 #[test]
 fn a_word_of_each_class_is_read(rt: HostRuntime) {
-    assert!(rt; client(b"c99") == Ok(99));
-    assert!(rt; node(b"n7") == Ok(7));
-    assert!(rt; place(b"h99") == Ok(99));
-    assert!(rt; iteration(b"i99") == Ok(99));
-    assert!(rt; ckpt(b"K9999") == Ok(9999));
-    assert!(rt; number(0, 9, b"9") == Ok(9));
-    assert!(rt; time(b"-1") == Ok(-1));
-    assert!(rt; moment(b"0") == Ok(0));
-    assert!(rt; version(b"B.2.10") == Ok(B_2_10));
-    assert!(rt; callbacks(b"sync") == Ok(SYNC));
-    assert!(rt; who(b"c0.5") == Ok(C0_5));
-    let Ok(out) = said(rt.alloc()) else {
-        panic!(rt; "these are bytes, and there is memory")
-    };
-    assert!(rt; out.as_slice() == b"\xff\x0a~'x\x0f\xa0".as_slice());
+    names_are_read(&rt);
+    values_are_read(&rt);
+    holds(&rt, 12, bytes_are_read(rt.alloc()));
 }
 
-/// A word of each class, as it is written.
-fn written(alloc: Global) -> Result<Vec<u8>, AllocError> {
-    let mut out = Vec::new(alloc);
-    write_client(&mut out, 9)?;
-    write_node(&mut out, 7)?;
-    write_place(&mut out, 8)?;
-    write_iteration(&mut out, 1)?;
-    write_ckpt(&mut out, 9999)?;
-    write_number(&mut out, 70)?;
-    write_bytes(alloc, &mut out, &[0, 171, 255])?;
-    write_id(alloc, &mut out, &Bytes::default())?;
-    write_new_id(alloc, &mut out, &NewId::Generated)?;
-    write_time(&mut out, NEVER)?;
-    write_time(&mut out, -7)?;
-    write_version(&mut out, B_2_10)?;
-    write_callbacks(&mut out, SYNC)?;
-    write_who(&mut out, C0_5)?;
-    Ok(out)
+/// Writes a word of each class that names something.
+fn write_names(out: &mut Vec<u8>) -> Result<(), AllocError> {
+    write_client(out, 9)?;
+    write_node(out, 7)?;
+    write_place(out, 8)?;
+    write_iteration(out, 1)?;
+    write_ckpt(out, 9999)
 }
+
+/// Writes a number, and a word of each class that says bytes.
+fn write_texts(alloc: Global, out: &mut Vec<u8>) -> Result<(), AllocError> {
+    write_number(out, 70)?;
+    write_bytes(alloc, out, &[0, 171, 255])?;
+    write_id(alloc, out, &Bytes::default())?;
+    write_new_id(alloc, out, &NewId::Generated)
+}
+
+/// Writes the words of the other classes.
+fn write_others(out: &mut Vec<u8>) -> Result<(), AllocError> {
+    write_time(out, NEVER)?;
+    write_time(out, -7)?;
+    write_version(out, B_2_10)?;
+    write_callbacks(out, SYNC)?;
+    write_who(out, C0_5)
+}
+
+/// Writes a word of each class.
+fn write_each(alloc: Global, out: &mut Vec<u8>) -> Result<(), AllocError> {
+    write_names(out)?;
+    write_texts(alloc, out)?;
+    write_others(out)
+}
+
+const WRITTEN: &[u8] = b" c9 n7 h8 i1 K9999 70 x00abff x gen end -7 B.2.10 sync c0.5";
 
 #[test]
-fn words_have_one_spelling(rt: HostRuntime) {
-    let Ok(out) = written(rt.alloc()) else {
-        panic!(rt; "there is memory")
-    };
-    let text = b" c9 n7 h8 i1 K9999 70 x00abff x gen end -7 B.2.10 sync c0.5".as_slice();
-    assert!(rt; out.as_slice() == text);
+fn words_have_one_spelling(rt: HostRuntime) -> Result<(), AllocError> {
+    let mut out = Vec::new(rt.alloc());
+    write_each(rt.alloc(), &mut out)?;
+    holds(&rt, 1, out.as_slice() == WRITTEN);
+    Ok(())
 }
