@@ -1,5 +1,5 @@
 //! The reader of each class of words.
-ghost use Rattle.std.specs.Prelude.{◌≡◌, ◌<◌, ◌≤◌, ◌^◌, [], ◌∷◌, Ok, Some, None, IfOk, IfSome, IfNone, length, ◌==◌, bytes_eq, codes, not, ◌&&◌};
+ghost use Rattle.std.specs.Prelude.{◌≡◌, ◌<◌, ◌≤◌, ◌^◌, [], ◌∷◌, Ok, Some, None, IfOk, IfSome, IfNone, length, ◌==◌, bytes_eq, codes, not, ◌&&◌, pos, neg_ℤ};
 ghost use Rattle.std.specs.List.{list_all, position_or_len, before_first, after_first};
 ghost use Rattle.std.specs.Str.Parse.{AllDigits, digits_value};
 ghost use Rattle.script_words.specs.Reasons.{Reads};
@@ -94,11 +94,13 @@ pub fn number(low: u64, high: u64, word: &[u8]) -> Result<u64, LineError>
 pub fn time(word: &[u8]) -> Result<Moment, LineError>
     ensures { Reads result (read_word a_time word.now) }
 {
+    if is_end(word) {
+        return Ok(NEVER);
+    }
     match word {
         [] => Err(LineError::Fault(Reason::Number)),
-        b"end" => Ok(NEVER),
         [b'-', rest @ ..] => match number_of(1, 9_223_372_036_854_775_808, rest) {
-            Some(n) => Ok(-((n - 1) as i64) - 1),
+            Some(n) => Ok(below_zero(n)),
             None => Err(LineError::Fault(Reason::Number)),
         },
         _ => match number_of(0, NEVER as u64, word) {
@@ -106,6 +108,26 @@ pub fn time(word: &[u8]) -> Result<Moment, LineError>
             None => Err(LineError::Fault(Reason::Number)),
         },
     }
+}
+
+// Whether the word says the end of time.
+#[inline(always)]
+fn is_end(word: &[u8]) -> bool
+    ensures { result ≡ bytes_eq word.now (codes "end") }
+{
+    match word {
+        b"end" => true,
+        _ => false,
+    }
+}
+
+// The time that lies so far below 0.
+#[inline(always)]
+fn below_zero(n: u64) -> Moment
+    requires { (1 ≤ n) × (n ≤ 2 ^ 63) }
+    ensures { result ≡ neg_ℤ (pos n) }
+{
+    -((n - 1) as i64) - 1
 }
 
 /// A moment, from 0 on and before the end of time.
