@@ -1,8 +1,10 @@
 //! How each line is spelled.
-ghost use Rattle.std.specs.Prelude.{◌≡◌, ◌++◌, OnOk};
+ghost use Rattle.std.specs.Prelude.{◌≡◌, ◌++◌, ◌∷◌, [], OnOk};
 ghost use Rattle.ckpt_types.specs.declared.identities.ActorName.TheVariants as actors;
 ghost use Rattle.script_lines.specs.declared.lines.Line.TheVariants as said;
-ghost use Rattle.script_lines.specs.Spelling.{line_text, written_line};
+ghost use Rattle.script_words.specs.Spelling.{spell};
+ghost use Rattle.script_words.specs.Words.{a_ckpt, a_node};
+ghost use Rattle.script_lines.specs.Spelling.{line_text, with_spaces, written_line};
 
 use crate::call_printing::write_call;
 use crate::lines::Line;
@@ -27,14 +29,14 @@ fn write_words(alloc: Global, out: &mut Vec<u8>, line: &Line) -> Result<(), Allo
         Line::Begin(actor, op) => begin_line(alloc, out, *actor, op),
         Line::Step(who, steps) => step_line(out, *who, *steps),
         Line::Finish(who) => finish_line(out, *who),
-        Line::Copy(node) => copy_line(out, *node),
-        Line::Fail(node) => fail_line(out, *node),
-        Line::Join(node) => join_line(out, *node),
+        Line::Copy(node) => node_line(out, b"copy", *node),
+        Line::Fail(node) => node_line(out, b"fail", *node),
+        Line::Join(node) => node_line(out, b"join", *node),
         Line::At(moment) => at_line(out, *moment),
-        Line::Pull(ckpt) => pull_line(out, *ckpt),
+        Line::Pull(ckpt) => ckpt_line(out, b"pull", *ckpt),
         Line::Put(ckpt, node) => put_line(out, *ckpt, *node),
-        Line::Propagate(ckpt) => propagate_line(out, *ckpt),
-        Line::Show(ckpt) => show_line(out, *ckpt),
+        Line::Propagate(ckpt) => ckpt_line(out, b"propagate", *ckpt),
+        Line::Show(ckpt) => ckpt_line(out, b"show", *ckpt),
         Line::Race => race_line(out),
         Line::End => end_line(out),
     }
@@ -98,28 +100,20 @@ fn finish_line(out: &mut Vec<u8>, who: Who) -> Result<(), AllocError>
     write_who(out, who)
 }
 
-#[tactic(auto, unfolding(crate::specs::Spelling::written_line))]
-fn copy_line(out: &mut Vec<u8>, node: NodeId) -> Result<(), AllocError>
-    ensures { OnOk result (out.new.items ≡ out.old.items ++ written_line (said.Copy node)) }
+// A first word and a node.
+fn node_line(out: &mut Vec<u8>, word: &[u8], node: NodeId) -> Result<(), AllocError>
+    ensures { OnOk result (out.new.items ≡ out.old.items ++ with_spaces (word.now ∷ spell a_node node ∷ [])) }
 {
-    out.extend_from_slice(b"copy")?;
+    out.extend_from_slice(word)?;
     write_node(out, node)
 }
 
-#[tactic(auto, unfolding(crate::specs::Spelling::written_line))]
-fn fail_line(out: &mut Vec<u8>, node: NodeId) -> Result<(), AllocError>
-    ensures { OnOk result (out.new.items ≡ out.old.items ++ written_line (said.Fail node)) }
+// A first word and a checkpoint.
+fn ckpt_line(out: &mut Vec<u8>, word: &[u8], ckpt: CkptId) -> Result<(), AllocError>
+    ensures { OnOk result (out.new.items ≡ out.old.items ++ with_spaces (word.now ∷ spell a_ckpt ckpt ∷ [])) }
 {
-    out.extend_from_slice(b"fail")?;
-    write_node(out, node)
-}
-
-#[tactic(auto, unfolding(crate::specs::Spelling::written_line))]
-fn join_line(out: &mut Vec<u8>, node: NodeId) -> Result<(), AllocError>
-    ensures { OnOk result (out.new.items ≡ out.old.items ++ written_line (said.Join node)) }
-{
-    out.extend_from_slice(b"join")?;
-    write_node(out, node)
+    out.extend_from_slice(word)?;
+    write_ckpt(out, ckpt)
 }
 
 #[tactic(auto, unfolding(crate::specs::Spelling::written_line))]
@@ -131,36 +125,12 @@ fn at_line(out: &mut Vec<u8>, moment: Moment) -> Result<(), AllocError>
 }
 
 #[tactic(auto, unfolding(crate::specs::Spelling::written_line))]
-fn pull_line(out: &mut Vec<u8>, ckpt: CkptId) -> Result<(), AllocError>
-    ensures { OnOk result (out.new.items ≡ out.old.items ++ written_line (said.Pull ckpt)) }
-{
-    out.extend_from_slice(b"pull")?;
-    write_ckpt(out, ckpt)
-}
-
-#[tactic(auto, unfolding(crate::specs::Spelling::written_line))]
 fn put_line(out: &mut Vec<u8>, ckpt: CkptId, node: NodeId) -> Result<(), AllocError>
     ensures { OnOk result (out.new.items ≡ out.old.items ++ written_line (said.Put ckpt node)) }
 {
     out.extend_from_slice(b"put")?;
     write_ckpt(out, ckpt)?;
     write_node(out, node)
-}
-
-#[tactic(auto, unfolding(crate::specs::Spelling::written_line))]
-fn propagate_line(out: &mut Vec<u8>, ckpt: CkptId) -> Result<(), AllocError>
-    ensures { OnOk result (out.new.items ≡ out.old.items ++ written_line (said.Propagate ckpt)) }
-{
-    out.extend_from_slice(b"propagate")?;
-    write_ckpt(out, ckpt)
-}
-
-#[tactic(auto, unfolding(crate::specs::Spelling::written_line))]
-fn show_line(out: &mut Vec<u8>, ckpt: CkptId) -> Result<(), AllocError>
-    ensures { OnOk result (out.new.items ≡ out.old.items ++ written_line (said.Show ckpt)) }
-{
-    out.extend_from_slice(b"show")?;
-    write_ckpt(out, ckpt)
 }
 
 #[tactic(auto, unfolding(crate::specs::Spelling::written_line))]

@@ -1,0 +1,20 @@
+use Rattle.std.proofs.lemmas.Grind.{common_steps}
+use Rattle.std.proofs.Common.{arith}
+use Rattle.script_lines.specs.Table.{said_by}
+use Rattle.script_lines.proofs.line_forms.step_line.Goals as goal
+
+pub returns-in_default : goal.returns-in_default
+unfolding said_by
+returns-in_default c = grind (arith, common_steps)
+
+pub returns-in_err-who : goal.returns-in_err-who
+unfolding said_by
+returns-in_err-who c = grind (arith, common_steps)
+
+pub returns-in_err-steps : goal.returns-in_err-steps
+unfolding said_by
+returns-in_err-steps c = grind (arith, common_steps)
+
+pub returns : goal.returns
+unfolding said_by
+returns c = grind (arith, common_steps)
