@@ -1,6 +1,6 @@
 -- Where an identifier stands among sections that rise, and what a change there makes of them.
 use Rattle.std.proofs.Common.{◌≡◌, ◌≢◌, ℕ, zero, suc, ◌<◌, ◌≤◌, List, [], ◌∷◌, length, take, Option, Some, None, Ok, Err, option_map, slice_get, true, false, cond, not, Less, Equal, Greater, sym, ap, ◌∙◌, subst, refl, inl, inr, arith}
-use Rattle.std.specs.Prelude.{insert, remove, MatchOption}
+use Rattle.std.specs.Prelude.{insert, remove}
 use Rattle.std.specs.Option.{ok_or}
 use Rattle.std.specs.Ordering.{match_ordering}
 use Rattle.std.specs.Result.{result_ok}
@@ -8,7 +8,7 @@ use Rattle.std.proofs.lemmas.Bool.{cases_eq}
 use Rattle.std.proofs.lemmas.Cmp.{nat_list_cmp_total, tied_itself}
 use Rattle.std.proofs.lemmas.Option.{none-some, same_Some}
 use Rattle.ckpt_types.specs.Sections.{Section, id_cmp, is_named, section_at, place_of, IsBelowAll, Rises, with_section, without_section}
-use Rattle.ckpt_types.proofs.Presence.{is_named_decides, is_named-by_order, id_cmp_turned, id_cmp_trans, section_at-place_of, section_at-no_place, section_at-named, id_cmp-IsBelowAll}
+use Rattle.ckpt_types.proofs.Presence.{is_named_decides, is_named-by_order, id_cmp_turned, id_cmp_trans, section_at-place_of, section_at-named, id_cmp-IsBelowAll}
 use Rattle.section_store.specs.Places.{count_below, changed_at}
 
 -- ---- the order

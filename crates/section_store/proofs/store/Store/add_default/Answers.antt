@@ -1,4 +1,4 @@
-use Rattle.std.proofs.Common.{ap, ◌≡◌, ◌≤ℤ◌, rules, ◌≤◌, ◌∙◌, [], ◌∷◌, sym, subst, refl, to_z, of_z, w64, arith}
+use Rattle.std.proofs.Common.{ap, ◌≡◌, ◌≤ℤ◌, rules, ◌≤◌, ◌∙◌, [], ◌∷◌, length, sym, subst, refl, to_z, of_z, w64, arith}
 use Rattle.std.proofs.lemmas.Int.{ints, to_z-of_z}
 use Rattle.std.proofs.lemmas.List.Elements.{All-nil}
 use Rattle.std.specs.Prelude.{insert}
@@ -11,6 +11,7 @@ use Rattle.section_store.specs.Summary.{AreTaken}
 use Rattle.section_store.proofs.SummaryLemmas.{AreTaken-insert}
 use Rattle.section_store.proofs.Expiring.{ExpireFrom-cons}
 use Rattle.section_store.proofs.Reserved.{IsReserved-Replaces}
+use Rattle.section_store.proofs.StoredLemmas.{length-kept_sections}
 use Rattle.section_store.proofs.store.Store.add_default.Goals as goal
 
 -- the default section is there alone
@@ -42,3 +43,24 @@ invariant_of-self c =
       kept_capacity = c.put_in.ensures.kept_capacity;
       spare_capacity = omega (arith, c.put_in.ensures.spare_capacity);
     })
+
+pub put_in-requires-clause-place : goal.put_in-requires-clause-place
+put_in-requires-clause-place c = omega arith
+
+pub put_in-requires-clause-buffer : goal.put_in-requires-clause-buffer
+put_in-requires-clause-buffer c =
+    let one : c.self.inside.attributes.max_sections ≡ 1 = rw (← c.self.view_is) at c.requires.one in
+    let none : kept_sections c.self.inside.kept.items ≡ [] = rw (← c.self.view_is) at c.requires.none in
+    omega (arith, one, ap length none, length-kept_sections c.self.inside.kept.items, c.self.invariant.all)
+
+pub put_in-requires-clause-room : goal.put_in-requires-clause-room
+put_in-requires-clause-room c = λ k d there. omega arith
+
+pub put_in-requires-clause-kept_room : goal.put_in-requires-clause-kept_room
+put_in-requires-clause-kept_room c =
+    let one : c.self.inside.attributes.max_sections ≡ 1 = rw (← c.self.view_is) at c.requires.one in
+    let none : kept_sections c.self.inside.kept.items ≡ [] = rw (← c.self.view_is) at c.requires.none in
+    omega (arith, one, ap length none, length-kept_sections c.self.inside.kept.items, c.self.invariant.kept_places)
+
+pub returns : goal.returns
+returns c = (λ i. record { attributes = (c.self.view_is i).attributes; sections = left c i })

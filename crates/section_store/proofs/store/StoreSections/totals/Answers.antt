@@ -27,3 +27,27 @@ returns-clause-bytes c =
     let before : c.args.now <ℤ c.self.inside.summary.earliest = grind (arith, ints, to_z-of_z, c.if-expired.false, c.expired.ensures.value) in
     let all = present-ExpireFrom c.args.now c.self.inside.summary.earliest (kept_sections c.self.inside.kept.items) before c.self.invariant.summary.earliest in
     rw (← c.self.view_is) (c.self.invariant.summary.used ∙ sym (ap memory_used all))
+
+pub returns-then-expired-clause-count : goal.returns-then-expired-clause-count
+returns-then-expired-clause-count c =
+    let told = c.totals.ensures.count in
+    let moment = ap (λ t. length (present t (kept_sections c.as_slice.result.now))) (to_z-of_z w64 c.args.now c.ranges.now) in
+    let kept = ap (λ xs. length (present c.args.now (kept_sections xs))) c.as_slice.ensures.value in
+    let shown = ap (λ s. length (present c.args.now s.sections)) c.self.view_is in
+    cc
+
+pub returns-then-expired-clause-bytes : goal.returns-then-expired-clause-bytes
+returns-then-expired-clause-bytes c =
+    let told = c.totals.ensures.bytes in
+    let moment = ap (λ t. memory_used (present t (kept_sections c.as_slice.result.now))) (to_z-of_z w64 c.args.now c.ranges.now) in
+    let kept = ap (λ xs. memory_used (present c.args.now (kept_sections xs))) c.as_slice.ensures.value in
+    let shown = ap (λ s. memory_used (present c.args.now s.sections)) c.self.view_is in
+    cc
+
+pub returns-clause-small : goal.returns-clause-small
+returns-clause-small c = omega (arith, c.self.invariant.summary.used, few_bytes c.self.inside.attributes (kept_sections c.self.inside.kept.items) c.self.invariant.checked c.self.invariant.fits)
+
+pub totals-requires : goal.totals-requires
+totals-requires c =
+    let few = few_bytes c.self.inside.attributes (kept_sections c.self.inside.kept.items) c.self.invariant.checked c.self.invariant.fits in
+    omega (arith, few, ap (λ xs. memory_used (kept_sections xs)) c.as_slice.ensures.value)
