@@ -1,4 +1,4 @@
-use Rattle.std.proofs.Common.{◌≡◌, ◌<◌, ℕ, suc, take, drop, length, List, Bool, false, sym, subst, ap, ◌∙◌, arith}
+use Rattle.std.proofs.Common.{◌≡◌, ◌<◌, ◌≤◌, ℕ, suc, take, drop, length, List, Bool, false, refl, sym, subst, ap, ◌∙◌, arith}
 use Rattle.std.specs.Prelude.{All, IfSome, remove}
 use Rattle.std.proofs.lemmas.List.Elements.{All-append, All-drop, All-take}
 use Rattle.std.proofs.lemmas.Option.{get_or_from_slice_get}
@@ -6,7 +6,7 @@ use Rattle.cluster_record.specs.declared.entries.Entry.{Entry}
 use Rattle.cluster_record.specs.Kept.{HasTimes}
 use Rattle.cluster_record.specs.NamesOf.{stays_by, without_gone, without_name}
 use Rattle.cluster_record.proofs.Places.{there_is}
-use Rattle.cluster_record.proofs.Walking.{walked, walked-goes, names-goes}
+use Rattle.cluster_record.proofs.Walking.{walked, walked-goes, walked-end, names-goes, names-end}
 use Rattle.cluster_record.proofs.entries.keep_only.Goals as goal
 
 pub loop-place-preserved : goal.loop-place-preserved
@@ -29,3 +29,24 @@ loop-place-preserved c =
       capacity = c.take_gone.ensures.capacity ∙ c.loop-place.invariant.capacity;
       times = subst (All HasTimes) (sym c.take_gone.ensures.items) (All-append HasTimes (take i es) (drop (suc i) es) (All-take HasTimes i es c.loop-place.invariant.times) (All-drop HasTimes (suc i) es c.loop-place.invariant.times));
     }
+
+pub loop-place-init : goal.loop-place-init
+loop-place-init c = record { items = refl; names = refl; capacity = refl; times = c.requires }
+
+pub keeps-requires : goal.keeps-requires
+keeps-requires c =
+    let within : c.loop-place.place < length c.loop-place.entries.items = omega (arith, c.loop-place-test.true, c.len.ensures) in
+    subst HasTimes (sym c.index.ensures) (c.loop-place.invariant.times c.loop-place.place c.index.result.now within)
+
+pub returns-clause-items : goal.returns-clause-items
+returns-clause-items c =
+    let over : length c.loop-place.entries.items ≤ c.loop-place.place = omega (arith, c.loop-place-test.false, c.len.ensures) in
+    sym (walked-end (stays_by c.args.staying) c.loop-place.entries.items c.loop-place.place over) ∙ c.loop-place.invariant.items
+
+pub returns-clause-capacity : goal.returns-clause-capacity
+returns-clause-capacity c = c.loop-place.invariant.capacity
+
+pub returns-clause-names : goal.returns-clause-names
+returns-clause-names c =
+    let over : length c.loop-place.entries.items ≤ c.loop-place.place = omega (arith, c.loop-place-test.false, c.len.ensures) in
+    sym (names-end (stays_by c.args.staying) c.loop-place.entries.items c.loop-place.place c.loop-place.names over) ∙ c.loop-place.invariant.names
