@@ -1,5 +1,5 @@
 //! What the words ask for.
-use crate::played::{LINES, NONE, SCRIPT, STEPPED_LINES, ends, writes};
+use crate::played::{ALL, LINES, NONE, SCRIPT, STEPPED_LINES, ends, writes};
 use crate::rows::met;
 use command_run::Status;
 use outside_io::{MemSource, SureSource};
@@ -8,8 +8,6 @@ use std::alloc::{AllocError, Global};
 use std::process::Abort;
 use std::sync::Wait;
 use std::thread::Threads;
-
-const ALL: (u64, usize) = (NONE, 4096);
 
 /// Whether the script is played with these words, and just these lines are written.
 fn prints<R: Threads + Wait + Sync>(

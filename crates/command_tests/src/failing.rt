@@ -1,5 +1,5 @@
 //! Sources and sinks that fail.
-use crate::played::{LINES, NONE, SCRIPT, cuts_off, ends};
+use crate::played::{ALL, LINES, NONE, SCRIPT, cuts_off, ends};
 use crate::rows::met;
 use ckpt_types::SCRIPT_BYTES_MAX;
 use command_run::Status;
@@ -9,8 +9,6 @@ use std::alloc::{AllocError, Global};
 use std::process::Abort;
 use std::sync::Wait;
 use std::thread::Threads;
-
-const ALL: (u64, usize) = (NONE, 4096);
 
 // None; the first; and that at the end.
 #[test]

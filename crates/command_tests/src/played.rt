@@ -25,6 +25,9 @@ pub const STEPPED_LINES: &[u8] = b"+ c0.1 begin client\n+ c0.1 enter n0 ok\nc0.1
 /// A read or a write that never comes, of those that are counted from 0.
 pub const NONE: u64 = 1_000_000;
 
+/// No write fails, and there is room for all lines.
+pub const ALL: (u64, usize) = (NONE, 4096);
+
 // The words, as a command takes them.
 fn owned(alloc: Global, words: &[&str]) -> Result<Vec<String>, AllocError> {
     let mut owned = Vec::new(alloc);
