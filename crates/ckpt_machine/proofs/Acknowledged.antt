@@ -1,7 +1,8 @@
--- What was answered OK is on every complete replica of its checkpoint, or where updates go to the active alone, on the active's; and it stays there.
+-- What was answered OK is on every complete replica of its checkpoint, or where updates go to the active alone, on the active's; and it stays there, as long as no failure takes the active.
 use Rattle.std.proofs.Common.{◌≡◌, ◌⊎◌, ℕ, zero, suc, ◌+◌, ◌≤◌, inl, inr, List, [], ◌∷◌, ◌++◌, Option, Some, None, Bool, true, false, cond, not, ◌==◌, ◌&&◌, ℤ, refl, sym, ap, subst, ◌∙◌, append_assoc, arith}
-use Rattle.std.specs.Prelude.{is_some, IsSome, IsSomeAnd, slice_index}
+use Rattle.std.specs.Prelude.{◌≢◌, is_some, IsSome, IsSomeAnd, slice_index}
 use Rattle.std.proofs.lemmas.Bool.{eqb-true, and_parts}
+use Rattle.std.proofs.lemmas.List.{append-nil}
 use Rattle.std.proofs.lemmas.Option.{same_Some}
 use Rattle.ckpt_machine.proofs.Dropped.{held_as, ended_none}
 use Rattle.ckpt_types.specs.declared.answers.Answer.{Answer}
@@ -24,22 +25,25 @@ use Rattle.ckpt_types.specs.OpWord.{word_of_op}
 use Rattle.cluster_record.specs.declared.entries.Entry.{Entry}
 use Rattle.cluster_record.specs.Calls.{client_of}
 use Rattle.cluster_record.specs.Makings.{making_of}
+use Rattle.cluster_record.specs.Failing.{goes_with_node}
 use Rattle.cluster_record.specs.Identities.{IdentitiesRise, AllUpTo}
 use Rattle.cluster_record.specs.Places.{put2}
 use Rattle.cluster_record.specs.RecordState.{RecordState, entry_of, complete_of, stays, swept, moved, entered, finished, home_of, opened_with, opened, closed, unlinked, unreferred, unnamed, departed, undone, with_hold, hold_set, active_set}
 use Rattle.cluster_record.proofs.IdentityLaws.{IdentitiesRise-filter}
-use Rattle.ckpt_machine.specs.Acknowledged.{IsUpdateWord, Acknowledges, ckpt_named, HasBegun, IsUpdateBy, HasUpdate, IsToHave, IsOnItsReplicas, AcknowledgedStay}
+use Rattle.ckpt_machine.specs.Acknowledged.{IsUpdateWord, Acknowledges, ckpt_named, HasBegun, IsUpdateBy, HasUpdate, IsToHave, IsOnItsReplicas, LeavesActive, KeepsActive, AcknowledgedStay}
 use Rattle.ckpt_machine.specs.AllOrNone.{OneUpdate, IsOfOne}
 use Rattle.ckpt_types.specs.Asks.{asked, update_asked, update_of}
 use Rattle.ckpt_machine.specs.Complete.{with_replica, replicas_from, complete_replicas}
 use Rattle.ckpt_machine.specs.Guards.{IsOnOwn, Row, Allowed}
 use Rattle.ckpt_machine.specs.ActiveGuards.{ApplyOk, AreMarksOf}
 use Rattle.ckpt_machine.specs.UpdateGuards.{CommitOk, ends_update}
+use Rattle.ckpt_machine.specs.Entries.{AreApart}
+use Rattle.ckpt_machine.specs.Failing.{failed_at}
 use Rattle.ckpt_machine.specs.GuardTerms.{OnEach, OnAll}
 use Rattle.ckpt_machine.specs.Invariant.{Invariant}
 use Rattle.ckpt_machine.specs.Laws.{OfEachRun}
 use Rattle.ckpt_machine.specs.Listing.{is_active}
-use Rattle.ckpt_machine.specs.Machine.{Machine, Applied, Effect, ReplicaState, Snapshot, Staged, CallState, who}
+use Rattle.ckpt_machine.specs.Machine.{Machine, Applied, Broken, Effect, ReplicaState, Snapshot, Staged, CallState, who, empty_cluster}
 use Rattle.cluster_record.specs.Placement.{is_all}
 use Rattle.ckpt_machine.specs.Owned.{OwnsNothing}
 use Rattle.ckpt_machine.specs.Propagation.{replica_from}
@@ -47,7 +51,7 @@ use Rattle.ckpt_machine.specs.Runs.{last, IsRun}
 use Rattle.node_core.specs.Serving.{update_answer}
 use Rattle.ckpt_machine.specs.Shape.{IsCompleteOn}
 use Rattle.ckpt_machine.specs.After.{with_record, record_step, created_for, retained_for, change_replica, with_committed, committed_slot, with_applied, having_taken, with_marks, with_next_element, without_marks, marks_ended, with_slot, effect_of, with_lead, changed, on_ok, on_look, without_making, at_some, replica_under, opened_state, stepped, step_of, staged_moment, after}
-use Rattle.ckpt_machine.specs.Due.{Told, IsDue}
+use Rattle.ckpt_machine.specs.Due.{Told, IsDue, count_in}
 use Rattle.ckpt_machine.proofs.HeldIn.{IsCopyOfActive}
 use Rattle.ckpt_machine.proofs.Activating.{made_where_complete, led_by, Leads, leader, with_leader, leader-cases, found_led, led_made, led_entry, after_activate}
 use Rattle.ckpt_machine.proofs.ActiveNode.{active_complete}
@@ -55,13 +59,18 @@ use Rattle.ckpt_machine.proofs.AllOrNone.{all_or_none}
 use Rattle.ckpt_machine.proofs.Copying.{IsPutOn, not_active, after_pull, after_put, put2-here, put2-cases}
 use Rattle.ckpt_machine.proofs.Entries.{ComesOf-filter}
 use Rattle.ckpt_machine.proofs.EntryLists.{entry_of-given}
+use Rattle.ckpt_machine.proofs.FailedEntries.{IsFailedEntry}
+use Rattle.ckpt_machine.proofs.FailedHands.{was_entry}
+use Rattle.ckpt_machine.proofs.FailedReplicas as failures
+use Rattle.ckpt_machine.proofs.FailedReplicas.{Becomes, was_replica}
 use Rattle.ckpt_machine.proofs.Follows.{IsBare, element_effects}
 use Rattle.ckpt_machine.proofs.HasUpdates.{has_more, has_new}
 use Rattle.ckpt_machine.proofs.Histories.{HasHistory, slot_owned, on_replica-there, on_active-there, keeps_history, run_history}
 use Rattle.ckpt_machine.proofs.Installed.{after_install}
 use Rattle.ckpt_machine.proofs.Joining.{collocated_apart, opened_with-identity}
 use Rattle.ckpt_machine.proofs.Lawful.{lawful}
-use Rattle.ckpt_machine.proofs.OptionLemmas.{IsSomeAnd-at}
+use Rattle.ckpt_machine.proofs.NodeGone.{complete_still}
+use Rattle.ckpt_machine.proofs.OptionLemmas.{IsSomeAnd-at, IfSome-at}
 use Rattle.ckpt_machine.proofs.Actors.{same_call-true}
 use Rattle.ckpt_machine.proofs.Owning.{owner_update}
 use Rattle.ckpt_machine.proofs.References.{released-identity}
@@ -71,7 +80,7 @@ use Rattle.ckpt_machine.proofs.BegunOnce.{begins_once}
 use Rattle.ckpt_machine.proofs.UpdateAnswers.{begin_not_done, IsTakenOn, done_by_taking}
 use Rattle.ckpt_machine.proofs.StaysMade.{IsMadeAs, StaysMade, StaysMade-same, StaysMade-kept, held_made, held-identity, MadeOn, MadeOn-swept, released_made, opened_made, same_on, changed_on, filter_on, departed_on, finished_on, created_for_on, retained_for_on, StepNeeds, row_needs}
 use Rattle.ckpt_machine.proofs.Whose.{one_call}
-use Rattle.ckpt_machine.proofs.Runs.{along, last-push, run_before, run_front}
+use Rattle.ckpt_machine.proofs.Runs.{last-push, run_before, run_front, IsRunFrom-back}
 
 -- ---- effects
 
@@ -118,6 +127,37 @@ complete_before e f still r led (inr active) complete = led active
 some_still : (e f : Entry) → IsMadeAs e f → (is_all e.attributes ≡ true) ⊎ IsSome e.active → (is_all f.attributes ≡ true) ⊎ IsSome f.active
 some_still e f same (inl all) = inl (ap is_all same.attributes ∙ all)
 some_still e f same (inr led) = inr (subst IsSome (sym same.active) led)
+
+-- ---- a failure
+
+-- the label leaves the checkpoint its active
+abbrev LabelLeaves : Option Entry → Label → Type 0
+LabelLeaves o (labels.Failed r true) = LeavesActive o r
+LabelLeaves o l = Unit {0}
+
+-- a node that is not the active's
+not_its_node : (o : Option ℕ) (r : ℕ) → o ≢ Some r → is_active o r ≡ false
+not_its_node None r other = refl
+not_its_node (Some q) r other = by_test (q == r) refl
+  where
+    by_test : (b : Bool) → (q == r) ≡ b → b ≡ false
+    by_test true same = absurd (other (ap Some (eqb-true q r same)))
+    by_test false apart = refl
+
+-- what the failure of another node than the active's leaves of an entry has the active that it had
+still_led : (counts : ℕ → ℕ) (goes : ℕ → Bool) (r : ℕ) (e f : Entry) → IsFailedEntry counts goes r e f → is_all e.attributes ≡ false → (is_all e.attributes ≡ true) ⊎ (e.active ≢ Some r) → (e.active ≢ Some r) × (f.active ≡ e.active)
+still_led counts goes r e f left alone (inl all) = absurd (let w : true ≡ false = sym all ∙ alone in cc w)
+still_led counts goes r e f left alone (inr other) = (other, (left.led (not_its_node e.active r other)).0)
+
+-- a node that is to have the updates was to have them
+to_have_left : (e f : Entry) → f.attributes ≡ e.attributes → f.active ≡ e.active → (q : ℕ) → IsToHave (Some f) q → IsToHave (Some e) q
+to_have_left e f declares active q (inl all) = inl (ap is_all (sym declares) ∙ all)
+to_have_left e f declares active q (inr led) = inr (sym active ∙ led)
+
+-- its updates go to all replicas, or it has an active, as before
+some_left : (e f : Entry) → f.attributes ≡ e.attributes → f.active ≡ e.active → (is_all e.attributes ≡ true) ⊎ IsSome e.active → (is_all f.attributes ≡ true) ⊎ IsSome f.active
+some_left e f declares active (inl all) = inl (ap is_all declares ∙ all)
+some_left e f declares active (inr led) = inr (subst IsSome (sym active) led)
 
 -- ---- the update stays
 
@@ -234,6 +274,52 @@ module _ (k : ℕ) (call : CallId) (update : Update) (m : Machine) (stay : Stays
           not_led r (inl all) apart = let w : true ≡ false = sym all ∙ collocated_apart lead.entry.attributes lead.collocated in cc w
           not_led r (inr active) apart = apart (same_Some q r active)
 
+  -- a failure, where updates go to the actives alone, of a node that is not the active's
+  module _ (inv : Invariant m) (bare : IsBare m) (r : ℕ) (apart : AreApart m.cluster.entries) (leaves : LeavesActive (entry_of k m.cluster.entries) r) where
+    -- what the entry was, which has the active that it had
+    record WasLed (f : Entry) : Type 0 where
+      e : Entry
+      was : entry_of k m.cluster.entries ≡ Some e
+      left : IsFailedEntry (λ q. count_in (m.replicas e.identity q)) (goes_with_node m.cluster r) r e f
+      other : e.active ≢ Some r
+      active : f.active ≡ e.active
+
+    was_led : (f : Entry) → entry_of k (failed_at r m).cluster.entries ≡ Some f → WasLed f
+    was_led f found =
+        let it = was_entry false m inv.shapes inv.holds r k f found in
+        let (other, active) = still_led (λ q. count_in (m.replicas it.e.identity q)) (goes_with_node m.cluster r) r it.e f it.left (apart k it.e it.was) (IfSome-at (entry_of k m.cluster.entries) (λ e. (is_all e.attributes ≡ true) ⊎ (e.active ≢ Some r)) leaves it.e it.was) in
+        record { e = it.e; was = it.was; left = it.left; other = other; active = active }
+
+    -- another node that was complete is so still
+    complete_left : (e f : Entry) (q : ℕ) → IsFailedEntry (λ q. count_in (m.replicas e.identity q)) (goes_with_node m.cluster r) r e f → e.active ≢ Some r → e.active ≡ Some q → IsCompleteOn e q → IsCompleteOn f q
+    complete_left e f q left other led there = ap (λ cs. slice_index cs q == 0) left.complete ∙ complete_still e.complete r q (by_test (q == r) refl) there
+      where
+        by_test : (b : Bool) → (q == r) ≡ b → b ≡ false
+        by_test true same = absurd (other (led ∙ ap Some (eqb-true q r same)))
+        by_test false apart = refl
+
+    -- the replica has what it had
+    has_left : (e f : Entry) (q : ℕ) (x y : ReplicaState) → Becomes m inv bare r apart e f q x y → HasUpdate call update x.effects → HasUpdate call update y.effects
+    has_left e f q x y (failures.stays same) has = subst (λ (z : ReplicaState). HasUpdate call update z.effects) (sym same) has
+    has_left e f q x y (failures.cut_short marks stand gone was led same is) has = subst (λ (z : ReplicaState). HasUpdate call update z.effects) (sym is) (has_more call update x.effects (Broken marks.call marks.update marks.moment marks.done ∷ []) has)
+    has_left e f q x y (failures.leads was led none is) has = subst (λ (z : ReplicaState). HasUpdate call update z.effects) (sym is) has
+
+    failure_stays : Stays k call update (failed_at r m)
+    failure_stays = record {
+      given = stay.given;
+      made = λ f found. (let it = was_led f found in it.left.making ∙ stay.made it.e it.was);
+      some = λ f found. (let it = was_led f found in some_left it.e f it.left.attributes it.active (stay.some it.e it.was));
+      led = λ f found q active. (
+          let it = was_led f found in
+          let led : it.e.active ≡ Some q = sym it.active ∙ active in
+          complete_left it.e f q it.left it.other led (stay.led it.e it.was q led));
+      its = λ q y is to_have. (
+          let it = was_replica m inv bare r apart k q y is in
+          let at = was_led it.then it.found in
+          let before : IsToHave (Some at.e) q = to_have_left at.e it.then at.left.attributes at.active q (subst (λ o. IsToHave o q) it.found to_have) in
+          has_left it.before it.then q it.replica y it.becomes (stay.its q it.replica it.there (subst (λ o. IsToHave o q) (sym at.was) before)));
+    }
+
   module _ (rises : IdentitiesRise m.cluster.entries) (up_to : AllUpTo m.cluster.last_identity m.cluster.entries) where
     step_stays : (step : RecordState → RecordState) → MadeOn k m.cluster (step m.cluster) → Stays k call update (record_step step m)
     step_stays step on = record_stays (swept (step m.cluster)) (MadeOn-swept k m.cluster (step m.cluster) on)
@@ -306,21 +392,23 @@ module _ (k : ℕ) (call : CallId) (update : Update) (m : Machine) (stay : Stays
     changed_stays s verbs.Activate j q reply needs done = done
     changed_stays s verb j q reply needs done = stay
 
-  -- any label that is allowed
-  after_stays : Invariant m → IsBare m → (l : Label) → Allowed m l → Stays k call update (after m l)
-  after_stays inv bare (labels.Began d op end details) allowed = record { given = stay.given; made = stay.made; some = stay.some; led = stay.led; its = stay.its }
-  after_stays inv bare (labels.Stepped d op verb j q reply end details) allowed =
+  -- any label that is allowed, and does not take the active
+  after_stays : Invariant m → IsBare m → (l : Label) → Allowed m l → LabelLeaves (entry_of k m.cluster.entries) l → Stays k call update (after m l)
+  after_stays inv bare (labels.Began d op end details) allowed leaves = record { given = stay.given; made = stay.made; some = stay.some; led = stay.led; its = stay.its }
+  after_stays inv bare (labels.Stepped d op verb j q reply end details) allowed leaves =
       let s = allowed.state in
       let held : m.in_hand (who s) ≡ Some s = held_as m d op s allowed.in_hand allowed.call_is allowed.word in
       let then = changed_stays inv.holds.rises inv.holds.up_to s verb j q reply (row_needs m inv s verb j q reply end details allowed.row) (installs inv.holds.rises inv.holds.up_to inv bare s held verb j q reply (record { verb = verb; ckpt = j; node = q; reply = reply; end = end; details = details }) allowed.own allowed.row) in
       subst (λ o. Stays k call update (step_of m o verb j q reply end)) (sym allowed.in_hand) (record { given = then.given; made = then.made; some = then.some; led = then.led; its = then.its })
-  after_stays inv bare (labels.Word by line said) allowed = stay
-  after_stays inv bare (labels.Nodes n) allowed = record { given = stay.given; made = stay.made; some = stay.some; led = stay.led; its = stay.its }
-  after_stays inv bare (labels.Moved t) allowed = record_stays (moved t m.cluster) (record { last = omega arith; rises = IdentitiesRise-filter (stays t) m.cluster.entries inv.holds.rises; made = ComesOf-filter StaysMade StaysMade-same (stays t) m.cluster.entries inv.holds.rises k })
-  after_stays inv bare (labels.Shown j replicas) allowed = stay
-  after_stays inv bare (labels.Pulled j reply) allowed = after_pull (Stays k call update) m j reply allowed stay (λ x from none. stay)
-  after_stays inv bare (labels.Put j q reply) allowed = after_put (Stays k call update) m j q reply stay (λ s x copied on. put_stays j q s x on)
-  after_stays inv bare l allowed = absurd allowed
+  after_stays inv bare (labels.Word by line said) allowed leaves = stay
+  after_stays inv bare (labels.Nodes n) allowed leaves = record { given = stay.given; made = stay.made; some = stay.some; led = stay.led; its = stay.its }
+  after_stays inv bare (labels.Moved t) allowed leaves = record_stays (moved t m.cluster) (record { last = omega arith; rises = IdentitiesRise-filter (stays t) m.cluster.entries inv.holds.rises; made = ComesOf-filter StaysMade StaysMade-same (stays t) m.cluster.entries inv.holds.rises k })
+  after_stays inv bare (labels.Shown j replicas) allowed leaves = stay
+  after_stays inv bare (labels.Pulled j reply) allowed leaves = after_pull (Stays k call update) m j reply allowed stay (λ x from none. stay)
+  after_stays inv bare (labels.Put j q reply) allowed leaves = after_put (Stays k call update) m j q reply stay (λ s x copied on. put_stays j q s x on)
+  after_stays inv bare (labels.Failed r true) allowed leaves = failure_stays inv bare r allowed.2 leaves
+  after_stays inv bare (labels.Failed r false) allowed leaves = stay
+  after_stays inv bare l allowed leaves = absurd allowed
 
 -- ---- the label that answers OK
 
@@ -537,6 +625,28 @@ module _ (log : List Label) (run : IsRun log) (inv : Invariant (last log)) (hist
       subst (IsTaken log (labels.Stepped d word verb k r reply (Some (Done answer)) details)) acks.0 (answered d word verb k r reply answer details allowed due acks.1 by)
   acknowledged l allowed due call acks = absurd acks
 
+-- ---- at every time from then on
+
+-- the first of these labels does not take the active
+first_leaves : (front more : List Label) (l : Label) (k : ℕ) → KeepsActive front (l ∷ more) k → LabelLeaves (entry_of k (last front).cluster.entries) l
+first_leaves front more (labels.Failed r true) k keeps = subst (λ log. LeavesActive (entry_of k (last log).cluster.entries) r) (append-nil front) (keeps [] more r refl)
+first_leaves front more (labels.Failed r false) k keeps = tt
+first_leaves front more l k keeps = tt
+
+-- nor do the others
+rest_keeps : (front more : List Label) (l : Label) (k : ℕ) → KeepsActive front (l ∷ more) k → KeepsActive (front ++ l ∷ []) more k
+rest_keeps front more l k keeps before behind r is = subst (λ log. LeavesActive (entry_of k (last log).cluster.entries) r) (sym (append_assoc front (l ∷ []) before)) (keeps (l ∷ before) behind r (ap (λ ls. l ∷ ls) is))
+
+-- what stays with each label stays as long as none takes the active
+stays_along : (k : ℕ) (call : CallId) (update : Update) (front more : List Label) → IsRun (front ++ more) → KeepsActive front more k → Stays k call update (last front) → Stays k call update (last (front ++ more))
+stays_along k call update front [] run keeps stay = subst (λ log. Stays k call update (last log)) (sym (append-nil front)) stay
+stays_along k call update front (l ∷ more) run keeps stay =
+    let there = IsRunFrom-back empty_cluster front (l ∷ more) run in
+    let (inv, history) = run_history front (run_front (front ++ l ∷ more) front (l ∷ more) refl run) in
+    let then = after_stays k call update (last front) stay inv history.bare l there.0 (first_leaves front more l k keeps) in
+    let longer = append_assoc front (l ∷ []) more in
+    subst (λ log. Stays k call update (last log)) longer (stays_along k call update (front ++ l ∷ []) more (subst IsRun (sym longer) run) (rest_keeps front more l k keeps) (subst (Stays k call update) (sym (last-push front l)) then))
+
 -- THE LAW: what was answered OK stays
 pub acknowledged_stay : OfEachRun AcknowledgedStay
 acknowledged_stay log run front more back l call is acks =
@@ -545,9 +655,7 @@ acknowledged_stay log run front more back l call is acks =
     let first = acknowledged front before inv history l allowed due call acks in
     let longer = append_assoc front (l ∷ []) more in
     let through = subst IsRun (sym longer) (run_front log (front ++ l ∷ more) back (is ∙ sym (append_assoc front (l ∷ more) back)) run) in
-    -- and at every time from then on
-    let all = subst (λ (log : List Label). Stays first.ckpt call (update_of first.op) (last log)) longer (along (λ log m. Stays first.ckpt call (update_of first.op) m)
-    (λ front l before allowed due stay. let (inv, history) = run_history front before in after_stays first.ckpt call (update_of first.op) (last front) stay inv history.bare l allowed) (front ++ l ∷ []) more through (subst (Stays first.ckpt call (update_of first.op)) (sym (last-push front l)) first.stay)) in
+    let here = subst (Stays first.ckpt call (update_of first.op)) (sym (last-push front l)) first.stay in
     record {
       op = first.op;
       asks = first.asks;
@@ -555,5 +663,6 @@ acknowledged_stay log run front more back l call is acks =
       begun = first.begun;
       once = λ other k begun. begins_once front before call first.op other (Some first.ckpt) k first.begun begun;
       named = first.named;
-      on_its = all.its;
+      -- and at every time from then on
+      on_its = λ keeps. (subst (λ log. Stays first.ckpt call (update_of first.op) (last log)) longer (stays_along first.ckpt call (update_of first.op) (front ++ l ∷ []) more through keeps here)).its;
     }

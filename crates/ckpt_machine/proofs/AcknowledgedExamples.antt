@@ -1,4 +1,4 @@
--- Worked examples of which labels answer an update OK, and of three whole runs to such a label, each by computation.
+-- Worked examples of which labels answer an update OK, of three whole runs to such a label, and of a failure behind one, each by computation.
 use Rattle.std.proofs.Common.{◌≡◌, ℕ, ◌+◌, List, [], ◌∷◌, ◌++◌, map, Option, Some, None, codes, true, false, pos, inl, inr, refl, ap, arith}
 use Rattle.std.specs.Option.{option_map}
 use Rattle.ckpt_types.specs.declared.answers.Answer.TheVariants as answers
@@ -22,8 +22,9 @@ use Rattle.run_labels.specs.declared.labels.Label.{Label}
 use Rattle.run_labels.specs.declared.labels.Label.TheVariants as labels
 use Rattle.ckpt_types.specs.declared.words.OpWord.{OpWord}
 use Rattle.ckpt_types.specs.declared.words.OpWord.TheVariants as opwords
+use Rattle.cluster_record.specs.declared.entries.Entry.{Entry}
 use Rattle.cluster_record.specs.RecordState.{entry_of}
-use Rattle.ckpt_machine.specs.Acknowledged.{Acknowledges, HasBegun, HasUpdate, IsToHave}
+use Rattle.ckpt_machine.specs.Acknowledged.{Acknowledges, HasBegun, HasUpdate, IsToHave, LeavesActive}
 use Rattle.ckpt_machine.specs.Machine.{Effect, Applied, ReplicaState}
 use Rattle.ckpt_machine.specs.Runs.{last}
 
@@ -36,9 +37,9 @@ call_numbered n = record { actor = Client 0; number = n }
 abbrev pub answered_ok : Option Outcome
 answered_ok = Some (Done answers.Nothing)
 
--- a checkpoint with one section of 8 bytes, by its option, and a write of it
+-- a checkpoint with one section of 8 bytes, by its option, which is kept for 10 behind its last close, and a write of it
 abbrev one_section : ℕ → CreationAttributes
-one_section option = record { creation_flags = option; checkpoint_size = 8; retention_duration = pos 0; max_sections = 1; max_section_size = 8; max_section_id_size = 8 }
+one_section option = record { creation_flags = option; checkpoint_size = 8; retention_duration = pos 10; max_sections = 1; max_section_size = 8; max_section_id_size = 8 }
 
 abbrev pub abc : Update
 abc = updates.Write (record { id = []; offset = 0; bytes = codes "abc" } ∷ [])
@@ -168,6 +169,32 @@ n0_is_to_have_it = inr refl
 pub n1_is_not_to_have_it : is_to_have 1 → ⊥
 n1_is_not_to_have_it (inl all) = let w : false ≡ true = all in cc w
 n1_is_not_to_have_it (inr active) = let w : Some 0 ≡ Some 1 = active in cc w
+
+-- ---- a node fails behind it
+
+-- the failure of n1 leaves the active, which has the write still
+pub n1_is_not_the_active : LeavesActive (entry_of 1 (last until_the_active_has_it).cluster.entries) 1
+n1_is_not_the_active = inr (λ active. (let w : Some 0 ≡ Some 1 = active in cc w))
+
+pub the_active_has_it_still : effects_on (until_the_active_has_it ++ labels.Failed 1 true ∷ []) 0 ≡ Some (Applied (call_numbered 3) abc (pos 0) ∷ [])
+the_active_has_it_still = refl
+
+-- that of n0 takes the active: n1 is it then, and has not the write, which is gone
+pub n0_is_the_active : LeavesActive (entry_of 1 (last until_the_active_has_it).cluster.entries) 0 → ⊥
+n0_is_the_active (inl all) = let w : false ≡ true = all in cc w
+n0_is_the_active (inr other) = other refl
+
+abbrev until_n0_has_failed : List Label
+until_n0_has_failed = until_the_active_has_it ++ labels.Failed 0 true ∷ []
+
+pub n1_leads_then : option_map (λ (e : Entry). e.active) (entry_of 1 (last until_n0_has_failed).cluster.entries) ≡ Some (Some 1)
+n1_leads_then = refl
+
+pub and_has_it_not : effects_on until_n0_has_failed 1 ≡ Some []
+and_has_it_not = refl
+
+pub nor_has_n0 : effects_on until_n0_has_failed 0 ≡ None
+nor_has_n0 = refl
 
 -- ---- a run of a weak write
 

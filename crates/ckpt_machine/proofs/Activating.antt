@@ -30,18 +30,10 @@ use Rattle.ckpt_machine.proofs.EntryLists.{find_key-change_key}
 use Rattle.ckpt_machine.proofs.Follows.{IsBare, under}
 use Rattle.ckpt_machine.proofs.Generations.{generation_there}
 use Rattle.ckpt_machine.proofs.HeldIn.{IsCopyOfActive, IsHeldIn, held_in}
-use Rattle.ckpt_machine.proofs.Histories.{maker_incomplete}
 use Rattle.ckpt_machine.proofs.OptionLemmas.{IsSomeAnd-at}
 use Rattle.ckpt_machine.proofs.Propagated.{complete_there}
+pub use Rattle.ckpt_machine.proofs.ShapedReplicas.{made_where_complete}
 use Rattle.ckpt_machine.proofs.StaysMade.{StaysMade, StaysMade-same, StaysMade-kept, GoesOnMade, GoesOnMade-same, MadeOn}
-
--- the checkpoint on which a node is complete is made
-pub made_where_complete : (m : Machine) → Invariant m → (k r : ℕ) (e : Entry) → entry_of k m.cluster.entries ≡ Some e → IsCompleteOn e r → e.making ≡ None
-made_where_complete m inv k r e found complete = by_making e.making refl
-  where
-    by_making : (o : Option CallId) → e.making ≡ o → e.making ≡ None
-    by_making None is = is
-    by_making (Some c) is = absurd (let w : true ≡ false = sym (maker_incomplete m inv c k r e found is) ∙ complete in cc w)
 
 -- ---- an entry
 
@@ -52,7 +44,7 @@ led_by r e = record e { active = Some r; generation = e.generation + 1; hold = N
 -- a checkpoint goes on made where a node leads it anew
 pub led_goes : (r : ℕ) (e : Entry) → GoesOnMade e (led_by r e)
 led_goes r e = record {
-  made = λ made. record { made = made; generation = omega arith; remains = λ q there. there; led = λ led. refl };
+  made = λ made. record { made = made; generation = omega arith; led = λ same led. refl };
   attributes = refl;
   since = refl;
 }

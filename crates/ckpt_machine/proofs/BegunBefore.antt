@@ -86,7 +86,7 @@ module _ (log : List Label) (inv : Invariant (last log)) (history : HasHistory (
         | inl own ↦ left_same (log ++ labels.Stepped call op verb k r reply end details ∷ []) s behind.steps behind.created behind.snapshot end z (longer (labels.Stepped call op verb k r reply end details) s held) own.1
         | inr other ↦ longer (labels.Stepped call op verb k r reply end details) z (then.in_hand (who z) z other.1)
       ]
-  after_began l allowed due s held = longer l s (ap (λ f. f (who s)) (sym (quiet (last log) l tt due).in_hand) ∙ held)
+  after_began l allowed due s held = longer l s ((quiet (last log) inv l tt due).held (who s) s held)
 
 -- so in a run
 pub all_began : (log : List Label) → IsRun log → (s : CallState) → (last log).in_hand (who s) ≡ Some s → HasBegun log s.call s.op s.kept.ckpt

@@ -39,7 +39,7 @@ counted_up m b a = by_test (same_actor a b) refl
     by_test true same = let it : m.next a ≡ m.next b = ap m.next (same_actor-true a b same) in omega (arith, it)
 
 -- no label lets it fall
-next_after : (m : Machine) (l : Label) → Invariant m → HasHistory m → Allowed m l → IsDue m l → (a : ActorName) → m.next a ≤ (after m l).next a
+pub next_after : (m : Machine) (l : Label) → Invariant m → HasHistory m → Allowed m l → IsDue m l → (a : ActorName) → m.next a ≤ (after m l).next a
 next_after m (labels.Began call op end details) inv history allowed due a = counted_up m call.actor a
 next_after m (labels.Stepped call op verb k r reply end details) inv history allowed due a =
     let s = due.state in
@@ -48,7 +48,7 @@ next_after m (labels.Stepped call op verb k r reply end details) inv history all
     let then = follows m inv history s held (record { verb = verb; ckpt = k; node = r; reply = reply; end = end; details = details }) (subst (λ z. Row m z verb _) same allowed.row) in
     let it : (after m (labels.Stepped call op verb k r reply end details)).next a ≡ m.next a = ap (λ o. (step_of m o verb k r reply end).next a) due.in_hand ∙ then.next a in
     omega (arith, it)
-next_after m l inv history allowed due a = let same = ap (λ (f : ActorName → ℕ). f a) (quiet m l tt due).next in omega (arith, same)
+next_after m l inv history allowed due a = let same = ap (λ (f : ActorName → ℕ). f a) (quiet m inv l tt due).next in omega (arith, same)
 
 -- ---- a call that has begun
 
@@ -56,11 +56,11 @@ module _ (log before behind : List Label) (call : CallId) (op : Op) (end : Optio
   abbrev l : Label
   l = labels.Began call op end details
 
-  until : IsRun before × Allowed (last before) l × IsDue (last before) l
+  pub until : IsRun before × Allowed (last before) l × IsDue (last before) l
   until = run_before _ before l (run_front log (before ++ l ∷ []) behind (is ∙ sym (append_assoc before (l ∷ []) behind)) run)
 
   -- it took the number that was next
-  took : call.number ≡ (last before).next call.actor
+  pub took : call.number ≡ (last before).next call.actor
   took = until.2.number
 
   -- and the next one is above it from then on

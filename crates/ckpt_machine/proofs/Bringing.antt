@@ -19,7 +19,7 @@ use Rattle.node_msgs.specs.declared.steps.Verb.TheVariants as verbs
 use Rattle.run_labels.specs.declared.labels.Label.{Label}
 use Rattle.run_labels.specs.declared.labels.Label.TheVariants as labels
 use Rattle.cluster_record.specs.declared.entries.Entry.{Entry}
-use Rattle.cluster_record.specs.RecordState.{entry_of}
+use Rattle.cluster_record.specs.RecordState.{RecordState, entry_of, is_up}
 use Rattle.cluster_record.specs.StepDone.{StepDone, done_of, counting}
 use Rattle.ckpt_machine.specs.Driving.{Kept}
 use Rattle.ckpt_machine.specs.Guards.{IsOnOwn, Row}
@@ -33,6 +33,7 @@ use Rattle.ckpt_machine.specs.Runs.{last}
 use Rattle.ckpt_machine.specs.After.{change_replica, with_installed, changed, pulled_by, kept_behind}
 use Rattle.ckpt_machine.specs.Due.{Told, IsDone, due, counted_at}
 use Rattle.ckpt_machine.specs.Synchronized.{IsPullOf}
+use Rattle.ckpt_machine.proofs.CompleteUp.{some_up}
 use Rattle.ckpt_machine.proofs.EachReplica.{Each, PulledInHand}
 use Rattle.ckpt_machine.proofs.Copying.{IsOfSource, put2-here}
 use Rattle.ckpt_machine.proofs.Generations.{generation_there}
@@ -62,15 +63,15 @@ pub record HasPulledIn (log : List Label) (call : CallId) (k : ℕ) (z : Snapsho
 abbrev pub HasFirst : Snapshot → ReplicaState → Type 0
 HasFirst z x = (x.generation ≡ z.generation) × IsPrefix z.effects x.effects
 
--- where a checkpoint is of the generation of the snapshot, the replica of each node that the steps have served is too, and has its effects first
-abbrev pub HaveServed : List Entry → (ℕ → ℕ → Option ReplicaState) → List StepDone → ℕ → Snapshot → Type 0
-HaveServed entries replicas steps k z = (e : Entry) (r : ℕ) → entry_of k entries ≡ Some e → z.generation ≡ e.generation → list_any (serves r) steps ≡ true → IsSomeAnd (replicas k r) (HasFirst z)
+-- where a checkpoint is of the generation of the snapshot, the replica of each node that is up, and that the steps have served, is too, and has its effects first
+abbrev pub HaveServed : RecordState → (ℕ → ℕ → Option ReplicaState) → List StepDone → ℕ → Snapshot → Type 0
+HaveServed R replicas steps k z = (e : Entry) (r : ℕ) → is_up r R ≡ true → entry_of k R.entries ≡ Some e → z.generation ≡ e.generation → list_any (serves r) steps ≡ true → IsSomeAnd (replicas k r) (HasFirst z)
 
--- a call in hand that has pulled nothing has served no node; what it has in hand it has pulled in the log, and the replica of each node that it has served has that first
-pub record IsBringing (log : List Label) (entries : List Entry) (replicas : ℕ → ℕ → Option ReplicaState) (s : CallState) : Type 0 where
+-- a call in hand that has pulled nothing has served no node; what it has in hand it has pulled in the log, and the replica of each node that it has served, and that is up, has that first
+pub record IsBringing (log : List Label) (R : RecordState) (replicas : ℕ → ℕ → Option ReplicaState) (s : CallState) : Type 0 where
   pub none : s.snapshot ≡ None → (r : ℕ) → list_any (serves r) s.steps ≡ false
   pub pulled : (k : ℕ) (z : Snapshot) → s.kept.ckpt ≡ Some k → s.snapshot ≡ Some z → HasPulledIn log s.call k z
-  pub served : (k : ℕ) (z : Snapshot) → s.kept.ckpt ≡ Some k → s.snapshot ≡ Some z → HaveServed entries replicas s.steps k z
+  pub served : (k : ℕ) (z : Snapshot) → s.kept.ckpt ≡ Some k → s.snapshot ≡ Some z → HaveServed R replicas s.steps k z
 
 -- what a call has pulled in a log it has pulled in a longer one
 pulled_longer : (log : List Label) (l : Label) (call : CallId) (k : ℕ) (z : Snapshot) → HasPulledIn log call k z → HasPulledIn (log ++ l ∷ []) call k z
@@ -93,14 +94,14 @@ module _ (log : List Label) (l : Label) (inv : Invariant (last log)) (history : 
   abbrev m : Machine
   m = last log
 
-  module _ (s : CallState) (a : Who) (held : m.in_hand a ≡ Some s) (was : IsBringing log m.cluster.entries m.replicas s) (entries : List Entry) (replicas : ℕ → ℕ → Option ReplicaState) (goes : (k : ℕ) → k ≤ m.cluster.last_identity → GoesOnIn m k entries replicas) where
+  module _ (s : CallState) (a : Who) (held : m.in_hand a ≡ Some s) (was : IsBringing log m.cluster m.replicas s) (R : RecordState) (replicas : ℕ → ℕ → Option ReplicaState) (goes : (k : ℕ) → k ≤ m.cluster.last_identity → GoesOnIn m k R replicas) where
     -- a snapshot in the hand of a call was pulled of the checkpoint that this keeps
     in_hand_of : (k : ℕ) (z : Snapshot) → s.kept.ckpt ≡ Some k → s.snapshot ≡ Some z → PulledInHand m.in_hand k z
     in_hand_of k z ckpt snapshot = record { name = a; state = s; in_hand = held; ckpt = ckpt; snapshot = snapshot }
 
     -- the replica of each node that a call has served still has first what is in its hand
-    still_served : (k : ℕ) (z : Snapshot) → s.kept.ckpt ≡ Some k → s.snapshot ≡ Some z → HaveServed entries replicas s.steps k z
-    still_served k z ckpt snapshot f r found present served =
+    still_served : (k : ℕ) (z : Snapshot) → s.kept.ckpt ≡ Some k → s.snapshot ≡ Some z → HaveServed R replicas s.steps k z
+    still_served k z ckpt snapshot f r is_there found present served =
         let (given, so) = each.in_hand k z (in_hand_of k z ckpt snapshot) in
         let go = goes k given in
         let (e, there, keeps) = go.made f found in
@@ -109,12 +110,13 @@ module _ (log : List Label) (l : Label) (inv : Invariant (last log)) (history : 
         let rises = (keeps.made of.source.made).generation in
         let before : z.generation ≡ e.generation = omega (arith, within, rises, present) in
         let still : f.generation ≡ e.generation = sym present ∙ before in
-        let (x, at, first) = IsSomeAnd-at (m.replicas k r) (HasFirst z) (was.served k z ckpt snapshot e r there before served) in
-        let (y, at_then, grows) = IsSomeAnd-at (replicas k r) (GrowsTo x) (go.replica r x e f there found still at (first.0 ∙ before)) in
+        let was_up : is_up r m.cluster ≡ true = elim (go.up r is_there) [ inl up ↦ up | inr none ↦ absurd (some_up m inv k e there of.source.made none) ] in
+        let (x, at, first) = IsSomeAnd-at (m.replicas k r) (HasFirst z) (was.served k z ckpt snapshot e r was_up there before served) in
+        let (y, at_then, grows) = IsSomeAnd-at (replicas k r) (GrowsTo x) (go.replica r x e f is_there there found still at (first.0 ∙ before)) in
         IsSomeAnd-from (replicas k r) (HasFirst z) y at_then (grows.0 ∙ first.0, prefix_then z.effects x.effects y.effects first.1 grows.1)
 
     -- a call that takes no step goes on to bring what it has pulled
-    pub stays_bringing : IsBringing (log ++ l ∷ []) entries replicas s
+    pub stays_bringing : IsBringing (log ++ l ∷ []) R replicas s
     stays_bringing = record {
       none = was.none;
       pulled = λ k z ckpt snapshot. pulled_longer log l s.call k z (was.pulled k z ckpt snapshot);
@@ -122,16 +124,16 @@ module _ (log : List Label) (l : Label) (inv : Invariant (last log)) (history : 
     }
 
     -- so does a call whose step serves no node, and leaves what it has in hand
-    unserving : (d : StepDone) (h : CallState) → is_service d.verb d.reply ≡ false → h.call ≡ s.call → h.kept ≡ s.kept → h.steps ≡ d ∷ s.steps → h.snapshot ≡ s.snapshot → IsBringing (log ++ l ∷ []) entries replicas h
+    unserving : (d : StepDone) (h : CallState) → is_service d.verb d.reply ≡ false → h.call ≡ s.call → h.kept ≡ s.kept → h.steps ≡ d ∷ s.steps → h.snapshot ≡ s.snapshot → IsBringing (log ++ l ∷ []) R replicas h
     unserving d h service call kept steps snapshot = record {
       none = λ empty r. ap (λ (steps : List StepDone). list_any (serves r) steps) steps ∙ served_as r d s.steps service ∙ was.none (sym snapshot ∙ empty) r;
       pulled = λ k z ckpt is. subst (λ call. HasPulledIn (log ++ l ∷ []) call k z) (sym call) (stays_bringing.pulled k z (sym (ap (λ (kept : Kept). kept.ckpt) kept) ∙ ckpt) (sym snapshot ∙ is));
-      served = λ k z ckpt is f r found present served. stays_bringing.served k z (sym (ap (λ (kept : Kept). kept.ckpt) kept) ∙ ckpt) (sym snapshot ∙ is) f r found present (sym (ap (λ (steps : List StepDone). list_any (serves r) steps) steps ∙ served_as r d s.steps service) ∙ served);
+      served = λ k z ckpt is f r is_there found present served. stays_bringing.served k z (sym (ap (λ (kept : Kept). kept.ckpt) kept) ∙ ckpt) (sym snapshot ∙ is) f r is_there found present (sym (ap (λ (steps : List StepDone). list_any (serves r) steps) steps ∙ served_as r d s.steps service) ∙ served);
     }
 
 -- ---- its own step
 
-module _ (log : List Label) (inv : Invariant (last log)) (history : HasHistory (last log)) (each : Each (λ o r x. Unit {0}) (λ e s. Unit {0}) (last log)) (s : CallState) (held : (last log).in_hand (who s) ≡ Some s) (was : IsBringing log (last log).cluster.entries (last log).replicas s) where
+module _ (log : List Label) (inv : Invariant (last log)) (history : HasHistory (last log)) (each : Each (λ o r x. Unit {0}) (λ e s. Unit {0}) (last log)) (s : CallState) (held : (last log).in_hand (who s) ≡ Some s) (was : IsBringing log (last log).cluster (last log).replicas s) where
   -- each checkpoint goes on by a step of the call
   abbrev GoesBy : Verb → Option ℕ → Option ℕ → StepReply → Type 0
   GoesBy verb j q reply = (k : ℕ) → k ≤ (last log).cluster.last_identity → GoesOn (last log) k (changed (last log) s verb j q reply)
@@ -142,20 +144,20 @@ module _ (log : List Label) (inv : Invariant (last log)) (history : HasHistory (
 
   -- a call brings what it has pulled behind a step of its own, whether that ends it or not
   abbrev BringsBy : Label → Verb → Option ℕ → Option ℕ → StepReply → Type 0
-  BringsBy l verb j q reply = IsBringing (log ++ l ∷ []) (changed (last log) s verb j q reply).cluster.entries (changed (last log) s verb j q reply).replicas (kept_behind (last log) s (changed (last log) s verb j q reply).cluster verb j q reply)
+  BringsBy l verb j q reply = IsBringing (log ++ l ∷ []) (changed (last log) s verb j q reply).cluster (changed (last log) s verb j q reply).replicas (kept_behind (last log) s (changed (last log) s verb j q reply).cluster verb j q reply)
 
   -- a call brings what it has pulled behind a step that serves no node
   unserving_brings : (l : Label) (verb : Verb) (j q : Option ℕ) (reply : StepReply) → GoesBy verb j q reply → is_service verb reply ≡ false → pulled_by (last log) s verb j q reply ≡ s.snapshot → BringsBy l verb j q reply
   unserving_brings l verb j q reply goes service snapshot =
       let n = changed (last log) s verb j q reply in
-      unserving log l inv history each s (who s) held was n.cluster.entries n.replicas goes (kept_step verb j q reply) (kept_behind (last log) s n.cluster verb j q reply) service refl refl refl snapshot
+      unserving log l inv history each s (who s) held was n.cluster n.replicas goes (kept_step verb j q reply) (kept_behind (last log) s n.cluster verb j q reply) service refl refl refl snapshot
 
   -- a call brings what it pulls, where nothing was in its hand
   pull_brings : (l : Label) (j q : ℕ) (e : Entry) (x : ReplicaState) → IsPullOf l s.call j q → Some j ≡ s.kept.ckpt → s.snapshot ≡ None → entry_of j (last log).cluster.entries ≡ Some e → e.active ≡ Some q → (last log).replicas j q ≡ Some x → BringsBy l verbs.Pull (Some j) (Some q) words.Ok
   pull_brings l j q e x is own empty found active there = record {
     none = λ none r. absurd (let w : Some (copied x) ≡ None = sym has ∙ none in cc w);
     pulled = λ k z ckpt snapshot. subst (HasPulledIn (log ++ l ∷ []) s.call k) (copy z snapshot) (subst (λ k. HasPulledIn (log ++ l ∷ []) s.call k (copied x)) (same_Some j k (own ∙ ckpt)) from_active);
-    served = λ k z ckpt snapshot f r at present served. elim (served_then r (kept_step verbs.Pull (Some j) (Some q) words.Ok) s.steps served) [
+    served = λ k z ckpt snapshot f r is_there at present served. elim (served_then r (kept_step verbs.Pull (Some j) (Some q) words.Ok) s.steps served) [
       | inl node ↦ (
           let here : (last log).replicas k r ≡ Some x = (λ i. (last log).replicas (sym (same_Some j k (own ∙ ckpt)) i) (sym (same_Some q r node) i)) ∙ there in
           IsSomeAnd-from ((last log).replicas k r) (HasFirst z) x here (subst (λ z. HasFirst z x) (copy z snapshot) (refl, prefix_same x.effects)))
@@ -177,17 +179,17 @@ module _ (log : List Label) (inv : Invariant (last log)) (history : HasHistory (
   install_brings l j q reply goes own pulled in_hand here = record {
     none = λ none r. absurd (let w : Some pulled ≡ None = sym in_hand ∙ none in cc w);
     pulled = stays.pulled;
-    served = λ k z ckpt snapshot f r at present served. elim (served_then r (kept_step verbs.Install (Some j) (Some q) reply) s.steps served) [
+    served = λ k z ckpt snapshot f r is_there at present served. elim (served_then r (kept_step verbs.Install (Some j) (Some q) reply) s.steps served) [
       | inl node ↦ subst (λ z. IsSomeAnd (n.replicas k r) (HasFirst z)) (same_Some pulled z (sym in_hand ∙ snapshot)) (subst (λ r. IsSomeAnd (n.replicas k r) (HasFirst pulled)) (same_Some q r node) (subst (λ k. IsSomeAnd (n.replicas k q) (HasFirst pulled)) (same_Some j k (own ∙ ckpt)) here))
-      | inr before ↦ stays.served k z ckpt snapshot f r at present before
+      | inr before ↦ stays.served k z ckpt snapshot f r is_there at present before
     ];
   }
     where
       n : Machine
       n = changed (last log) s verbs.Install (Some j) (Some q) reply
 
-      stays : IsBringing (log ++ l ∷ []) n.cluster.entries n.replicas s
-      stays = stays_bringing log l inv history each s (who s) held was n.cluster.entries n.replicas goes
+      stays : IsBringing (log ++ l ∷ []) n.cluster n.replicas s
+      stays = stays_bringing log l inv history each s (who s) held was n.cluster n.replicas goes
 
   -- a call brings what it has pulled behind an installation onto a replica that was behind it
   installed_brings : (l : Label) (j q : ℕ) (t : Told) → GoesBy verbs.Install (Some j) (Some q) words.Ok → Some j ≡ s.kept.ckpt → OnReplica (last log) j q (InstallOk (last log) s q t true) → BringsBy l verbs.Install (Some j) (Some q) words.Ok

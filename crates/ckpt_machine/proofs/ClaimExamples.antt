@@ -1,4 +1,4 @@
--- Worked examples of the claims about a whole log: of what was asked, of who is in hand, and of a run in which an active is set twice, each by computation.
+-- Worked examples of the claims about a whole log: of what was asked, of who is in hand, of the order of calls, and of a run in which an active is set twice, each by computation.
 use Rattle.std.proofs.Common.{◌≡◌, ℕ, ◌+◌, List, [], ◌∷◌, ◌++◌, Option, Some, None, codes, false, pos, inl, refl}
 use Rattle.ckpt_types.specs.declared.answers.Answer.TheVariants as answers
 use Rattle.ckpt_types.specs.declared.answers.Outcome.TheVariants.{Done}
@@ -18,6 +18,7 @@ use Rattle.run_labels.specs.declared.labels.Label.TheVariants as labels
 use Rattle.cluster_record.specs.declared.entries.Entry.{Entry}
 use Rattle.cluster_record.specs.RecordState.{entry_of}
 use Rattle.ckpt_machine.specs.ActivesSet.{SetsActive, HasHeld, HadNoOther}
+use Rattle.ckpt_machine.specs.InOrder.{EndsBefore, KeepOrder}
 use Rattle.ckpt_machine.specs.Machine.{Effect, Applied}
 use Rattle.ckpt_machine.specs.Owners.{IsCallInHand}
 use Rattle.ckpt_machine.specs.Runs.{last}
@@ -84,6 +85,16 @@ until_c1_asks =
     ∷ labels.Stepped (call_numbered 4) opwords.Write verbs.Apply (Some 1) (Some 0) words.Ok answered_ok beside.Nothing
     ∷ labels.Began (other_numbered 3) (ops.Active 0) None beside.Nothing
     ∷ []
+
+-- the write had ended when c1 began, so no update of that call of c1 could stand in front of it
+abbrev the_write_ends : Label
+the_write_ends = labels.Stepped (call_numbered 4) opwords.Write verbs.Apply (Some 1) (Some 0) words.Ok answered_ok beside.Nothing
+
+pub it_ends_before : EndsBefore until_c1_asks (call_numbered 4) (other_numbered 3)
+it_ends_before = record { before = until_both_have_it ++ first_set ∷ labels.Began (call_numbered 4) a_write None beside.Nothing ∷ []; between = []; behind = []; ending = the_write_ends; op = ops.Active 0; end = None; details = beside.Nothing; log_is = refl; ends = refl }
+
+pub and_stands_first : KeepOrder until_c1_asks (Applied (other_numbered 3) abc (pos 0) ∷ Applied (call_numbered 4) abc (pos 0) ∷ []) → ⊥
+and_stands_first order = order (call_numbered 4) (other_numbered 3) it_ends_before (inl (refl, inl refl))
 
 -- the checkpoint is held on n0
 abbrev a_hold : Label

@@ -24,12 +24,12 @@ use Rattle.ckpt_machine.specs.Propagation.{source_of, source_at, on_node, target
 pub record IsSource (e : Entry) : Type 0 where
   pub made : e.making ≡ None
   pub alone : is_all e.attributes ≡ false
-  pub led : IsSome e.active
 
--- a snapshot is of such a checkpoint, and of no higher generation
+-- a snapshot is of such a checkpoint, and of no higher generation; and where it is of the present one, this has an active
 pub record IsOfSource (e : Entry) (s : Snapshot) : Type 0 where
   pub source : IsSource e
   pub within : s.generation ≤ e.generation
+  pub led : s.generation ≡ e.generation → IsSome e.active
 
 -- this is the replica of the active of such a checkpoint
 pub record IsPulledFrom (m : Machine) (k : ℕ) (x : ReplicaState) : Type 0 where
@@ -45,7 +45,7 @@ pull_from m k x is = by_entry (entry_of k m.cluster.entries) refl is
   where
     by_active : (e : Entry) → entry_of k m.cluster.entries ≡ Some e → e.making ≡ None → is_all e.attributes ≡ false → (o : Option ℕ) → e.active ≡ o → on_node (m.replicas k) o ≡ Some x → IsPulledFrom m k x
     by_active e found made alone None active none = absurd (cc none)
-    by_active e found made alone (Some r) active there = record { entry = e; found = found; source = record { made = made; alone = alone; led = subst IsSome (sym active) refl }; node = r; active = active; there = there }
+    by_active e found made alone (Some r) active there = record { entry = e; found = found; source = record { made = made; alone = alone }; node = r; active = active; there = there }
 
     by_tests : (e : Entry) → entry_of k m.cluster.entries ≡ Some e → (making : Option CallId) → e.making ≡ making → (all : Bool) → is_all e.attributes ≡ all → on_node (m.replicas k) (cond (is_some making || all) None e.active) ≡ Some x → IsPulledFrom m k x
     by_tests e found None made false alone at = by_active e found made alone e.active refl at

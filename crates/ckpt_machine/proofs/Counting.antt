@@ -29,18 +29,21 @@ use Rattle.run_labels.specs.declared.labels.PutReply.{PutReply}
 use Rattle.run_labels.specs.declared.labels.PutReply.TheVariants as puts
 use Rattle.cluster_record.specs.declared.entries.Entry.{Entry}
 use Rattle.cluster_record.specs.Calls.{same_actor, client_of, left}
+use Rattle.cluster_record.specs.Failing.{goes_with_node}
 use Rattle.cluster_record.specs.Identities.{IdentitiesRise, AllUpTo}
 use Rattle.cluster_record.specs.LookUps.{creation_flags_of}
 use Rattle.cluster_record.specs.Makings.{making_of}
 use Rattle.cluster_record.specs.Places.{change_key, put2}
 use Rattle.cluster_record.specs.Placement.{adds}
-use Rattle.cluster_record.specs.RecordState.{RecordState, entry_of, identity_of, has_references, stays, swept, entered, created_as, new_entry, referred, opened_with, home_of, made_with, unreferred, released_all, unnamed, retaining, is_call_of, departed, moved, undone, complete_of, is_active, can_be_held, with_hold, can_lead, generation_under, with_active, active_set}
+use Rattle.cluster_record.specs.RecordState.{RecordState, entry_of, identity_of, has_references, stays, swept, entered, created_as, new_entry, referred, opened_with, home_of, made_with, unreferred, released_all, unnamed, retaining, is_call_of, departed, moved, undone, complete_of, is_active, is_live, can_be_held, with_hold, can_lead, generation_under, with_active, active_set}
 use Rattle.cluster_record.specs.StepDone.{generation_in}
 use Rattle.ckpt_machine.proofs.HeldIdentity.{with_hold-identity, with_active-identity}
 use Rattle.cluster_record.proofs.IdentityLaws.{KeepsIdentity, IdentitiesRise-change_key, IdentitiesRise-filter, IdentitiesRise-map, IdentitiesRise-push}
 use Rattle.ckpt_types.specs.Asks.{Ask, asked, update_of}
 use Rattle.ckpt_types.specs.Asks as asks
-use Rattle.ckpt_machine.specs.Machine.{Machine, Applied, ReplicaState, Snapshot, Staged, CallState, empty_cluster, who}
+use Rattle.ckpt_machine.specs.Failing.{is_of_node, broken, broken_unless, made_present, replica_left, record_failed, failed_at}
+use Rattle.ckpt_machine.specs.Invariant.{Invariant}
+use Rattle.ckpt_machine.specs.Machine.{Machine, Applied, Broken, ReplicaState, Snapshot, Staged, CallState, empty_cluster, who}
 use Rattle.ckpt_machine.specs.Laws.{CountsUp}
 use Rattle.ckpt_machine.specs.Propagation.{source_at, copied, with_pulled, target_at, replica_from, with_put}
 use Rattle.ckpt_machine.specs.Runs.{Counts}
@@ -50,12 +53,16 @@ use Rattle.call_dispatch.specs.PendingCalls.{PendingCalls, no_pending, given_by}
 use Rattle.call_dispatch.specs.declared.async_call.EndedCall.{EndedCall}
 use Rattle.ckpt_types.specs.declared.calls.AsyncKind.{AsyncKind}
 use Rattle.ckpt_types.specs.declared.calls.AsyncKind.TheVariants as kinds
-use Rattle.ckpt_machine.specs.Due.{ids_asked}
+use Rattle.ckpt_machine.specs.Due.{count_in, ids_asked}
+use Rattle.ckpt_machine.specs.Under.{replicas_under}
 use Rattle.ckpt_machine.specs.Seen.{seen_at}
 use Rattle.ckpt_machine.specs.Tables.{handle_given, handle_closed, registering, place_set, places_set, with_iteration, started, with_next, gone_on, closing, ended_at_once}
 use Rattle.ckpt_machine.proofs.References.{released-identity, released_all-identity}
 use Rattle.ckpt_machine.proofs.Joining.{opened_with-identity}
 use Rattle.ckpt_machine.proofs.Entries.{ComesOf, ComesOf-filter, ComesOf-change_key, ComesOf-map}
+use Rattle.ckpt_machine.proofs.FailedCalls.{left_is as left_was_in_hand}
+use Rattle.ckpt_machine.proofs.FailedEntries.{failed_at_most}
+use Rattle.ckpt_machine.proofs.FailedHands.{was_entry}
 use Rattle.ckpt_machine.proofs.Follows.{element_effects}
 use Rattle.ckpt_machine.proofs.Propagated.{source_there}
 use Rattle.ckpt_machine.proofs.Dropped.{left_was, held_as}
@@ -616,6 +623,68 @@ begun_counts m call op end n counts = tables_on m n counts (begun_call m call op
   references = λ k e c is. omega (arith, counts.references k e c is);
 }) call.actor (ended_at_once end (asked op) (m.pending call.actor)) (CountsOne-ended_at_once end (asked op) (m.pending call.actor) (m.tables call.actor))
 
+-- ---- the failure of a node
+
+-- it gives a replica one effect more at most
+broken_counts : (R : RecordState) (o : Option Entry) (q : ℕ) (x : ReplicaState) (marks : Option Marked) → length (made_present o q (broken_unless R marks x)).effects ≤ length x.effects + 1
+broken_counts R o q x marks = by_entry o
+  where
+    by_live : (marked : Marked) (b : Bool) → length (cond b x (broken marked x)).effects ≤ length x.effects + 1
+    by_live marked true = omega arith
+    by_live marked false = let more = length_push x.effects (Broken marked.call marked.update marked.moment marked.done) in omega (arith, more)
+
+    by_marks : (marks : Option Marked) → length (broken_unless R marks x).effects ≤ length x.effects + 1
+    by_marks None = omega arith
+    by_marks (Some marked) = by_live marked (is_live R marked.call)
+
+    by_entry : (o : Option Entry) → length (made_present o q (broken_unless R marks x)).effects ≤ length x.effects + 1
+    by_entry None = by_marks marks
+    by_entry (Some e) = elim (is_active e.active q) as (λ b. length (cond b (record (broken_unless R marks x) { generation = e.generation }) (broken_unless R marks x)).effects ≤ length x.effects + 1) [ true ↦ by_marks marks | false ↦ by_marks marks ]
+
+module _ (m : Machine) (n : ℕ) (inv : Invariant m) (few : Counts m n) (r : ℕ) where
+  -- the record behind it
+  abbrev R : RecordState
+  R = record_failed m r
+
+  -- whether a client goes with the node or not
+  tables_count : (P : ClientState → Type 0) (a : ActorName) → P (m.tables a) → P (emptied (m.tables a)) → P ((failed_at r m).tables a)
+  tables_count P a stays goes = elim (is_of_node m.cluster r a) as (λ b. P (cond b (emptied (m.tables a)) (m.tables a))) [ true ↦ goes | false ↦ stays ]
+
+  effects_count : (k q : ℕ) (y : ReplicaState) → (failed_at r m).replicas k q ≡ Some y → length y.effects ≤ n + 1
+  effects_count k q y is = by_under (replicas_under m.cluster R m.replicas k q) refl is
+    where
+      of_it : (x : ReplicaState) → length x.effects ≤ n → replica_left R k q x ≡ y → length y.effects ≤ n + 1
+      of_it x most same = subst (λ (y : ReplicaState). length y.effects ≤ n + 1) same (let a = broken_counts R (entry_of k R.entries) q x x.marks in omega (arith, a, most))
+
+      by_under : (o : Option ReplicaState) → replicas_under m.cluster R m.replicas k q ≡ o → option_map (replica_left R k q) o ≡ Some y → length y.effects ≤ n + 1
+      by_under None none gone = absurd (cc gone)
+      by_under (Some x) under some = elim (replica_under-Some (entry_of k R.entries) (slice_index (complete_of (entry_of k m.cluster.entries)) q) q (m.replicas k q) x under) [
+        | inl was ↦ of_it x (few.effects k q x was) (same_Some (replica_left R k q x) y some)
+        | inr none ↦ of_it x (let empty : length x.effects ≡ 0 = ap length none in omega (arith, empty)) (same_Some (replica_left R k q x) y some)
+      ]
+
+  -- it counts no more than a label may
+  pub failed_counts : Counts (failed_at r m) (n + 1)
+  failed_counts = record {
+    next = λ a. omega (arith, few.next a);
+    last_handles = λ a. tables_count (λ t. t.last_number ≤ n + 1) a (omega (arith, few.last_handles a)) (omega (arith, few.last_handles a));
+    last_iterations = λ a. tables_count (λ t. t.last_iteration ≤ n + 1) a (omega (arith, few.last_iterations a)) (omega (arith, few.last_iterations a));
+    effects = effects_count;
+    snapshots = λ k s is. omega (arith, few.snapshots k s (snapshot_under-Some (entry_of k R.entries) (m.snapshots k) s is));
+    copies = λ w s x held is. omega (arith, few.copies w s x (left_was_in_hand false m inv.shapes inv.holds r w s held).0 is);
+    identity = omega (arith, few.identity);
+    generations = λ k f found. (
+        let it = was_entry false m inv.shapes inv.holds r k f found in
+        let a = failed_at_most (λ q. count_in (m.replicas it.e.identity q)) (goes_with_node m.cluster r) r it.e f it.left in
+        let b = few.generations k it.e it.was in
+        omega (arith, a, b));
+    references = λ k f c found. (
+        let it = was_entry false m inv.shapes inv.holds r k f found in
+        let a = it.left.fewer c in
+        let b = few.references k it.e c it.was in
+        omega (arith, a, b));
+  }
+
 -- ---- any label
 
 pub counts_up : CountsUp
@@ -636,6 +705,8 @@ counts_up m (labels.Stepped call op verb k r reply end details) n inv is few =
 counts_up m (labels.Word by word said) n inv is few = more m n few
 counts_up m (labels.Nodes nodes) n inv is few = let c = more m n few in record { next = c.next; last_handles = c.last_handles; last_iterations = c.last_iterations; effects = c.effects; snapshots = c.snapshots; copies = c.copies; identity = c.identity; generations = c.generations; references = c.references }
 counts_up m (labels.Moved t) n inv is few = on_record m n few (moved t m.cluster) (record { rises = IdentitiesRise-filter (stays t) m.cluster.entries inv.holds.rises; last = omega arith; few = λ n few k e c found. let a = Few-filter n (stays t) m.cluster.entries inv.holds.rises few k e c found in omega (arith, a); low = λ n low k e found. let a = Low-filter n (stays t) m.cluster.entries inv.holds.rises low k e found in omega (arith, a) })
+counts_up m (labels.Failed r true) n inv is few = failed_counts m n inv few r
+counts_up m (labels.Failed r false) n inv is few = more m n few
 counts_up m (labels.Shown k replicas) n inv is few = more m n few
 counts_up m (labels.Pulled k reply) n inv is few = pulled_on m n few k reply (source_at m k) refl
 counts_up m (labels.Put k r reply) n inv is few = put_on m n few k r reply (m.snapshots k) (target_at m k r) refl

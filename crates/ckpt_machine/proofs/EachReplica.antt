@@ -1,5 +1,5 @@
 -- What is said of a replica by its checkpoint's entry and its node, and of a snapshot by that entry, and what keeps it at each step: then it holds of each replica and each snapshot, in a hand too, in every state of a run. And where updates go to the active alone, no other replica and no snapshot of its generation is ahead of it.
-use Rattle.std.proofs.Common.{◌≡◌, ◌⊎◌, inl, inr, ℕ, ◌+◌, ◌≤◌, List, [], ◌∷◌, ◌++◌, Option, Some, None, Bool, true, false, cond, not, ◌==◌, refl, sym, ap, subst, ◌∙◌, append_assoc, arith}
+use Rattle.std.proofs.Common.{◌≡◌, inl, inr, ℕ, ◌+◌, ◌≤◌, List, [], ◌∷◌, ◌++◌, Option, Some, None, Bool, true, false, cond, not, ◌==◌, refl, sym, ap, subst, ◌∙◌, append_assoc, arith}
 use Rattle.std.specs.Option.{option_map}
 use Rattle.std.specs.Prelude.{IsSome, IsSomeAnd, IfSome, slice_index}
 use Rattle.std.proofs.lemmas.List.{append-nil}
@@ -38,23 +38,26 @@ use Rattle.ckpt_machine.specs.Options.{is_weak, is_by_element}
 use Rattle.ckpt_machine.specs.Propagation.{copied, replica_from}
 use Rattle.ckpt_machine.specs.Replays.{IsPrefix}
 use Rattle.ckpt_machine.specs.Runs.{last, IsRun}
-use Rattle.ckpt_machine.specs.Shape.{IsCompleteOn, IsApart, IsShapedBy}
-use Rattle.ckpt_machine.specs.After.{with_record, record_step, created_for, retained_for, change_replica, having_taken, committed_slot, with_committed, with_applied, with_slot, with_marks, next_element_written, with_next_element, marks_ended, without_marks, with_lead, changed, on_ok, on_look, without_making, at_some, replica_under, snapshot_under, opened_state, pulled_by, kept_behind, step_of, call_begun, after_beginning, staged_moment, after, with_closed}
+use Rattle.ckpt_machine.specs.Shape.{IsApart, IsShapedBy}
+use Rattle.ckpt_machine.specs.After.{with_record, record_step, created_for, retained_for, change_replica, with_committed, with_applied, with_slot, with_marks, next_element_written, with_next_element, marks_ended, without_marks, changed, on_ok, on_look, without_making, at_some, replica_under, opened_state, pulled_by, kept_behind, step_of, call_begun, after_beginning, staged_moment, after, with_closed}
 use Rattle.ckpt_machine.specs.Due.{Told, IsDone, IsDue, due}
-use Rattle.ckpt_machine.proofs.Activating.{Leads, leader, with_leader, made_where_complete, led_by, led_goes, found_led, led_made, led_entry, leader-cases, after_activate}
+use Rattle.ckpt_machine.proofs.Activating.{Leads, leader, with_leader, led_by, led_goes, found_led, led_made, led_entry, leader-cases, after_activate}
 use Rattle.ckpt_machine.proofs.ActiveNode.{active_complete}
 use Rattle.ckpt_machine.specs.Acknowledged.{HasBegun}
 use Rattle.ckpt_machine.proofs.BegunBefore.{AllBegan, all_began, begun_more}
+use Rattle.ckpt_machine.proofs.EachKept.{follows_as, made_where_complete_at, entry_there, same_identity, copied_there, stayed, snapshot_goes, copy_goes, hand_goes}
+pub use Rattle.ckpt_machine.proofs.EachKept.{FollowsBy, IsAhead, EachIn, IsKept}
 use Rattle.ckpt_machine.proofs.Copying.{IsSource, IsOfSource, IsPulledFrom, IsPutOn, TakesOver, not_active, after_pull, after_put_over, put-cases, put2-cases}
 use Rattle.ckpt_machine.proofs.Entries.{ComesOf-filter}
-use Rattle.ckpt_machine.proofs.EntryLists.{entry_of-given, find_key-key}
+use Rattle.ckpt_machine.proofs.EntryLists.{entry_of-given}
+use Rattle.ckpt_machine.proofs.FailedEach.{failed_each}
 use Rattle.ckpt_machine.proofs.Follows.{under, snapshot_was, element_effects}
 use Rattle.ckpt_machine.proofs.GoodArguments.{HaveGoodArguments, good_arguments}
 use Rattle.ckpt_machine.proofs.Generations.{generation_there}
 use Rattle.ckpt_machine.proofs.Histories.{HasHistory, shaped_there, on_replica-there, follows, run_history}
 use Rattle.ckpt_machine.proofs.Installed.{after_install}
 use Rattle.ckpt_machine.proofs.Joining.{collocated_apart, opened_with-identity}
-use Rattle.ckpt_machine.proofs.OneReplica.{StepsOn, DeclaresAll, IsActiveOf, CanBeMarked, IsMarkedFor, Grows, committed_generation, element_generation, committed_more, grows_same, update_word}
+use Rattle.ckpt_machine.proofs.OneReplica.{IsBehindFront, StepsOn, IsActiveOf, CanBeMarked, IsMarkedFor, Grows, committed_generation, element_generation, committed_more, grows_same, update_word}
 use Rattle.ckpt_machine.proofs.OptionLemmas.{IsSomeAnd-at, IsSomeAnd-from, IfSome-from, IfSome-at}
 use Rattle.ckpt_machine.proofs.OwnMaking.{making_there}
 pub use Rattle.ckpt_machine.proofs.PulledInHand.{PulledInHand}
@@ -71,33 +74,12 @@ use Rattle.ckpt_machine.proofs.Whose.{put_who-cases}
 use Rattle.ckpt_machine.proofs.StaysMade.{StaysMade, StaysMade-same, StaysMade-kept, GoesOnMade, StaysMade-goes, held_made, held-identity, released_made, opened_made, MadeOn, MadeOn-swept, changed_on, filter_on, departed_on, created_for_on, retained_for_on, finished_on}
 use Rattle.ckpt_machine.proofs.MarksAt.{none_elsewhere}
 
--- a replica follows the active of a checkpoint of this generation: where this is not collocated any does, and else one of that generation
-abbrev pub FollowsBy : Bool → ℕ → ReplicaState → Type 0
-FollowsBy collocated g x = (collocated ≡ false) ⊎ (x.generation ≡ g)
-
--- so does one of the same generation
-follows_as : (collocated : Bool) (g : ℕ) (x z : ReplicaState) → x.generation ≡ z.generation → FollowsBy collocated g z → FollowsBy collocated g x
-follows_as collocated g x z same (inl apart) = inl apart
-follows_as collocated g x z same (inr present) = inr (same ∙ present)
-
--- each replica of the checkpoint that follows its active, and each snapshot of it that is of its generation, has only what this one has taken first
-pub record IsAhead (k : ℕ) (collocated : Bool) (g : ℕ) (replicas : ℕ → ℕ → Option ReplicaState) (snapshots : ℕ → Option Snapshot) (hands : Who → Option CallState) (y : ReplicaState) : Type 0 where
-  pub replica : (q : ℕ) (x : ReplicaState) → replicas k q ≡ Some x → FollowsBy collocated g x → IsPrefix x.effects y.effects
-  pub snapshot : (s : Snapshot) → snapshots k ≡ Some s → s.generation ≡ g → IsPrefix s.effects y.effects
-  pub in_hand : (s : Snapshot) → PulledInHand hands k s → s.generation ≡ g → IsPrefix s.effects y.effects
-
 -- ---- what is kept
 
 module _ (Q : Option Entry → ℕ → ReplicaState → Type 0) (S : Entry → Snapshot → Type 0) where
-  -- it holds of each replica and each snapshot; a snapshot is of a checkpoint that is made, and whose updates go to an active alone, but the checkpoint of one in a hand may be gone; and no replica and no snapshot of its generation is ahead of such an active
-  pub record EachIn (last : ℕ) (entries : List Entry) (replicas : ℕ → ℕ → Option ReplicaState) (snapshots : ℕ → Option Snapshot) (hands : Who → Option CallState) : Type 0 where
-    pub replica : (k r : ℕ) (x : ReplicaState) → replicas k r ≡ Some x → Q (entry_of k entries) r x
-    pub snapshot : (k : ℕ) (s : Snapshot) → snapshots k ≡ Some s → IsSomeAnd (entry_of k entries) (λ e. IsOfSource e s × S e s)
-    pub in_hand : (k : ℕ) (s : Snapshot) → PulledInHand hands k s → (k ≤ last) × IfSome (entry_of k entries) (λ e. IsOfSource e s × S e s)
-    pub ahead : (k r : ℕ) (e : Entry) (y : ReplicaState) → entry_of k entries ≡ Some e → is_all e.attributes ≡ false → e.active ≡ Some r → replicas k r ≡ Some y → IsAhead k (is_collocated e.attributes) e.generation replicas snapshots hands y
-
+  -- so it is in a state
   abbrev pub Each : Machine → Type 0
-  Each m = EachIn m.cluster.last_identity m.cluster.entries m.replicas m.snapshots m.in_hand
+  Each m = EachIn Q S m.cluster.last_identity m.cluster.entries m.replicas m.snapshots m.in_hand
 
   -- a call in hand may have this snapshot
   record MayHaveIn (last : ℕ) (entries : List Entry) (replicas : ℕ → ℕ → Option ReplicaState) (k : ℕ) (s : Snapshot) : Type 0 where
@@ -127,27 +109,6 @@ module _ (Q : Option Entry → ℕ → ReplicaState → Type 0) (S : Entry → S
         record { replica = before.replica; snapshot = before.snapshot; in_hand = λ s has. (may k s has).behind r e y found alone active at });
   }
 
-  -- it holds of what a checkpoint's opening makes, whatever becomes of its entry, and where it holds it does behind a stage, a commit, an update in one step, and what is done for a weak write: its marks, each element and its end; and so it does of a snapshot of the active, of a replica that takes it, and of one that leads its checkpoint anew
-  pub record IsKept (log : List Label) : Type 0 where
-    pub opened : (e : Entry) (r : ℕ) → Q (Some e) r (opened_state e)
-    pub stays : (e f : Entry) (r : ℕ) (x : ReplicaState) → f.identity ≡ e.identity → GoesOnMade e f → e.making ≡ None → Q (Some e) r x → Q (Some f) r x
-    pub stays_copied : (e f : Entry) (s : Snapshot) → f.identity ≡ e.identity → GoesOnMade e f → IsSource e → S e s → S f s
-    pub led : (e f : Entry) (r : ℕ) (o : Option Snapshot) (x : ReplicaState) → f.identity ≡ e.identity → GoesOnMade e f → e.making ≡ None → x.slot ≡ None → x.marks ≡ None → IfSome o (S e) → Q (Some e) r x → Q (Some f) r (with_lead o f.generation x)
-    pub pulled : (e : Entry) (r : ℕ) (x : ReplicaState) → IsSource e → e.active ≡ Some r → x.marks ≡ None → Q (Some e) r x → S e (copied x)
-    pub put : (e : Entry) (r : ℕ) (s : Snapshot) (x : ReplicaState) → s.generation ≡ e.generation → x.slot ≡ None → x.marks ≡ None → S e s → Q (Some e) r x → Q (Some e) r (replica_from s x)
-    pub staged : (m : Machine) (s : CallState) (k r : ℕ) (x : ReplicaState) → StepsOn log m s verbs.Stage k r x → Q (entry_of k m.cluster.entries) r x → Q (entry_of k m.cluster.entries) r (with_slot s.call (update_of s.op) (staged_moment m k) x)
-    pub committed : (m : Machine) (s : CallState) (k r : ℕ) (x : ReplicaState) (e : Entry) → StepsOn log m s verbs.Commit k r x → DeclaresAll m k e → Q (Some e) r x → Q (Some e) r (committed_slot e.attributes x x.slot)
-    pub applied : (m : Machine) (s : CallState) (k r : ℕ) (x : ReplicaState) (e : Entry) → StepsOn log m s verbs.Apply k r x → IsActiveOf m k r e → x.marks ≡ None → Q (Some e) r x → Q (Some e) r (having_taken e.attributes s.call (update_of s.op) m.cluster.moment x)
-    pub marked : (m : Machine) (s : CallState) (k r : ℕ) (x : ReplicaState) (e : Entry) → StepsOn log m s verbs.Mark k r x → IsActiveOf m k r e → CanBeMarked e (update_of s.op) m.cluster.moment x → Q (Some e) r x → Q (Some e) r (with_marks s.call (update_of s.op) m.cluster.moment x)
-    pub element : (m : Machine) (s : CallState) (k r : ℕ) (x : ReplicaState) (e : Entry) (marks : Marked) → StepsOn log m s verbs.Element k r x → IsActiveOf m k r e → IsMarkedFor s.call (update_of s.op) true x marks → Q (Some e) r x → Q (Some e) r (next_element_written e.attributes x (Some marks))
-    pub unmarked : (m : Machine) (s : CallState) (k r : ℕ) (x : ReplicaState) (e : Entry) (marks : Marked) → StepsOn log m s verbs.Unmark k r x → IsActiveOf m k r e → IsMarkedFor s.call (update_of s.op) false x marks → Q (Some e) r x → Q (Some e) r (marks_ended x (Some marks))
-
-  -- a checkpoint of which snapshots are taken stays so, and its generation does not fall
-  IsOfSource-goes : (e f : Entry) (s : Snapshot) → GoesOnMade e f → IsOfSource e s → IsOfSource f s
-  IsOfSource-goes e f s goes of =
-      let still = goes.made of.source.made in
-      record { source = record { made = still.made; alone = ap is_all goes.attributes ∙ of.source.alone; led = still.led of.source.led }; within = (let a = of.within in let b = still.generation in omega (arith, a, b)) }
-
   -- the replica of a node that was complete was there
   was_there : (o : Option Entry) (before r : ℕ) (old : Option ReplicaState) (y : ReplicaState) → (before == 0) ≡ false → replica_under o before r old ≡ Some y → old ≡ Some y
   was_there None before r old y complete is = absurd (cc is)
@@ -156,67 +117,14 @@ module _ (Q : Option Entry → ℕ → ReplicaState → Type 0) (S : Entry → S
     | false ↦ λ some. subst (λ b. cond b (Some (opened_state e)) old ≡ Some y) complete some
   ] is
 
-  module _ (log : List Label) (kept : IsKept log) (m : Machine) (began : AllBegan log m) (inv : Invariant m) (history : HasHistory m) (arguments : HaveGoodArguments m) (each : Each m) where
+  module _ (log : List Label) (kept : IsKept Q S log) (m : Machine) (began : AllBegan log m) (at_front : IsBehindFront log m) (inv : Invariant m) (history : HasHistory m) (arguments : HaveGoodArguments m) (each : Each m) where
     -- it holds after a step, of what was in hand before it
     abbrev EachHeld : Machine → Type 0
-    EachHeld n = EachIn n.cluster.last_identity n.cluster.entries n.replicas n.snapshots m.in_hand
-
-    -- a checkpoint that has a replica is made
-    made_where_complete_at : (k r : ℕ) (x : ReplicaState) (e : Entry) → entry_of k m.cluster.entries ≡ Some e → m.replicas k r ≡ Some x → e.making ≡ None
-    made_where_complete_at k r x e found there =
-        let (f, is, complete) = IsSomeAnd-at (entry_of k m.cluster.entries) (λ e. IsCompleteOn e r) (history.bare.complete k r x there) in
-        made_where_complete m inv k r e found (subst (λ e. IsCompleteOn e r) (same_Some f e (sym is ∙ found)) complete)
-
-    -- the entry of a replica that is there
-    entry_there : (k r : ℕ) (x : ReplicaState) → m.replicas k r ≡ Some x → (e : Entry) × (entry_of k m.cluster.entries ≡ Some e) × (e.making ≡ None)
-    entry_there k r x was =
-        let (e, there, complete) = IsSomeAnd-at (entry_of k m.cluster.entries) (λ e. IsCompleteOn e r) (history.bare.complete k r x was) in
-        (e, there, made_where_complete m inv k r e there complete)
-
-    -- a checkpoint that is there still has its identity
-    same_identity : (R : RecordState) (k : ℕ) (e f : Entry) → entry_of k m.cluster.entries ≡ Some e → entry_of k R.entries ≡ Some f → f.identity ≡ e.identity
-    same_identity R k e f there found = find_key-key identity_of k R.entries f found ∙ sym (find_key-key identity_of k m.cluster.entries e there)
-
-    -- the entry of a background snapshot that is there
-    copied_there : (k : ℕ) (s : Snapshot) → m.snapshots k ≡ Some s → (e : Entry) × (entry_of k m.cluster.entries ≡ Some e) × (IsOfSource e s × S e s)
-    copied_there k s was = IsSomeAnd-at (entry_of k m.cluster.entries) (λ e. IsOfSource e s × S e s) (each.snapshot k s was)
-
-    -- what a step of the record leaves that comes of what was there
-    module _ (R : RecordState) (last : (k : ℕ) → k ≤ m.cluster.last_identity → m.cluster.last_identity ≤ R.last_identity) (comes : (k : ℕ) → k ≤ m.cluster.last_identity → (f : Entry) → entry_of k R.entries ≡ Some f → (e : Entry) × (entry_of k m.cluster.entries ≡ Some e) × GoesOnMade e f) where
-      -- what was there goes on made
-      goes_on : (k : ℕ) (e f : Entry) → entry_of k m.cluster.entries ≡ Some e → entry_of k R.entries ≡ Some f → GoesOnMade e f
-      goes_on k e f there found =
-          let (g, before, goes) = comes k (entry_of-given m.cluster.last_identity k m.cluster.entries e inv.holds.up_to there) f found in
-          subst (λ e. GoesOnMade e f) (same_Some g e (sym before ∙ there)) goes
-
-      -- a replica that was there
-      stayed : (k r : ℕ) (x : ReplicaState) (f : Entry) → entry_of k R.entries ≡ Some f → m.replicas k r ≡ Some x → Q (Some f) r x
-      stayed k r x f found was =
-          let (e, there, made) = entry_there k r x was in
-          kept.stays e f r x (same_identity R k e f there found) (goes_on k e f there found) made (subst (λ o. Q o r x) there (each.replica k r x was))
-
-      -- a background snapshot
-      snapshot_goes : (k : ℕ) (s : Snapshot) → snapshot_under (entry_of k R.entries) (m.snapshots k) ≡ Some s → IsSomeAnd (entry_of k R.entries) (λ e. IsOfSource e s × S e s)
-      snapshot_goes k s is =
-          let (f, found, was) = IsSomeAnd-at (entry_of k R.entries) (λ e. m.snapshots k ≡ Some s) (snapshot_was (entry_of k R.entries) (m.snapshots k) s is) in
-          let (e, there, is_so) = copied_there k s was in
-          let goes = goes_on k e f there found in
-          IsSomeAnd-from (entry_of k R.entries) (λ e. IsOfSource e s × S e s) f found (IsOfSource-goes e f s goes is_so.0, kept.stays_copied e f s (same_identity R k e f there found) goes is_so.0.source is_so.1)
-
-      -- a snapshot of which the checkpoint was given, and that was so where it was there, is so where it is there still
-      copy_goes : (k : ℕ) (s : Snapshot) → k ≤ m.cluster.last_identity → IfSome (entry_of k m.cluster.entries) (λ e. IsOfSource e s × S e s) → IfSome (entry_of k R.entries) (λ e. IsOfSource e s × S e s)
-      copy_goes k s given so = IfSome-from (entry_of k R.entries) (λ e. IsOfSource e s × S e s) (λ f found. (
-          let (e, there, goes) = comes k given f found in
-          let is_so = IfSome-at (entry_of k m.cluster.entries) (λ e. IsOfSource e s × S e s) so e there in
-          (IsOfSource-goes e f s goes is_so.0, kept.stays_copied e f s (same_identity R k e f there found) goes is_so.0.source is_so.1)))
-
-      -- as one in a hand is
-      hand_goes : (k : ℕ) (s : Snapshot) → PulledInHand m.in_hand k s → (k ≤ R.last_identity) × IfSome (entry_of k R.entries) (λ e. IsOfSource e s × S e s)
-      hand_goes k s has = let (given, so) = each.in_hand k s has in let later = last k given in (omega (arith, given, later), copy_goes k s given so)
+    EachHeld n = EachIn Q S n.cluster.last_identity n.cluster.entries n.replicas n.snapshots m.in_hand
 
     -- a step of the record: a replica was there, of a checkpoint that is made, or is as its opening makes it
     record_each : (R : RecordState) → ((k : ℕ) → k ≤ m.cluster.last_identity → MadeOn k m.cluster R) → Each (with_record m R)
-    record_each R on = record { replica = replica; snapshot = snapshot_goes R last comes; in_hand = hand_goes R last comes; ahead = ahead }
+    record_each R on = record { replica = replica; snapshot = snapshot_goes Q S log kept m inv history each R last comes; in_hand = hand_goes Q S log kept m inv history each R last comes; ahead = ahead }
       where
         -- what was made stays so
         still_made : (k : ℕ) (e f : Entry) → entry_of k m.cluster.entries ≡ Some e → entry_of k R.entries ≡ Some f → StaysMade e f
@@ -239,7 +147,7 @@ module _ (Q : Option Entry → ℕ → ReplicaState → Type 0) (S : Entry → S
               | true ↦ λ none. absurd (cc none)
               | false ↦ λ some. elim (slice_index (complete_of (entry_of k m.cluster.entries)) r == 0) as (λ b. cond b (Some (opened_state f)) (m.replicas k r) ≡ Some x → Q (Some f) r x) [
                 | true ↦ λ new. subst (Q (Some f) r) (same_Some (opened_state f) x new) (kept.opened f r)
-                | false ↦ λ old. stayed R last comes k r x f found old
+                | false ↦ λ old. stayed Q S log kept m inv history each R last comes k r x f found old
               ] some
             ] here
 
@@ -255,12 +163,12 @@ module _ (Q : Option Entry → ℕ → ReplicaState → Type 0) (S : Entry → S
         ahead : (k r : ℕ) (f : Entry) (y : ReplicaState) → entry_of k R.entries ≡ Some f → is_all f.attributes ≡ false → f.active ≡ Some r → (with_record m R).replicas k r ≡ Some y → IsAhead k (is_collocated f.attributes) f.generation (with_record m R).replicas (with_record m R).snapshots m.in_hand y
         ahead k r f y found alone active is = record {
           replica = λ q x at present. elim (under (entry_of k R.entries) (slice_index (complete_of (entry_of k m.cluster.entries)) q) q (m.replicas k q) x at).1 [
-            | inl was ↦ (let (e, there, made) = entry_there k q x was in (ahead_still k r e f y there made found alone active is).replica q x was present)
+            | inl was ↦ (let (e, there, made) = entry_there m inv history k q x was in (ahead_still k r e f y there made found alone active is).replica q x was present)
             | inr none ↦ prefix_of_none x.effects y.effects none
           ];
           snapshot = λ s at.
               let was = (IsSomeAnd-at (entry_of k R.entries) (λ e. m.snapshots k ≡ Some s) (snapshot_was (entry_of k R.entries) (m.snapshots k) s at)).2 in
-              let (e, there, is_so) = copied_there k s was in
+              let (e, there, is_so) = copied_there Q S log kept m inv history each k s was in
               (ahead_still k r e f y there is_so.0.source.made found alone active is).snapshot s was;
           in_hand = λ s has.
               let (given, so) = each.in_hand k s has in
@@ -358,7 +266,7 @@ module _ (Q : Option Entry → ℕ → ReplicaState → Type 0) (S : Entry → S
       where
         own : IsSomeAnd (entry_of k m.cluster.entries) (λ e. IsOfSource e (copied x) × S e (copied x))
         own = IsSomeAnd-from (entry_of k m.cluster.entries) (λ e. IsOfSource e (copied x) × S e (copied x)) from.entry from.found
-            (record { source = from.source; within = (generation_there m inv k from.node from.entry x from.found from.there).within }, kept.pulled from.entry from.node x from.source from.active none (subst (λ o. Q o from.node x) from.found (each.replica k from.node x from.there)))
+            (record { source = from.source; within = (generation_there m inv k from.node from.entry x from.found from.there).within; led = λ present. subst IsSome (sym from.active) refl }, kept.pulled from.entry from.node x from.source from.active none (subst (λ o. Q o from.node x) from.found (each.replica k from.node x from.there)))
 
     -- a call in hand may have what is the background snapshot of a checkpoint that is there
     copied_may : (k : ℕ) (s : Snapshot) (e : Entry) → entry_of k m.cluster.entries ≡ Some e → m.snapshots k ≡ Some s → MayHave m k s
@@ -415,7 +323,7 @@ module _ (Q : Option Entry → ℕ → ReplicaState → Type 0) (S : Entry → S
     still_may : (R : RecordState) → ((k : ℕ) → k ≤ m.cluster.last_identity → MadeOn k m.cluster R) → (k : ℕ) (s : Snapshot) → MayHave m k s → MayHave (with_record m R) k s
     still_may R on k s may = record {
       given = (let given = may.given in let later = (on k given).last in omega (arith, given, later));
-      so = copy_goes R (λ k given. (on k given).last) (λ k given f found. (let (e, was, made) = (on k given).made f found in (e, was, StaysMade-goes e f made))) k s may.given may.so;
+      so = copy_goes Q S log kept m inv history each R (λ k given. (on k given).last) (λ k given f found. (let (e, was, made) = (on k given).made f found in (e, was, StaysMade-goes e f made))) k s may.given may.so;
       behind = λ r f y found alone active at present. (
           let (e, there, stays) = (on k may.given).made f found in
           let made = (IfSome-at (entry_of k m.cluster.entries) (λ e. IsOfSource e s × S e s) may.so e there).0.source.made in
@@ -427,7 +335,7 @@ module _ (Q : Option Entry → ℕ → ReplicaState → Type 0) (S : Entry → S
 
     -- a node that leads its checkpoint anew
     leads_each : (s : CallState) (k r : ℕ) (lead : Leads m s k r) → Each (with_leader m s k r lead)
-    leads_each s k r lead = record { replica = replica; snapshot = snapshot_goes n.cluster last comes; in_hand = hand_goes n.cluster last comes; ahead = ahead }
+    leads_each s k r lead = record { replica = replica; snapshot = snapshot_goes Q S log kept m inv history each n.cluster last comes; in_hand = hand_goes Q S log kept m inv history each n.cluster last comes; ahead = ahead }
       where
         n : Machine
         n = with_leader m s k r lead
@@ -448,12 +356,12 @@ module _ (Q : Option Entry → ℕ → ReplicaState → Type 0) (S : Entry → S
         own : Q (entry_of k n.cluster.entries) r (leader m s k r lead)
         own =
             let apart = put_apart k r lead.replica (record { entry = lead.entry; found = lead.found; alone = collocated_apart lead.entry.attributes lead.collocated; other = lead.other; there = lead.there }) in
-            subst (λ o. Q o r (leader m s k r lead)) (sym lead.set) (kept.led lead.entry (led_by r lead.entry) r s.snapshot lead.replica (same_identity n.cluster k lead.entry (led_by r lead.entry) lead.found lead.set) (led_goes r lead.entry) lead.made apart.free apart.marks_are copied_so (subst (λ o. Q o r lead.replica) lead.found (each.replica k r lead.replica lead.there)))
+            subst (λ o. Q o r (leader m s k r lead)) (sym lead.set) (kept.led lead.entry (led_by r lead.entry) r s.snapshot lead.replica (same_identity m inv history n.cluster k lead.entry (led_by r lead.entry) lead.found lead.set) (led_goes r lead.entry) lead.made apart.free apart.marks_are copied_so (subst (λ o. Q o r lead.replica) lead.found (each.replica k r lead.replica lead.there)))
 
         replica : (j q : ℕ) (z : ReplicaState) → n.replicas j q ≡ Some z → Q (entry_of j n.cluster.entries) q z
         replica j q z is = elim (leader-cases m inv s k r lead j q z is) [
           | inl here ↦ subst (Q (entry_of j n.cluster.entries) q) here.2 (subst (λ q. Q (entry_of j n.cluster.entries) q (leader m s k r lead)) here.1 (subst (λ j. Q (entry_of j n.cluster.entries) r (leader m s k r lead)) here.0 own))
-          | inr was ↦ (let (g, found) = led_entry m inv s k r lead j q z is in subst (λ o. Q o q z) (sym found) (stayed n.cluster last comes j q z g found was.0))
+          | inr was ↦ (let (g, found) = led_entry m inv s k r lead j q z is in subst (λ o. Q o q z) (sym found) (stayed Q S log kept m inv history each n.cluster last comes j q z g found was.0))
         ]
 
         -- nothing else is of the generation of what is led
@@ -472,7 +380,7 @@ module _ (Q : Option Entry → ℕ → ReplicaState → Type 0) (S : Entry → S
           ];
           snapshot = λ z at present. (
               let (f, found, was) = IsSomeAnd-at (entry_of k n.cluster.entries) (λ e. m.snapshots k ≡ Some z) (snapshot_was (entry_of k n.cluster.entries) (m.snapshots k) z at) in
-              let (e, there, is_so) = copied_there k z was in
+              let (e, there, is_so) = copied_there Q S log kept m inv history each k z was in
               absurd (none_other z.generation (subst (λ (e : Entry). z.generation ≤ e.generation) (same_Some e lead.entry (sym there ∙ lead.found)) is_so.0.within) present));
           in_hand = λ z has present. absurd (none_other z.generation (IfSome-at (entry_of k m.cluster.entries) (λ e. IsOfSource e z × S e z) (each.in_hand k z has).1 lead.entry lead.found).0.within present);
         }
@@ -579,6 +487,7 @@ module _ (Q : Option Entry → ℕ → ReplicaState → Type 0) (S : Entry → S
     steps_on s held t done verb is k r x there own place update asks_is = record {
       inv = inv;
       history = history;
+      at = at_front;
       held = held;
       there = there;
       told = t;
@@ -679,11 +588,11 @@ module _ (Q : Option Entry → ℕ → ReplicaState → Type 0) (S : Entry → S
     -- a call may have a copy of what the active has, where no marks stand
     active_may : (j q : ℕ) (e : Entry) (x : ReplicaState) → entry_of j m.cluster.entries ≡ Some e → m.replicas j q ≡ Some x → is_all e.attributes ≡ false → e.active ≡ Some q → x.marks ≡ None → MayHave m j (copied x)
     active_may j q e x found there alone active none =
-        let made = made_where_complete_at j q x e found there in
-        let source : IsSource e = record { made = made; alone = alone; led = subst IsSome (sym active) refl } in
+        let made = made_where_complete_at m inv history j q x e found there in
+        let source : IsSource e = record { made = made; alone = alone } in
         record {
           given = entry_of-given m.cluster.last_identity j m.cluster.entries e inv.holds.up_to found;
-          so = subst (λ o. IfSome o (λ e. IsOfSource e (copied x) × S e (copied x))) (sym found) (record { source = source; within = (generation_there m inv j q e x found there).within }, kept.pulled e q x source active none (subst (λ o. Q o q x) found (each.replica j q x there)));
+          so = subst (λ o. IfSome o (λ e. IsOfSource e (copied x) × S e (copied x))) (sym found) (record { source = source; within = (generation_there m inv j q e x found there).within; led = λ present. subst IsSome (sym active) refl }, kept.pulled e q x source active none (subst (λ o. Q o q x) found (each.replica j q x there)));
           behind = λ r f y at alone active here present. (each.ahead j r f y at alone active here).replica q x there (inr present);
         }
 
@@ -750,12 +659,14 @@ module _ (Q : Option Entry → ℕ → ReplicaState → Type 0) (S : Entry → S
     after_each (labels.Nodes n) allowed is = each
     after_each (labels.Moved t) allowed is = record_each (moved t m.cluster) (λ k given. record { last = omega arith; rises = IdentitiesRise-filter (stays t) m.cluster.entries inv.holds.rises; made = ComesOf-filter StaysMade StaysMade-same (stays t) m.cluster.entries inv.holds.rises k })
     after_each (labels.Shown j replicas) allowed is = each
+    after_each (labels.Failed r true) allowed is = failed_each Q S log kept m inv history each r is.2
+    after_each (labels.Failed r false) allowed is = each
     after_each (labels.Pulled k reply) allowed is = after_pull Each m k reply is each (pulled_each k)
     after_each (labels.Put k r reply) allowed is = after_put_over Each m k r reply is each (λ s x at over. put_each k r s x (copied_may k s over.on.entry over.on.found at) over)
     after_each l allowed is = absurd is
 
   -- so it holds in a run; that a call began stands in the whole log
-  pub run_each : (log : List Label) → IsKept log → IsRun log → Each (last log)
+  pub run_each : (log : List Label) → IsKept Q S log → IsRun log → Each (last log)
   run_each log kept run = along (λ front m. (rest : List Label) → log ≡ front ++ rest → Each m) goes_on [] log run
       (λ rest is. record { replica = λ k r x is. absurd (cc is); snapshot = λ k s is. absurd (cc is); in_hand = λ k s has. absurd (let none = has.in_hand in cc none); ahead = λ k r e y found. absurd (cc found) })
       [] (sym (append-nil log))
@@ -765,7 +676,7 @@ module _ (Q : Option Entry → ℕ → ReplicaState → Type 0) (S : Entry → S
           let log_is : log ≡ front ++ l ∷ rest = is ∙ append_assoc front (l ∷ []) rest in
           let (inv, history) = run_history front before in
           let began : AllBegan log (last front) = λ s held. subst (λ (log : List Label). HasBegun log s.call s.op s.kept.ckpt) (sym log_is) (begun_more front (l ∷ rest) s.call s.op s.kept.ckpt (all_began front before s held)) in
-          after_each log kept (last front) began inv history (good_arguments front before) (each (l ∷ rest) log_is) l allowed due
+          after_each log kept (last front) began (record { front = front; rest = l ∷ rest; log_is = log_is; state_is = refl }) inv history (good_arguments front before) (each (l ∷ rest) log_is) l allowed due
 
 -- where nothing is said
 kept_nothing : (log : List Label) → IsKept (λ o r x. Unit {0}) (λ e s. Unit {0}) log
@@ -782,6 +693,7 @@ kept_nothing log = record {
   marked = λ m s k r x e step active can is. tt;
   element = λ m s k r x e marks step active stand is. tt;
   unmarked = λ m s k r x e marks step active stand is. tt;
+  broken_off = λ e r x marks stand free none is. tt;
 }
 
 -- each snapshot is of a checkpoint that is made, and no replica and no snapshot is ahead of the active

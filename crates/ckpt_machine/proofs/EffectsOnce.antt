@@ -15,6 +15,7 @@ use Rattle.cluster_record.specs.RecordState.{entry_of}
 use Rattle.cluster_record.specs.StepDone.{first_lacking, last_having}
 use Rattle.ckpt_machine.specs.Drivers as drivers
 use Rattle.ckpt_machine.specs.Driving.{driver_next}
+use Rattle.ckpt_machine.specs.Failing.{broken}
 use Rattle.ckpt_machine.specs.Invariant.{Invariant}
 use Rattle.ckpt_machine.specs.Machine.{Machine, Effect, Applied, Broken, Staged, ReplicaState, Snapshot, CallState}
 use Rattle.cluster_record.specs.Placement.{is_all}
@@ -32,7 +33,7 @@ use Rattle.ckpt_machine.proofs.OneReplica.{StepsOn}
 -- ---- effects
 
 -- whose an effect is, it is of
-effect_own : (d : CallId) (x : Effect) → IsEffectOf d x → call_of_effect x ≡ d
+pub effect_own : (d : CallId) (x : Effect) → IsEffectOf d x → call_of_effect x ≡ d
 effect_own d (Applied call update t) is = is
 effect_own d (Broken call update t done) is = is
 
@@ -142,6 +143,7 @@ kept_once log = record {
   unmarked = λ m s k r x e marks step active stand once.
       let none = none_yet log m s verbs.Unmark k r x step (λ is. cc is) (λ is. cc is) in
       one_effect_more x (marks_ended x (Some marks)) (Applied marks.call marks.update marks.moment) refl (alone_free m step.inv step.history.bare k r x e step.there active.found active.alone) (λ has. none (subst (λ d. HasEffect d x.effects) stand.are.call_is has)) once;
+  broken_off = λ e r x marks stand free none once. one_effect_more x (broken marks x) (Broken marks.call marks.update marks.moment marks.done) refl free none once;
 }
 
 -- THE LAW: no replica has two effects of one call

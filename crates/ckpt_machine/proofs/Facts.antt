@@ -40,7 +40,7 @@ use Rattle.ckpt_machine.specs.Due.{due, driver_of, room_in, room_at, rooms_of}
 use Rattle.ckpt_machine.specs.Seen.{seen_at, seen, seen_slot}
 use Rattle.ckpt_machine.specs.Facts.{IsActive, IsAtRest, IsLeadable, IsServable, IsEventReady, IsStarting, IsGoingOn, HasCopyRoom, HasLiveMarker, Facts}
 use Rattle.ckpt_machine.specs.InHand.{MarksFit, IsEnterAt, IsOnceAt, IsInPlace, IsActiveIn, is_held_by, IsSynchronizeIn, IsSettingIn}
-use Rattle.ckpt_machine.specs.Invariant.{InvariantIn, Invariant}
+use Rattle.ckpt_machine.specs.Invariant.{InvariantIn, Invariant, IsGoodUnder}
 use Rattle.ckpt_machine.specs.GuardTerms.{deadline_of}
 use Rattle.ckpt_machine.specs.Shape.{Shape, marks_at, IsSpread}
 use Rattle.ckpt_machine.specs.Tables.{takes_copy}
@@ -413,6 +413,11 @@ module _ (m : Machine) (inv : Invariant m) where
   ready_for : (a : Who) (s : CallState) (next : Next) → m.in_hand a ≡ Some s → due m s ≡ next → IsDueReady m s (driver_of s) next
   ready_for a s next here is = subst (IsDueReady m s (driver_of s)) is (all_ready a s here)
 
+-- one in the making has no active
+unled_there : (m : Machine) (k : ℕ) (sh : Shape) (e : Entry) (by : Option CallId) → IsSome by → IsGoodUnder false m k sh e by → e.active ≡ None
+unled_there m k sh e None some good = absurd (cc some)
+unled_there m k sh e (Some call) some good = good.0.unled
+
 -- what the code relies on
 pub facts : (m : Machine) → Invariant m → Facts m
 facts m inv = record {
@@ -424,6 +429,7 @@ facts m inv = record {
   rises = inv.holds.rises;
   up_to = inv.holds.up_to;
   stay = inv.holds.swept;
+  unled = λ k e found making. unled_there m k (inv.shapes k) e e.making making (inv.holds.entries k e found);
   rest = inv.holds.rest;
   ready = λ a s r request here is. let ready = ready_for m inv a s (Serve r request) here is in (ready.0, ready.1);
   moments = λ a s r call k t here is free. (ready_for m inv a s (Serve r (requests.Stage call k t)) here is).2 free;

@@ -1,7 +1,7 @@
 -- The active of a checkpoint behind the failure of a node.
-use Rattle.std.proofs.Common.{◌≡◌, ◌≢◌, ℕ, ◌+◌, List, [], ◌∷◌, Option, Some, None, is_some, Bool, true, false, cond, ◌==◌, refl, sym, ap, subst, ◌∙◌, arith, suc, zero}
+use Rattle.std.proofs.Common.{◌≡◌, ◌≢◌, ℕ, ◌+◌, ◌≤◌, ◌<◌, List, [], ◌∷◌, Option, Some, None, is_some, Bool, true, false, cond, ◌==◌, refl, sym, ap, subst, ◌∙◌, arith, suc, zero}
 use Rattle.std.specs.Prelude.{IsSome, IsSomeAnd, nat_lt, slice_set, slice_index}
-use Rattle.std.proofs.lemmas.Bool.{eq-eqb}
+use Rattle.std.proofs.lemmas.Bool.{eqb-true, eq-eqb, ltb-true, ltb-false}
 use Rattle.std.proofs.lemmas.Option.{same_Some}
 use Rattle.ckpt_types.specs.declared.attributes.CreationAttributes.{CreationAttributes}
 use Rattle.cluster_record.specs.Failing.{with_more, most_updated, next_active}
@@ -51,7 +51,38 @@ most-some counts n (c ∷ cs) some = elim (c == 0) as (λ b. IsSome (cond b (fir
   | false ↦ λ some. refl
 ] some
 
+-- of the complete ones each has at most as many updates as it
+pub most-greatest : (counts : ℕ → ℕ) (n : ℕ) (cs : List ℕ) (d : ℕ) → (slice_index cs d == 0) ≡ false → IsSomeAnd (most_updated counts n cs) (λ q. counts (n + d) ≤ counts q)
+most-greatest counts n [] d there = absurd (cc there)
+most-greatest counts n (c ∷ cs) zero there = subst (λ b. IsSomeAnd (cond b (most_updated counts (n + 1) cs) (Some (with_more counts n (most_updated counts (n + 1) cs)))) (λ q. counts (n + 0) ≤ counts q)) (sym there) (by_rest (most_updated counts (n + 1) cs))
+  where
+    by_more : (q : ℕ) (b : Bool) → nat_lt (counts n) (counts q) ≡ b → counts (n + 0) ≤ counts (cond b q n)
+    by_more q true more = let own : counts (n + 0) ≡ counts n = ap counts (let same : n + 0 ≡ n = omega arith in same) in let less : counts n < counts q = ltb-true (counts n) (counts q) more in omega (arith, own, less)
+    by_more q false more = let own : counts (n + 0) ≡ counts n = ap counts (let same : n + 0 ≡ n = omega arith in same) in omega (arith, own)
+
+    by_rest : (o : Option ℕ) → counts (n + 0) ≤ counts (with_more counts n o)
+    by_rest None = let own : counts (n + 0) ≡ counts n = ap counts (let same : n + 0 ≡ n = omega arith in same) in omega (arith, own)
+    by_rest (Some q) = by_more q (nat_lt (counts n) (counts q)) refl
+most-greatest counts n (c ∷ cs) (suc d) there = by_rest (most_updated counts (n + 1) cs) (most-greatest counts (n + 1) cs d there) (c == 0)
+  where
+    same : counts (n + 1 + d) ≡ counts (n + suc d)
+    same = ap counts (let same : n + 1 + d ≡ n + suc d = omega arith in same)
+
+    by_more : (q : ℕ) → counts (n + 1 + d) ≤ counts q → (b : Bool) → nat_lt (counts n) (counts q) ≡ b → counts (n + suc d) ≤ counts (cond b q n)
+    by_more q few true more = let is : counts (n + 1 + d) ≡ counts (n + suc d) = same in let most : counts (n + 1 + d) ≤ counts q = few in omega (arith, is, most)
+    by_more q few false more = let is : counts (n + 1 + d) ≡ counts (n + suc d) = same in let most : counts (n + 1 + d) ≤ counts q = few in let least : counts q ≤ counts n = ltb-false (counts n) (counts q) more in omega (arith, is, most, least)
+
+    by_rest : (o : Option ℕ) → IsSomeAnd o (λ q. counts (n + 1 + d) ≤ counts q) → (b : Bool) → IsSomeAnd (cond b o (Some (with_more counts n o))) (λ q. counts (n + suc d) ≤ counts q)
+    by_rest None none b = absurd none
+    by_rest (Some q) few true = let is : counts (n + 1 + d) ≡ counts (n + suc d) = same in let most : counts (n + 1 + d) ≤ counts q = few in omega (arith, is, most)
+    by_rest (Some q) few false = by_more q few (nat_lt (counts n) (counts q)) refl
+
 -- ---- the active
+
+-- a node is that of the active
+pub active_is : (o : Option ℕ) (q : ℕ) → is_active o q ≡ true → o ≡ Some q
+active_is None q none = absurd (cc none)
+active_is (Some p) q is = ap Some (eqb-true p q is)
 
 -- it stays where it was on another node
 pub active_stays : (collocated all : Bool) (cs : List ℕ) (r : ℕ) (active : Option ℕ) → IsActiveBy collocated all cs active → is_active active r ≡ false → IsActiveBy collocated all (slice_set cs r 0) active

@@ -1,6 +1,6 @@
 -- What the failure of a node leaves of the record.
-use Rattle.std.proofs.Common.{◌≡◌, ℕ, ◌+◌, List, [], ◌∷◌, map, filter, length, Some, None, is_some, Bool, true, false, cond, not, ◌≤◌, ◌||◌, refl, sym, ap, subst, ◌∙◌, ℤ, suc, arith}
-use Rattle.std.specs.Prelude.{IsSome, slice_set}
+use Rattle.std.proofs.Common.{◌≡◌, ℕ, ◌+◌, List, [], ◌∷◌, map, filter, length, Some, None, is_some, Bool, true, false, cond, not, ◌≤◌, ◌||◌, refl, sym, ap, subst, ◌∙◌, ℤ, zero, suc, arith}
+use Rattle.std.specs.Prelude.{IsSome, slice_index, slice_set}
 use Rattle.std.proofs.lemmas.Bool.{not-true}
 use Rattle.cluster_record.specs.declared.entries.Entry.{Entry}
 use Rattle.cluster_record.specs.Identities.{IdentitiesRise, AllUpTo}
@@ -13,7 +13,7 @@ use Rattle.ckpt_machine.proofs.Entries.{ComesOf-filter, ComesOf-map, found_filte
 -- ---- lists
 
 -- what is found of those that pass was there, and passes
-filter_back : (p : Entry → Bool) (xs : List Entry) → IdentitiesRise xs → (k : ℕ) (f : Entry) → entry_of k (filter p xs) ≡ Some f → (entry_of k xs ≡ Some f) × (p f ≡ true)
+pub filter_back : (p : Entry → Bool) (xs : List Entry) → IdentitiesRise xs → (k : ℕ) (f : Entry) → entry_of k (filter p xs) ≡ Some f → (entry_of k xs ≡ Some f) × (p f ≡ true)
 filter_back p xs rises k f found =
     let (e, was, same) = ComesOf-filter (λ e f. f ≡ e) (λ e. refl) p xs rises k f found in
     (was ∙ ap Some (sym same), found_passing p k xs f found)
@@ -22,6 +22,12 @@ filter_back p xs rises k f found =
 length-left : (goes : ℕ → Bool) (c : ℕ) (ns : List ℕ) → length (references_left goes c ns) ≡ length ns
 length-left goes c [] = refl
 length-left goes c (n ∷ ns) = ap suc (length-left goes (c + 1) ns)
+
+-- of no client are there more
+fewer-left : (goes : ℕ → Bool) (c : ℕ) (ns : List ℕ) (d : ℕ) → slice_index (references_left goes c ns) d ≤ slice_index ns d
+fewer-left goes c [] d = omega arith
+fewer-left goes c (n ∷ ns) zero = elim (goes c) as (λ b. cond b 0 n ≤ n) [ true ↦ omega arith | false ↦ omega arith ]
+fewer-left goes c (n ∷ ns) (suc d) = fewer-left goes (c + 1) ns d
 
 -- ---- one entry
 
@@ -54,14 +60,28 @@ module _ (goes : ℕ → Bool) (t : ℤ) (e : Entry) where
       by_open true = by_left (has_references f)
       by_open false = length-left goes 0 e.references
 
+  -- of no client are there more
+  left_open-fewer : (d : ℕ) → slice_index (left_open goes t e).references d ≤ slice_index e.references d
+  left_open-fewer d = by_open (has_references e)
+    where
+      by_left : (b : Bool) → slice_index (cond b f (record f { idle = t })).references d ≤ slice_index e.references d
+      by_left true = fewer-left goes 0 e.references d
+      by_left false = fewer-left goes 0 e.references d
+
+      by_open : (b : Bool) → slice_index (cond b (idle_from t f) f).references d ≤ slice_index e.references d
+      by_open true = by_left (has_references f)
+      by_open false = fewer-left goes 0 e.references d
+
 -- what a failure leaves of an entry
 pub record IsFailedEntry (counts : ℕ → ℕ) (goes : ℕ → Bool) (r : ℕ) (e f : Entry) : Type 0 where
   pub identity : f.identity ≡ e.identity
   pub attributes : f.attributes ≡ e.attributes
+  pub since : f.made ≡ e.made
   pub making : f.making ≡ e.making
   pub complete : f.complete ≡ slice_set e.complete r 0
   pub hold : f.hold ≡ cond (is_of_those goes e.hold) None e.hold
   pub clients : length f.references ≡ length e.references
+  pub fewer : (d : ℕ) → slice_index f.references d ≤ slice_index e.references d
   -- another active, where it was there
   pub gone : is_active e.active r ≡ true → (f.active ≡ next_active counts e.attributes f.complete) × (f.generation ≡ e.generation + 1)
   pub led : is_active e.active r ≡ false → (f.active ≡ e.active) × (f.generation ≡ e.generation)
@@ -89,20 +109,24 @@ module _ (counts : ℕ → ℕ) (goes : ℕ → Bool) (r : ℕ) (t : ℤ) (e : E
   by_active true is = record {
     identity = same (λ (e : Entry). e.identity) (λ e ns t. refl);
     attributes = same (λ (e : Entry). e.attributes) (λ e ns t. refl);
+    since = same (λ (e : Entry). e.made) (λ e ns t. refl);
     making = same (λ (e : Entry). e.making) (λ e ns t. refl);
     complete = ap (λ cs. slice_set cs r 0) (same (λ (e : Entry). e.complete) (λ e ns t. refl));
     hold = refl;
     clients = left_open-clients goes t e;
+    fewer = left_open-fewer goes t e;
     gone = λ was. (ap (λ a. next_active counts a g.complete) (same (λ (e : Entry). e.attributes) (λ e ns t. refl)), ap (λ n. n + 1) (same (λ (e : Entry). e.generation) (λ e ns t. refl)));
     led = λ not_it. absurd (let v : true ≡ false = sym is ∙ ap (λ o. is_active o r) active_was ∙ not_it in cc v);
   }
   by_active false is = record {
     identity = same (λ (e : Entry). e.identity) (λ e ns t. refl);
     attributes = same (λ (e : Entry). e.attributes) (λ e ns t. refl);
+    since = same (λ (e : Entry). e.made) (λ e ns t. refl);
     making = same (λ (e : Entry). e.making) (λ e ns t. refl);
     complete = ap (λ cs. slice_set cs r 0) (same (λ (e : Entry). e.complete) (λ e ns t. refl));
     hold = refl;
     clients = left_open-clients goes t e;
+    fewer = left_open-fewer goes t e;
     gone = λ was. absurd (let v : true ≡ false = sym was ∙ ap (λ o. is_active o r) (sym active_was) ∙ is in cc v);
     led = λ not_it. (active_was, same (λ (e : Entry). e.generation) (λ e ns t. refl));
   }
@@ -114,6 +138,13 @@ module _ (counts : ℕ → ℕ) (goes : ℕ → Bool) (r : ℕ) (t : ℤ) (e : E
 -- so the generation rises, or stays
 pub failed_rises : (counts : ℕ → ℕ) (goes : ℕ → Bool) (r : ℕ) (e f : Entry) → IsFailedEntry counts goes r e f → e.generation ≤ f.generation
 failed_rises counts goes r e f left = elim (is_active e.active r) as (λ b. is_active e.active r ≡ b → e.generation ≤ f.generation) [
+  | true ↦ λ gone. let up : f.generation ≡ e.generation + 1 = (left.gone gone).1 in omega (arith, up)
+  | false ↦ λ stays. let same : f.generation ≡ e.generation = (left.led stays).1 in omega (arith, same)
+] refl
+
+-- by one at most
+pub failed_at_most : (counts : ℕ → ℕ) (goes : ℕ → Bool) (r : ℕ) (e f : Entry) → IsFailedEntry counts goes r e f → f.generation ≤ e.generation + 1
+failed_at_most counts goes r e f left = elim (is_active e.active r) as (λ b. is_active e.active r ≡ b → f.generation ≤ e.generation + 1) [
   | true ↦ λ gone. let up : f.generation ≡ e.generation + 1 = (left.gone gone).1 in omega (arith, up)
   | false ↦ λ stays. let same : f.generation ≡ e.generation = (left.led stays).1 in omega (arith, same)
 ] refl

@@ -1,5 +1,5 @@
 -- Worked examples of what a failure leaves, by computation: a weak write is broken, another active is chosen, a checkpoint goes with its last node, a making is undone, and calls are abandoned.
-use Rattle.std.proofs.Common.{◌≡◌, ℕ, ◌+◌, List, [], ◌∷◌, ◌++◌, map, Option, Some, None, is_some, codes, true, false, pos, ℤ, length, refl}
+use Rattle.std.proofs.Common.{◌≡◌, ℕ, ◌+◌, List, [], ◌∷◌, ◌++◌, map, Option, Some, None, is_some, codes, true, false, pos, ℤ, length, inl, refl}
 use Rattle.std.specs.Prelude.{slice_index}
 use Rattle.std.specs.Option.{option_map}
 use Rattle.ckpt_types.specs.declared.answers.Answer.TheVariants as answers
@@ -25,6 +25,7 @@ use Rattle.run_labels.specs.declared.labels.PutReply.TheVariants as puts
 use Rattle.call_dispatch.specs.PendingCalls.{no_pending}
 use Rattle.cluster_record.specs.declared.entries.Entry.{Entry}
 use Rattle.cluster_record.specs.RecordState.{entry_of, is_live, is_live_client, is_up}
+use Rattle.ckpt_machine.specs.BrokenCorrupt.{IsNamedByBroken}
 use Rattle.ckpt_machine.specs.Failing.{failed_at}
 use Rattle.ckpt_machine.specs.Machine.{Machine, Effect, Applied, Broken, ReplicaState}
 use Rattle.ckpt_machine.specs.Runs.{last}
@@ -106,6 +107,10 @@ it_is_broken = refl
 
 its_sections_are_corrupted : states_at 0 (failed_at 1 marked) ≡ Some (Corrupted ∷ [])
 its_sections_are_corrupted = refl
+
+-- as the effect says that names it
+it_names_them : IsNamedByBroken [] (Broken (other_numbered 3) abc (pos 0) 0 ∷ [])
+it_names_them = inl (inl refl)
 
 the_active_stays : active_and_generation (failed_at 1 marked) ≡ Some (Some 0, 1)
 the_active_stays = refl

@@ -107,7 +107,7 @@ module _ (failures : Bool) (m : Machine) (shapes : ℕ → Shape) (inv : Invaria
   -- ---- replicas and reservations
 
   -- a replica that is there was there, on a node that is complete
-  replica_was : (k q : ℕ) (f : Entry) → entry_of k R.entries ≡ Some f → (y : ReplicaState) → replicas_under m.cluster R m.replicas k q ≡ Some y → IsCompleteOn f q × (m.replicas k q ≡ Some y)
+  pub replica_was : (k q : ℕ) (f : Entry) → entry_of k R.entries ≡ Some f → (y : ReplicaState) → replicas_under m.cluster R m.replicas k q ≡ Some y → IsCompleteOn f q × (m.replicas k q ≡ Some y)
   replica_was k q f found y is = by_test (slice_index f.complete q == 0) refl (sym (ap (λ o. replica_under o (slice_index (complete_of (entry_of k m.cluster.entries)) q) q (m.replicas k q)) found) ∙ is)
     where
       by_test : (b : Bool) → (slice_index f.complete q == 0) ≡ b → cond b None (cond (slice_index (complete_of (entry_of k m.cluster.entries)) q == 0) (Some (opened_state f)) (m.replicas k q)) ≡ Some y → (b ≡ false) × (m.replicas k q ≡ Some y)

@@ -92,7 +92,7 @@ under (Some e) before r old x is =
     ] refl is
 
 -- a reservation after a step of the record is of a node that is not complete
-reserved_under : (o : Option Entry) (r : ℕ) (old : Option ℕ) (n : ℕ) → reservation_under o r old ≡ Some n → IsSomeAnd o (λ e. IsIncomplete e r)
+pub reserved_under : (o : Option Entry) (r : ℕ) (old : Option ℕ) (n : ℕ) → reservation_under o r old ≡ Some n → IsSomeAnd o (λ e. IsIncomplete e r)
 reserved_under None r old n is = absurd (cc is)
 reserved_under (Some e) r old n is = elim (slice_index e.complete r == 0) as (λ b. cond b old None ≡ Some n → b ≡ true) [ true ↦ λ is. refl | false ↦ λ none. absurd (cc none) ] is
 

@@ -31,7 +31,7 @@ GoesAt up k (Some e) (Some f) r y z = (f.attributes ≡ e.attributes) × (f.made
 pub zero_there : (r : ℕ) → slice_index no_nodes r ≡ 0
 zero_there r = slice_index-replicate 8 r
 
-test_zero : (n : ℕ) → n ≡ 0 → (n == 0) ≡ true
+pub test_zero : (n : ℕ) → n ≡ 0 → (n == 0) ≡ true
 test_zero n z = ap (λ n. n == 0) z
 
 -- a node that was not complete has had no effects

@@ -1,12 +1,14 @@
 -- No step takes away what a replica of the present generation has, as long as this does not rise: it stays, and goes on from that.
 use Rattle.std.proofs.Common.{◌≡◌, ◌⊎◌, ℕ, ◌+◌, ◌<◌, ◌≤◌, inl, inr, List, [], ◌∷◌, length, Option, Some, None, Bool, true, false, cond, not, ◌==◌, ◌&&◌, ◌||◌, nat_lt, ℤ, refl, sym, ap, subst, ◌∙◌, arith}
+use Rattle.std.specs.Option.{option_map}
 use Rattle.std.specs.Prelude.{IsSome, IsSomeAnd, slice_index}
 use Rattle.std.proofs.lemmas.Bool.{eqb-true, eq-eqb, and_parts, ltb-true, ltb-false}
 use Rattle.std.proofs.lemmas.Option.{same_Some}
 use Rattle.ckpt_machine.proofs.Dropped.{held_as}
 use Rattle.ckpt_types.specs.declared.identities.CallId.{CallId}
 use Rattle.ckpt_types.specs.declared.update.Update.{Update}
-use Rattle.ckpt_types.specs.Asks.{asked, update_of}
+use Rattle.ckpt_types.specs.Asks.{Ask, asked, update_of}
+use Rattle.ckpt_types.specs.Asks as asks
 use Rattle.weak_marks.specs.Marks.{Marked}
 use Rattle.node_msgs.specs.declared.steps.Verb.{Verb}
 use Rattle.node_msgs.specs.declared.steps.Verb.TheVariants as verbs
@@ -14,29 +16,36 @@ use Rattle.node_msgs.specs.declared.steps.StepReply.{StepReply}
 use Rattle.node_msgs.specs.declared.steps.StepReply.TheVariants as words
 use Rattle.run_labels.specs.declared.labels.Label.{Label}
 use Rattle.run_labels.specs.declared.labels.Label.TheVariants as labels
+use Rattle.cluster_record.specs.Failing.{goes_with_node}
 use Rattle.cluster_record.specs.Placement.{is_collocated}
 use Rattle.cluster_record.specs.declared.entries.Entry.{Entry}
 use Rattle.cluster_record.specs.Calls.{client_of}
 use Rattle.cluster_record.specs.Makings.{making_of}
 use Rattle.cluster_record.specs.Places.{put2}
-use Rattle.cluster_record.specs.RecordState.{RecordState, entry_of, complete_of, stays, swept, moved, entered, finished, home_of, opened_with, opened, closed, unlinked, unreferred, unnamed, departed, undone, with_hold, hold_set, active_set}
+use Rattle.cluster_record.specs.RecordState.{RecordState, entry_of, complete_of, is_active, is_live, is_up, no_nodes, stays, swept, moved, entered, finished, home_of, opened_with, opened, closed, unlinked, unreferred, unnamed, departed, undone, with_hold, hold_set, active_set}
 use Rattle.cluster_record.proofs.IdentityLaws.{IdentitiesRise-filter}
 use Rattle.ckpt_machine.specs.Guards.{IsOnOwn, Row, Allowed}
+use Rattle.ckpt_machine.specs.Failing.{broken, broken_unless, failed_at, made_present, replica_left}
 use Rattle.ckpt_machine.specs.Invariant.{Invariant}
-use Rattle.ckpt_machine.specs.Machine.{Machine, Applied, ReplicaState, Snapshot, CallState, who}
+use Rattle.ckpt_machine.specs.Machine.{Machine, Applied, Broken, ReplicaState, Snapshot, CallState, who}
 use Rattle.ckpt_machine.specs.Propagation.{is_behind, replica_from}
 use Rattle.ckpt_machine.specs.Replays.{IsPrefix}
 use Rattle.ckpt_machine.specs.Shape.{IsCompleteOn}
 use Rattle.ckpt_machine.specs.After.{with_record, record_step, created_for, retained_for, change_replica, with_committed, with_applied, with_slot, with_marks, with_next_element, without_marks, marks_ended, changed, on_ok, on_look, without_making, at_some, replica_under, opened_state, step_of, staged_moment, after}
-use Rattle.ckpt_machine.specs.Due.{Told}
+use Rattle.ckpt_machine.specs.Due.{Told, count_in}
+use Rattle.ckpt_machine.specs.Under.{replicas_under}
 use Rattle.ckpt_machine.proofs.Activating.{Leads, with_leader, made_where_complete, found_led, led_made, others_stay, after_activate}
 use Rattle.ckpt_machine.proofs.ActiveNode.{active_complete}
-use Rattle.ckpt_machine.proofs.Copying.{IsSource, IsOfSource, TakesOver, after_pull, after_put_over}
+use Rattle.ckpt_machine.proofs.Copying.{IsOfSource, TakesOver, after_pull, after_put_over}
 use Rattle.ckpt_machine.proofs.EachReplica.{Each, PulledInHand, IsAhead}
 use Rattle.ckpt_machine.proofs.Entries.{ComesOf-filter}
+use Rattle.ckpt_machine.proofs.FailedClients.{up_other, up_gone}
+use Rattle.ckpt_machine.proofs.FailedHands.{WasEntry, was_entry}
+use Rattle.ckpt_machine.proofs.FailedMade.{failed_goes}
 use Rattle.ckpt_machine.proofs.Follows.{IsBare, element_effects}
 use Rattle.ckpt_machine.proofs.Installed.{after_install}
 use Rattle.ckpt_machine.proofs.Joining.{opened_with-identity}
+use Rattle.ckpt_machine.proofs.NodeGone.{complete_still}
 use Rattle.ckpt_machine.proofs.OneReplica.{committed_generation, element_generation, committed_more}
 use Rattle.ckpt_machine.proofs.OptionLemmas.{IsSomeAnd-at, IsSomeAnd-from, IfSome-at}
 use Rattle.ckpt_machine.proofs.Prefixes.{prefix_same, prefix_of_same, prefix_longer}
@@ -75,16 +84,34 @@ unmarked_grows x = by_marks x.marks
     by_marks None = grows_to_same x
     by_marks (Some marks) = (refl, (Applied marks.call marks.update marks.moment ∷ [], refl))
 
+-- a replica grows where its weak write is cut short, by an effect
+broken_grows : (R : RecordState) (x : ReplicaState) (o : Option Marked) → GrowsTo x (broken_unless R o x)
+broken_grows R x None = grows_to_same x
+broken_grows R x (Some marks) = by_live (is_live R marks.call)
+  where
+    by_live : (b : Bool) → GrowsTo x (cond b x (broken marks x))
+    by_live true = grows_to_same x
+    by_live false = (refl, (Broken marks.call marks.update marks.moment marks.done ∷ [], refl))
+
+-- a replica of the present generation grows by what a failure leaves of it
+left_grows : (R : RecordState) (f : Entry) (q : ℕ) (x : ReplicaState) → f.generation ≡ x.generation → GrowsTo x (made_present (Some f) q (broken_unless R x.marks x))
+left_grows R f q x same = by_active (is_active f.active q)
+  where
+    by_active : (b : Bool) → GrowsTo x (cond b (record (broken_unless R x.marks x) { generation = f.generation }) (broken_unless R x.marks x))
+    by_active true = (same, (broken_grows R x x.marks).1)
+    by_active false = broken_grows R x x.marks
+
 -- ---- what becomes of a checkpoint
 
--- a checkpoint that is there was there, and goes on made; and where its generation is what it was, each replica of this is there still, and has its effects first
-pub record GoesOnIn (m : Machine) (k : ℕ) (entries : List Entry) (replicas : ℕ → ℕ → Option ReplicaState) : Type 0 where
-  pub made : (f : Entry) → entry_of k entries ≡ Some f → (e : Entry) × (entry_of k m.cluster.entries ≡ Some e) × GoesOnMade e f
-  pub replica : (r : ℕ) (x : ReplicaState) (e f : Entry) → entry_of k m.cluster.entries ≡ Some e → entry_of k entries ≡ Some f → f.generation ≡ e.generation → m.replicas k r ≡ Some x → x.generation ≡ e.generation → IsSomeAnd (replicas k r) (GrowsTo x)
+-- a checkpoint that is there was there, and goes on made; a node that is up was up, where any was; and where the generation of the checkpoint is what it was, each replica of this on a node that is up is there still, and has its effects first
+pub record GoesOnIn (m : Machine) (k : ℕ) (R : RecordState) (replicas : ℕ → ℕ → Option ReplicaState) : Type 0 where
+  pub made : (f : Entry) → entry_of k R.entries ≡ Some f → (e : Entry) × (entry_of k m.cluster.entries ≡ Some e) × GoesOnMade e f
+  pub up : (r : ℕ) → is_up r R ≡ true → (is_up r m.cluster ≡ true) ⊎ (m.cluster.up ≡ no_nodes)
+  pub replica : (r : ℕ) (x : ReplicaState) (e f : Entry) → is_up r R ≡ true → entry_of k m.cluster.entries ≡ Some e → entry_of k R.entries ≡ Some f → f.generation ≡ e.generation → m.replicas k r ≡ Some x → x.generation ≡ e.generation → IsSomeAnd (replicas k r) (GrowsTo x)
 
 -- what becomes of a checkpoint from one state to another
 abbrev pub GoesOn : Machine → ℕ → Machine → Type 0
-GoesOn m k n = GoesOnIn m k n.cluster.entries n.replicas
+GoesOn m k n = GoesOnIn m k n.cluster n.replicas
 
 -- ---- behind, and not behind
 
@@ -109,12 +136,12 @@ module _ (m : Machine) (inv : Invariant m) (bare : IsBare m) (each : Each (λ o 
   abbrev pub IsCopyOf : ℕ → Snapshot → Type 0
   IsCopyOf k s = (m.snapshots k ≡ Some s) ⊎ PulledInHand m.in_hand k s
 
-  -- the checkpoint of such a snapshot, where it is there, is made, and its updates go to an active alone
-  copy_source : (k : ℕ) (s : Snapshot) (e : Entry) → entry_of k m.cluster.entries ≡ Some e → IsCopyOf k s → IsSource e
+  -- the checkpoint of such a snapshot, where it is there, is made, and its updates go to an active alone, which there is where the snapshot is of its generation
+  copy_source : (k : ℕ) (s : Snapshot) (e : Entry) → entry_of k m.cluster.entries ≡ Some e → IsCopyOf k s → IsOfSource e s
   copy_source k s e found (inl is) =
       let (f, there, is_so) = IsSomeAnd-at (entry_of k m.cluster.entries) (λ e. IsOfSource e s × Unit {0}) (each.snapshot k s is) in
-      subst IsSource (same_Some f e (sym there ∙ found)) is_so.0.source
-  copy_source k s e found (inr has) = (IfSome-at (entry_of k m.cluster.entries) (λ e. IsOfSource e s × Unit {0}) (each.in_hand k s has).1 e found).0.source
+      subst (λ e. IsOfSource e s) (same_Some f e (sym there ∙ found)) is_so.0
+  copy_source k s e found (inr has) = (IfSome-at (entry_of k m.cluster.entries) (λ e. IsOfSource e s × Unit {0}) (each.in_hand k s has).1 e found).0
 
   -- no such snapshot of this generation is ahead of the active
   copy_first : (k : ℕ) (collocated : Bool) (g : ℕ) (s : Snapshot) (y : ReplicaState) → IsAhead k collocated g m.replicas m.snapshots m.in_hand y → IsCopyOf k s → s.generation ≡ g → IsPrefix s.effects y.effects
@@ -125,8 +152,9 @@ module _ (m : Machine) (inv : Invariant m) (bare : IsBare m) (each : Each (λ o 
     -- a snapshot and a replica of the present generation are both first parts of what the active has
     both_first : (y : ReplicaState) × IsPrefix x.effects y.effects × IsPrefix s.effects y.effects
     both_first =
-        let source = copy_source k s e found copy in
-        let (q, active) = led e.active refl source.led in
+        let of = copy_source k s e found copy in
+        let source = of.source in
+        let (q, active) = led e.active refl (of.led present) in
         let (y, at) = active_there k q e found source.made active in
         let ahead = each.ahead k q e y found source.alone active at in
         (y, ahead.replica r x there (inr own), copy_first k (is_collocated e.attributes) e.generation s y ahead copy present)
@@ -155,24 +183,35 @@ module _ (m : Machine) (inv : Invariant m) (bare : IsBare m) (each : Each (λ o 
 
   -- ---- a step
 
+  -- what is created, and what is retained, leave the nodes as they are
+  created_up : (call : CallId) (ask : Ask) (R : RecordState) → (created_for call ask R).up ≡ R.up
+  created_up call (asks.Open place name flags timeout None) R = refl
+  created_up call (asks.Open place name flags timeout (Some a)) R = refl
+  created_up call ask R = refl
+
+  retained_up : (ask : Ask) (j : ℕ) (R : RecordState) → (retained_for ask j R).up ≡ R.up
+  retained_up (asks.Retain place duration) j R = refl
+  retained_up ask j R = refl
+
   module _ (k : ℕ) (given : k ≤ m.cluster.last_identity) where
     -- a checkpoint goes on where nothing changes
     goes_on_same : GoesOn m k m
     goes_on_same = record {
       made = λ f found. (f, found, GoesOnMade-same f);
-      replica = λ r x e f there found still at present. IsSomeAnd-from (m.replicas k r) (GrowsTo x) x at (grows_to_same x);
+      up = λ r is. inl is;
+      replica = λ r x e f is_there there found still at present. IsSomeAnd-from (m.replicas k r) (GrowsTo x) x at (grows_to_same x);
     }
 
     -- a checkpoint goes on by a step of the record
-    record_goes : (R : RecordState) → MadeOn k m.cluster R → GoesOn m k (with_record m R)
-    record_goes R on = record { made = λ f found. (let (e, was, made) = on.made f found in (e, was, StaysMade-goes e f made)); replica = replica }
+    record_goes : (R : RecordState) → R.up ≡ m.cluster.up → MadeOn k m.cluster R → GoesOn m k (with_record m R)
+    record_goes R same_up on = record { made = λ f found. (let (e, was, made) = on.made f found in (e, was, StaysMade-goes e f made)); up = λ r is. inl (ap (λ (up : List ℕ). nat_lt r 8 && not (slice_index up r == 0)) (sym same_up) ∙ is); replica = replica }
       where
         -- the replica of a node that stays complete is as it was
         stays_there : (f : Entry) (before r : ℕ) (old : Option ReplicaState) → IsCompleteOn f r → (before == 0) ≡ false → replica_under (Some f) before r old ≡ old
         stays_there f before r old complete was = ap (λ b. cond b None (cond (before == 0) (Some (opened_state f)) old)) complete ∙ ap (λ b. cond b (Some (opened_state f)) old) was
 
-        replica : (r : ℕ) (x : ReplicaState) (e f : Entry) → entry_of k m.cluster.entries ≡ Some e → entry_of k R.entries ≡ Some f → f.generation ≡ e.generation → m.replicas k r ≡ Some x → x.generation ≡ e.generation → IsSomeAnd ((with_record m R).replicas k r) (GrowsTo x)
-        replica r x e f there found still_present at present =
+        replica : (r : ℕ) (x : ReplicaState) (e f : Entry) → is_up r R ≡ true → entry_of k m.cluster.entries ≡ Some e → entry_of k R.entries ≡ Some f → f.generation ≡ e.generation → m.replicas k r ≡ Some x → x.generation ≡ e.generation → IsSomeAnd ((with_record m R).replicas k r) (GrowsTo x)
+        replica r x e f is_there there found still_present at present =
             let (g, is, complete_at) = IsSomeAnd-at (entry_of k m.cluster.entries) (λ e. IsCompleteOn e r) (bare.complete k r x at) in
             let complete : IsCompleteOn e r = subst (λ e. IsCompleteOn e r) (same_Some g e (sym is ∙ there)) complete_at in
             let (h, before, keeps) = on.made f found in
@@ -182,14 +221,15 @@ module _ (m : Machine) (inv : Invariant m) (bare : IsBare m) (each : Each (λ o 
             IsSomeAnd-from ((with_record m R).replicas k r) (GrowsTo x) x (stays ∙ at) (grows_to_same x)
 
     -- and where what is over is swept away behind it
-    step_goes : (step : RecordState → RecordState) → MadeOn k m.cluster (step m.cluster) → GoesOn m k (record_step step m)
-    step_goes step on = record_goes (swept (step m.cluster)) (MadeOn-swept k m.cluster (step m.cluster) on)
+    step_goes : (step : RecordState → RecordState) → (step m.cluster).up ≡ m.cluster.up → MadeOn k m.cluster (step m.cluster) → GoesOn m k (record_step step m)
+    step_goes step same_up on = record_goes (swept (step m.cluster)) same_up (MadeOn-swept k m.cluster (step m.cluster) on)
 
     -- a checkpoint goes on where one replica changes that grows, if it is of the present generation
     put_goes : (j q : ℕ) (y z : ReplicaState) → m.replicas j q ≡ Some y → ((e : Entry) → entry_of j m.cluster.entries ≡ Some e → y.generation ≡ e.generation → GrowsTo y z) → GoesOn m k (record m { replicas = put2 m.replicas j q (Some z) })
     put_goes j q y z there grows = record {
       made = goes_on_same.made;
-      replica = λ r x e f was found still at present. elim ((k == j) && (r == q)) as (λ b. ((k == j) && (r == q)) ≡ b → IsSomeAnd (cond b (Some z) (m.replicas k r)) (GrowsTo x)) [
+      up = goes_on_same.up;
+      replica = λ r x e f is_there was found still at present. elim ((k == j) && (r == q)) as (λ b. ((k == j) && (r == q)) ≡ b → IsSomeAnd (cond b (Some z) (m.replicas k r)) (GrowsTo x)) [
         | true ↦ λ here.
             let (ckpt, node) = and_parts (k == j) (r == q) here in
             let k_is : k ≡ j = eqb-true k j ckpt in
@@ -204,7 +244,8 @@ module _ (m : Machine) (inv : Invariant m) (bare : IsBare m) (each : Each (λ o 
     leads_go : (s : CallState) (j q : ℕ) (lead : Leads m s j q) → GoesOn m k (with_leader m s j q lead)
     leads_go s j q lead = record {
       made = λ g found. led_made m inv s j q lead k g found;
-      replica = λ r x e g was found still at present. elim (found_led m inv s j q lead k g found) [
+      up = λ r is. inl is;
+      replica = λ r x e g is_there was found still at present. elim (found_led m inv s j q lead k g found) [
         | inl here ↦ absurd (
             let risen : g.generation ≡ lead.entry.generation + 1 = ap (λ (e : Entry). e.generation) here.1 in
             let same : lead.entry.generation ≡ e.generation = ap (λ (e : Entry). e.generation) (same_Some lead.entry e (sym lead.found ∙ ap (λ k. entry_of k m.cluster.entries) (sym here.0) ∙ was)) in
@@ -220,7 +261,7 @@ module _ (m : Machine) (inv : Invariant m) (bare : IsBare m) (each : Each (λ o 
 
     -- a checkpoint goes on where a making is undone
     undone_goes : (j : ℕ) → GoesOn m k (record_step (undone j) m)
-    undone_goes j = step_goes (undone j) (filter_on k m.cluster given inv.holds.rises inv.holds.up_to (λ e. not (e.identity == j)))
+    undone_goes j = step_goes (undone j) refl (filter_on k m.cluster given inv.holds.rises inv.holds.up_to (λ e. not (e.identity == j)))
 
     making_goes : (j : Option ℕ) → GoesOn m k (without_making j m)
     making_goes None = goes_on_same
@@ -248,12 +289,12 @@ module _ (m : Machine) (inv : Invariant m) (bare : IsBare m) (each : Each (λ o 
     changed_goes j q reply change grows = ok_goes reply _ (both_go j q _ (λ j q. replica_goes j q (m.replicas j q) refl (change j) (grows j)))
 
     -- one entry changed, that stays made
-    entry_goes : (step : ℕ → RecordState → RecordState) → ((j : ℕ) → MadeOn k m.cluster (step j m.cluster)) → (j : Option ℕ) (reply : StepReply) → GoesOn m k (on_ok reply m (at_some j m (λ j. record_step (step j) m)))
-    entry_goes step on j reply = ok_goes reply _ (one_goes j _ (λ j. step_goes (step j) (on j)))
+    entry_goes : (step : ℕ → RecordState → RecordState) → ((j : ℕ) → (step j m.cluster).up ≡ m.cluster.up) → ((j : ℕ) → MadeOn k m.cluster (step j m.cluster)) → (j : Option ℕ) (reply : StepReply) → GoesOn m k (on_ok reply m (at_some j m (λ j. record_step (step j) m)))
+    entry_goes step same_up on j reply = ok_goes reply _ (one_goes j _ (λ j. step_goes (step j) (same_up j) (on j)))
 
     -- a checkpoint goes on where a making is finished
     finished_goes : (s : CallState) (j q : Option ℕ) (reply : StepReply) → StepNeeds m.cluster s.call verbs.Finish j reply → GoesOn m k (changed m s verbs.Finish j q reply)
-    finished_goes s (Some j) q words.Ok by = step_goes (finished j (client_of s.call)) (finished_on k m.cluster given inv.holds.rises inv.holds.up_to s.call j (client_of s.call) by)
+    finished_goes s (Some j) q words.Ok by = step_goes (finished j (client_of s.call)) refl (finished_on k m.cluster given inv.holds.rises inv.holds.up_to s.call j (client_of s.call) by)
     finished_goes s None q words.Ok by = goes_on_same
     finished_goes s j q reply by = goes_on_same
 
@@ -268,15 +309,15 @@ module _ (m : Machine) (inv : Invariant m) (bare : IsBare m) (each : Each (λ o 
     installs s held verbs.Install j q reply t own row = after_install (GoesOn m k) m s t j q reply row goes_on_same (λ i r z x is in_hand over. (
         let has : PulledInHand m.in_hand i z = record { name = who s; state = s; in_hand = held; ckpt = sym own ∙ is; snapshot = in_hand } in
         put_goes i r x (replica_from z x) over.on.there (λ e found present. taken_grows i r z x (inr has) over (present ∙ ap (λ (e : Entry). e.generation) (same_Some e over.on.entry (sym found ∙ over.on.found))))))
-    installs s held verbs.Activate j q reply t own row = after_activate (GoesOn m k) m inv bare s held t j q reply own row goes_on_same (λ i r on. record_goes (swept (active_set i r m.cluster)) (on k)) (leads_go s)
+    installs s held verbs.Activate j q reply t own row = after_activate (GoesOn m k) m inv bare s held t j q reply own row goes_on_same (λ i r on. record_goes (swept (active_set i r m.cluster)) refl (on k)) (leads_go s)
     installs s held verb j q reply t own row = tt
 
     -- a checkpoint goes on by any step
     steps_go : (s : CallState) (verb : Verb) (j q : Option ℕ) (reply : StepReply) → StepNeeds m.cluster s.call verb j reply → Installs s verb j q reply → GoesOn m k (changed m s verb j q reply)
-    steps_go s verbs.Enter j q reply needs done = ok_goes reply _ (one_goes q _ (λ q. step_goes (entered (client_of s.call) q s.call.number) (record { last = omega arith; rises = inv.holds.rises; made = (same_on k m.cluster given inv.holds.rises inv.holds.up_to).made })))
-    steps_go s verbs.Open j q reply needs done = ok_goes reply _ (one_goes j _ (λ j. step_goes (opened j (client_of s.call))
+    steps_go s verbs.Enter j q reply needs done = ok_goes reply _ (one_goes q _ (λ q. step_goes (entered (client_of s.call) q s.call.number) refl (record { last = omega arith; rises = inv.holds.rises; made = (same_on k m.cluster given inv.holds.rises inv.holds.up_to).made })))
+    steps_go s verbs.Open j q reply needs done = ok_goes reply _ (one_goes j _ (λ j. step_goes (opened j (client_of s.call)) refl
         (changed_on k m.cluster given inv.holds.rises inv.holds.up_to j (opened_with (home_of (client_of s.call) m.cluster) m.cluster.up (client_of s.call)) (opened_with-identity (home_of (client_of s.call) m.cluster) m.cluster.up (client_of s.call)) (opened_made (home_of (client_of s.call) m.cluster) m.cluster.up (client_of s.call)))))
-    steps_go s verbs.Create j q reply needs done = ok_goes reply _ (step_goes (created_for s.call (asked s.op)) (created_for_on k m.cluster given inv.holds.rises inv.holds.up_to s.call (asked s.op)))
+    steps_go s verbs.Create j q reply needs done = ok_goes reply _ (step_goes (created_for s.call (asked s.op)) (created_up s.call (asked s.op) m.cluster) (created_for_on k m.cluster given inv.holds.rises inv.holds.up_to s.call (asked s.op)))
     steps_go s verbs.Reserve j q reply needs done = ok_goes reply _ (both_go j q _ (λ j q. goes_on_same))
     steps_go s verbs.Finish j q reply needs done = finished_goes s j q reply needs
     steps_go s verbs.Undo j q reply needs done = ok_goes reply _ (one_goes j _ undone_goes)
@@ -287,21 +328,59 @@ module _ (m : Machine) (inv : Invariant m) (bare : IsBare m) (each : Each (λ o 
     steps_go s verbs.Element j q reply needs done = changed_goes j q reply (λ j. with_next_element (entry_of j m.cluster.entries)) (λ j x. element_grows (entry_of j m.cluster.entries) x)
     steps_go s verbs.Unmark j q reply needs done = changed_goes j q reply (λ j. without_marks) (λ j x. unmarked_grows x)
     steps_go s verbs.Install j q reply needs done = done
-    steps_go s verbs.Hold j q reply needs done = entry_goes (λ j. hold_set j s.call) (λ j. changed_on k m.cluster given inv.holds.rises inv.holds.up_to j (with_hold s.call) (held-identity s.call) (held_made s.call)) j reply
+    steps_go s verbs.Hold j q reply needs done = entry_goes (λ j. hold_set j s.call) (λ j. refl) (λ j. changed_on k m.cluster given inv.holds.rises inv.holds.up_to j (with_hold s.call) (held-identity s.call) (held_made s.call)) j reply
     steps_go s verbs.Activate j q reply needs done = done
     steps_go s verbs.Iter j q reply needs done = ok_goes reply _ (both_go j q _ (λ j q. goes_on_same))
     steps_go s verbs.Next j q reply needs done = ok_goes reply _ (both_go j q _ (λ j q. goes_on_same))
-    steps_go s verbs.Leave j q reply needs done = ok_goes reply _ (step_goes (departed (client_of s.call)) (departed_on k m.cluster given inv.holds.rises inv.holds.up_to (client_of s.call)))
-    steps_go s verbs.Close j q reply needs done = ok_goes reply _ (one_goes j _ (λ j. step_goes (closed j (client_of s.call))
+    steps_go s verbs.Leave j q reply needs done = ok_goes reply _ (step_goes (departed (client_of s.call)) refl (departed_on k m.cluster given inv.holds.rises inv.holds.up_to (client_of s.call)))
+    steps_go s verbs.Close j q reply needs done = ok_goes reply _ (one_goes j _ (λ j. step_goes (closed j (client_of s.call)) refl
         (changed_on k m.cluster given inv.holds.rises inv.holds.up_to j (unreferred (client_of s.call) m.cluster.moment) (released-identity (client_of s.call) m.cluster.moment) (released_made (client_of s.call) m.cluster.moment))))
-    steps_go s verbs.Unlink j q reply needs done = entry_goes unlinked (λ j. changed_on k m.cluster given inv.holds.rises inv.holds.up_to j unnamed (λ e. refl) (λ e. StaysMade-kept e (unnamed e) refl refl refl refl refl refl)) j reply
-    steps_go s verbs.Retain j q reply needs done = entry_goes (retained_for (asked s.op)) (retained_for_on k m.cluster given inv.holds.rises inv.holds.up_to (asked s.op)) j reply
+    steps_go s verbs.Unlink j q reply needs done = entry_goes unlinked (λ j. refl) (λ j. changed_on k m.cluster given inv.holds.rises inv.holds.up_to j unnamed (λ e. refl) (λ e. StaysMade-kept e (unnamed e) refl refl refl refl refl refl)) j reply
+    steps_go s verbs.Retain j q reply needs done = entry_goes (retained_for (asked s.op)) (λ j. retained_up (asked s.op) j m.cluster) (retained_for_on k m.cluster given inv.holds.rises inv.holds.up_to (asked s.op)) j reply
     steps_go s verbs.Look j q reply needs done = look_goes reply _ _ goes_on_same (making_goes (making_of s.call m.cluster))
     steps_go s verb j q reply needs done = goes_on_same
 
     -- a checkpoint goes on by a step of a call in hand that its row allows
     pub stepped_goes : (s : CallState) → m.in_hand (who s) ≡ Some s → (t : Told) → IsOnOwn t.verb t.ckpt s.kept.ckpt → Row m s t.verb t → GoesOn m k (changed m s t.verb t.ckpt t.node t.reply)
     stepped_goes s held t own row = steps_go s t.verb t.ckpt t.node t.reply (row_needs m inv s t.verb t.ckpt t.node t.reply t.end t.details row) (installs s held t.verb t.ckpt t.node t.reply t own row)
+
+    -- a checkpoint goes on behind the failure of a node: what another node has of it stays, and a weak write there may be cut short
+    failed_goes_on : (r : ℕ) → GoesOn m k (failed_at r m)
+    failed_goes_on r = record { made = made; up = up; replica = replica }
+      where
+        R : RecordState
+        R = (failed_at r m).cluster
+
+        counts : ℕ → ℕ → ℕ
+        counts j q = count_in (m.replicas j q)
+
+        made : (f : Entry) → entry_of k R.entries ≡ Some f → (e : Entry) × (entry_of k m.cluster.entries ≡ Some e) × GoesOnMade e f
+        made f found =
+            let it : WasEntry false m inv.shapes inv.holds r k f = was_entry false m inv.shapes inv.holds r k f found in
+            (it.e, it.was, failed_goes (counts it.e.identity) (goes_with_node m.cluster r) r it.e f it.left)
+
+        -- a node that is up is another
+        elsewhere : (q : ℕ) → is_up q R ≡ true → (q == r) ≡ false
+        elsewhere q is = elim (q == r) as (λ b. (q == r) ≡ b → b ≡ false) [
+          | true ↦ λ same. absurd (let w : true ≡ false = sym is ∙ ap (λ q. is_up q R) (eqb-true q r same) ∙ up_gone counts r m.cluster in cc w)
+          | false ↦ λ other. refl
+        ] refl
+
+        up : (q : ℕ) → is_up q R ≡ true → (is_up q m.cluster ≡ true) ⊎ (m.cluster.up ≡ no_nodes)
+        up q is = inl (sym (up_other counts r m.cluster q (elsewhere q is)) ∙ is)
+
+        replica : (q : ℕ) (x : ReplicaState) (e f : Entry) → is_up q R ≡ true → entry_of k m.cluster.entries ≡ Some e → entry_of k R.entries ≡ Some f → f.generation ≡ e.generation → m.replicas k q ≡ Some x → x.generation ≡ e.generation → IsSomeAnd ((failed_at r m).replicas k q) (GrowsTo x)
+        replica q x e f is_there was found still at present =
+            let it : WasEntry false m inv.shapes inv.holds r k f = was_entry false m inv.shapes inv.holds r k f found in
+            let (g, is, complete_at) = IsSomeAnd-at (entry_of k m.cluster.entries) (λ e. IsCompleteOn e q) (bare.complete k q x at) in
+            let complete : IsCompleteOn it.e q = subst (λ e. IsCompleteOn e q) (same_Some g it.e (sym is ∙ it.was)) complete_at in
+            let complete_then : (slice_index f.complete q == 0) ≡ false = ap (λ cs. slice_index cs q == 0) it.left.complete ∙ complete_still it.e.complete r q (elsewhere q is_there) complete in
+            let was_complete : (slice_index (complete_of (entry_of k m.cluster.entries)) q == 0) ≡ false = ap (λ o. slice_index (complete_of o) q == 0) it.was ∙ complete in
+            let under : replicas_under m.cluster R m.replicas k q ≡ Some x =
+            ap (λ o. replica_under o (slice_index (complete_of (entry_of k m.cluster.entries)) q) q (m.replicas k q)) found
+            ∙ ap (λ b. cond b None (cond (slice_index (complete_of (entry_of k m.cluster.entries)) q == 0) (Some (opened_state f)) (m.replicas k q))) complete_then
+            ∙ ap (λ b. cond b (Some (opened_state f)) (m.replicas k q)) was_complete ∙ at in
+            IsSomeAnd-from ((failed_at r m).replicas k q) (GrowsTo x) (replica_left R k q x) (ap (option_map (replica_left R k q)) under) (subst (λ o. GrowsTo x (made_present o q (broken_unless R x.marks x))) (sym found) (left_grows R f q x (still ∙ sym present)))
 
     -- a checkpoint goes on by any label that is allowed
     pub after_goes : (l : Label) → Allowed m l → GoesOn m k (after m l)
@@ -312,8 +391,10 @@ module _ (m : Machine) (inv : Invariant m) (bare : IsBare m) (each : Each (λ o 
         let held : m.in_hand (who s) ≡ Some s = held_as m d op s allowed.in_hand allowed.call_is allowed.word in
         subst (λ o. GoesOn m k (step_of m o verb j q reply end)) (sym allowed.in_hand) (stepped_goes s held t allowed.own allowed.row)
     after_goes (labels.Word by line said) allowed = goes_on_same
-    after_goes (labels.Nodes n) allowed = goes_on_same
-    after_goes (labels.Moved t) allowed = record_goes (moved t m.cluster) (record { last = omega arith; rises = IdentitiesRise-filter (stays t) m.cluster.entries inv.holds.rises; made = ComesOf-filter StaysMade StaysMade-same (stays t) m.cluster.entries inv.holds.rises k })
+    after_goes (labels.Nodes n) allowed = record { made = goes_on_same.made; up = λ r is. inr (inv.holds.first_up allowed.2); replica = λ r x e f is_there there found still at present. IsSomeAnd-from (m.replicas k r) (GrowsTo x) x at (grows_to_same x) }
+    after_goes (labels.Moved t) allowed = record_goes (moved t m.cluster) refl (record { last = omega arith; rises = IdentitiesRise-filter (stays t) m.cluster.entries inv.holds.rises; made = ComesOf-filter StaysMade StaysMade-same (stays t) m.cluster.entries inv.holds.rises k })
+    after_goes (labels.Failed r true) allowed = failed_goes_on r
+    after_goes (labels.Failed r false) allowed = goes_on_same
     after_goes (labels.Shown j replicas) allowed = goes_on_same
     after_goes (labels.Pulled j reply) allowed = after_pull (GoesOn m k) m j reply allowed goes_on_same (λ x from none. goes_on_same)
     after_goes (labels.Put j q reply) allowed = after_put_over (GoesOn m k) m j q reply allowed goes_on_same (λ s x at over. put_goes j q x (replica_from s x) over.on.there (λ e found present. (

@@ -1,7 +1,7 @@
 -- Which calls replicas and snapshots have effects of: of calls that were begun; and one that is in hand commits its update there, since an update of the active alone has ended.
 use Rattle.std.proofs.Common.{◌≡◌, ◌⊎◌, ℕ, ◌+◌, ◌<◌, inl, inr, List, [], Option, Some, None, Bool, true, false, cond, ◌==◌, ℤ, refl, sym, ap, subst, ◌∙◌, arith}
 use Rattle.std.specs.Option.{option_map}
-use Rattle.std.specs.Prelude.{IsSomeAnd, IfSome, slice_index}
+use Rattle.std.specs.Prelude.{IsSomeAnd, IfSome}
 use Rattle.std.proofs.lemmas.Option.{same_Some}
 use Rattle.ckpt_types.specs.declared.ais_error.AisError.TheVariants.{NotExist}
 use Rattle.ckpt_types.specs.declared.answers.Answer.{Answer}
@@ -10,6 +10,7 @@ use Rattle.ckpt_types.specs.declared.answers.Cause.TheVariants.{Plain}
 use Rattle.ckpt_types.specs.declared.answers.Outcome.{Outcome}
 use Rattle.ckpt_types.specs.declared.answers.Outcome.TheVariants.{Done, Refused}
 use Rattle.ckpt_types.specs.declared.identities.CallId.{CallId}
+use Rattle.ckpt_types.specs.declared.identities.Who.{Who}
 use Rattle.ckpt_types.specs.declared.operation.Op.{Op}
 use Rattle.ckpt_types.specs.declared.update.Update.{Update}
 use Rattle.weak_marks.specs.Marks.{Marked}
@@ -24,7 +25,7 @@ use Rattle.cluster_record.specs.declared.entries.Entry.{Entry}
 use Rattle.cluster_record.specs.Calls.{same_actor, put_actor, left}
 use Rattle.cluster_record.specs.DueUpdate.{UpdateState, update_led, update_on, by_phase, commit_at, update_taken, update_taken_by, commit_taken}
 use Rattle.cluster_record.specs.Places.{put, put2}
-use Rattle.cluster_record.specs.RecordState.{entry_of, moved}
+use Rattle.cluster_record.specs.RecordState.{entry_of, is_live, moved}
 use Rattle.cluster_record.specs.StepDone.{StepDone, done_of, counting, first_lacking, last_having}
 use Rattle.ckpt_machine.specs.Drivers.{Driver}
 use Rattle.ckpt_machine.specs.Drivers as drivers
@@ -36,33 +37,38 @@ use Rattle.ckpt_machine.specs.ActiveGuards.{HoldOk, ApplyOk, AreMarksOf, UnmarkR
 use Rattle.ckpt_machine.specs.UpdateGuards.{CommitOk}
 use Rattle.ckpt_machine.specs.GuardTerms.{OnReplica, OnAll, OnActive}
 use Rattle.ckpt_machine.specs.InHand.{IsInPlace, IsUpdateIn}
-use Rattle.ckpt_machine.specs.Invariant.{IsGoodIn, InvariantIn, Invariant}
-use Rattle.ckpt_machine.specs.Machine.{Machine, Staged, ReplicaState, Snapshot, CallState, empty_cluster, who}
+use Rattle.ckpt_machine.specs.Invariant.{Invariant}
+use Rattle.ckpt_machine.specs.Dead.{is_enter}
+use Rattle.ckpt_machine.specs.Entries.{AreApart}
+use Rattle.ckpt_machine.specs.Failing.{failed_at}
+use Rattle.ckpt_machine.specs.Machine.{Machine, Broken, Staged, ReplicaState, Snapshot, CallState, empty_cluster, who}
 use Rattle.ckpt_machine.specs.Options.{is_weak, is_by_element}
 use Rattle.cluster_record.specs.Placement.{is_all}
 use Rattle.ckpt_machine.specs.Owned.{HasEffect}
 use Rattle.ckpt_machine.specs.Propagation.{copied, replica_from}
-use Rattle.ckpt_machine.specs.Shape.{Shape, IsCompleteOn, IsShapedBy, IsOwner, IsMarker, IsSpread, slot_by, marks_at}
-use Rattle.ckpt_machine.specs.After.{after_beginning, with_record, call_begun, changed, kept_behind, pulled_by, stepped, step_of, after}
-use Rattle.ckpt_machine.specs.Due.{Told, IsDone, IsDue, driver_of, due, rooms_of, counted_at}
+use Rattle.ckpt_machine.specs.Shape.{IsCompleteOn, IsMarker, IsOwner}
+use Rattle.ckpt_machine.specs.After.{after_beginning, reservation_under, with_record, call_begun, changed, kept_behind, pulled_by, stepped, step_of, after}
+use Rattle.ckpt_machine.specs.Due.{Told, IsDone, IsDue, driver_of, due, rooms_of, count_in, counted_at}
 use Rattle.ckpt_machine.proofs.Runs.{along}
 use Rattle.ckpt_machine.proofs.Copying.{IsPulledFrom, after_pull, after_put, put-cases}
 use Rattle.ckpt_machine.proofs.OwnMaking.{making_there}
 use Rattle.ckpt_machine.proofs.Joining.{collocated_apart}
-use Rattle.ckpt_machine.proofs.Follows.{IsIncomplete, IsBare, Has, HasCopied, HasInHand, ReplicasFollow, record_follows, replica_follows, StepNeeds, changed_follows}
+use Rattle.ckpt_machine.proofs.FailedCalls.{left_is, left_stays}
+use Rattle.ckpt_machine.proofs.FailedClients.{live_staying}
+use Rattle.ckpt_machine.proofs.FailedReplicas.{Becomes, stays, cut_short, leads, WasReplica, was_replica}
+use Rattle.ckpt_machine.proofs.Follows.{IsIncomplete, IsBare, Has, HasCopied, HasInHand, ReplicasFollow, record_follows, replica_follows, StepNeeds, changed_follows, effect_more, reserved_under, snapshot_was}
 use Rattle.ckpt_machine.specs.Runs.{last, IsRun}
 use Rattle.ckpt_machine.proofs.Lawful.{lawful}
 use Rattle.ckpt_machine.proofs.Start.{invariant_empty}
 use Rattle.ckpt_machine.proofs.Starting.{first_kept, begun_as}
 use Rattle.ckpt_machine.proofs.Actors.{same_actor-true}
-use Rattle.ckpt_machine.proofs.Lives.{owner_in}
-use Rattle.ckpt_machine.proofs.Owning.{owner_origin}
+pub use Rattle.ckpt_machine.proofs.ShapedReplicas.{shaped_there, slot_owned, marks_owned}
+use Rattle.ckpt_machine.proofs.ShapedReplicas.{maker_incomplete}
 use Rattle.ckpt_machine.specs.Whose.{same_who}
 use Rattle.ckpt_types.specs.OpWord.{stepped_as, word_of_op}
 use Rattle.ckpt_machine.proofs.Dropped.{held_as}
 use Rattle.ckpt_machine.proofs.Whose.{same_who-refl, put_who-cases, one_call}
 use Rattle.ckpt_machine.proofs.OptionLemmas.{IsSomeAnd-at, IsSomeAnd-from}
-use Rattle.ckpt_types.proofs.Lists.{slice_index-replicate}
 
 -- what drives the call commits an update of this checkpoint
 pub record IsCommittingAt (k : ℕ) (d : Driver) : Type 0 where
@@ -93,75 +99,7 @@ history_empty = record {
   ended_pulled = λ s held has. cc held;
 }
 
--- ---- whose a slot is, and whose marks are
-
-module _ (m : Machine) (shapes : ℕ → Shape) (inv : InvariantIn shapes m) (bare : IsBare m) where
-  -- a checkpoint that has a replica is there
-  entry_there : (k r : ℕ) (x : ReplicaState) → m.replicas k r ≡ Some x → (e : Entry) × (entry_of k m.cluster.entries ≡ Some e) × IsCompleteOn e r
-  entry_there k r x at = IsSomeAnd-at (entry_of k m.cluster.entries) (λ e. IsCompleteOn e r) (bare.complete k r x at)
-
-  -- a checkpoint that has a replica is made, and the replica is as its shape says
-  pub record IsShapedAt (k r : ℕ) (x : ReplicaState) (e : Entry) : Type 0 where
-    pub spread : IsSpread m k (shapes k) e
-    pub shaped : IsShapedBy (is_all e.attributes) (shapes k) e.active r x
-
-  pub shaped_there : (k r : ℕ) (x : ReplicaState) (e : Entry) → m.replicas k r ≡ Some x → entry_of k m.cluster.entries ≡ Some e → IsShapedAt k r x e
-  shaped_there k r x e at found =
-      let (f, is, complete) = entry_there k r x at in
-      by_maker (subst (λ e. IsCompleteOn e r) (same_Some f e (sym is ∙ found)) complete) e.making (inv.entries k e found)
-    where
-      by_maker : IsCompleteOn e r → (maker : Option CallId) → IsGoodIn m k (shapes k) e maker → IsShapedAt k r x e
-      by_maker there (Some call) good =
-          let none : (slice_index e.complete r == 0) ≡ true = ap (λ nodes. slice_index nodes r == 0) good.0.complete ∙ ap (λ n. n == 0) (slice_index-replicate 8 r) in
-          absurd (let w : true ≡ false = sym none ∙ there in cc w)
-      by_maker there None good =
-          let (y, is, shaped) = IsSomeAnd-at (m.replicas k r) (IsShapedBy (is_all e.attributes) (shapes k) e.active r) (good.replicas r there) in
-          record { spread = good; shaped = subst (IsShapedBy (is_all e.attributes) (shapes k) e.active r) (same_Some y x (sym is ∙ at)) shaped }
-
-  -- what is staged is of a call in hand, an update of this checkpoint, that owns it
-  pub slot_owned : (k r : ℕ) (x : ReplicaState) (slot : Staged) → m.replicas k r ≡ Some x → x.slot ≡ Some slot → IsOwner m k (shapes k) slot.owner × (slot.origin ≡ slot.owner) × (slot.update ≡ (shapes k).update)
-  slot_owned k r x slot there staged =
-      let (e, found, complete) = entry_there k r x there in
-      let at = shaped_there k r x e there found in
-      by_shape (is_all e.attributes) e.active at.shaped (λ d owns. owner_in m k (shapes k) d (at.spread.owned r d owns) (at.spread.live refl r d owns))
-    where
-      by_owner : (o : Option CallId) → (shapes k).owners r ≡ o → slot_by (shapes k) o ≡ Some slot → ((d : CallId) → (shapes k).owners r ≡ Some d → IsOwner m k (shapes k) d) → IsOwner m k (shapes k) slot.owner × (slot.origin ≡ slot.owner) × (slot.update ≡ (shapes k).update)
-      by_owner None is none owned = absurd (cc none)
-      by_owner (Some d) is some owned =
-          let own = owned d is in
-          let same = same_Some (record { owner = d; origin = (shapes k).origin; update = (shapes k).update; moment = (shapes k).moment }) slot some in
-          let owner : d ≡ slot.owner = ap (λ (z : Staged). z.owner) same in
-          let origin : (shapes k).origin ≡ slot.origin = ap (λ (z : Staged). z.origin) same in
-          (subst (IsOwner m k (shapes k)) owner own, sym origin ∙ owner_origin m k (shapes k) d own ∙ owner, ap (λ (z : Staged). z.update) (sym same))
-
-      -- where updates are on the active alone, nothing is staged
-      by_shape : (all : Bool) (active : Option ℕ) → IsShapedBy all (shapes k) active r x → ((d : CallId) → (shapes k).owners r ≡ Some d → IsOwner m k (shapes k) d) → IsOwner m k (shapes k) slot.owner × (slot.origin ≡ slot.owner) × (slot.update ≡ (shapes k).update)
-      by_shape true active shaped owned = by_owner ((shapes k).owners r) refl (sym shaped.slot ∙ staged) owned
-      by_shape false active apart owned = absurd (let w : None ≡ Some slot = sym apart.free ∙ staged in cc w)
-
-  -- the marks that stand on a replica are of a call in hand, a weak write of this checkpoint
-  pub marks_owned : (k r : ℕ) (x : ReplicaState) (marks : Marked) → m.replicas k r ≡ Some x → x.marks ≡ Some marks → IsMarker m k marks
-  marks_owned k r x marks there marked =
-      let (e, found, complete) = entry_there k r x there in
-      let at = shaped_there k r x e there found in
-      by_shape (is_all e.attributes) e.active at.shaped (at.spread.marked marks)
-    where
-      -- they are those of the checkpoint
-      on_active : (active : Option ℕ) → marks_at active (shapes k).marks r ≡ Some marks → (shapes k).marks ≡ Some marks
-      on_active None none = absurd (cc none)
-      on_active (Some active) some = elim (r == active) as (λ b. cond b (shapes k).marks None ≡ Some marks → (shapes k).marks ≡ Some marks) [ true ↦ λ is. is | false ↦ λ none. absurd (cc none) ] some
-
-      -- where updates are on all replicas, there are none
-      by_shape : (all : Bool) (active : Option ℕ) → IsShapedBy all (shapes k) active r x → ((shapes k).marks ≡ Some marks → IsMarker m k marks) → IsMarker m k marks
-      by_shape true active shaped marker = absurd (let w : None ≡ Some marks = sym shaped.unmarked ∙ marked in cc w)
-      by_shape false active apart marker = marker (on_active active (sym apart.marks_are ∙ marked))
-
--- on no node is complete what is in the making
-pub maker_incomplete : (m : Machine) → Invariant m → (call : CallId) (k r : ℕ) (e : Entry) → entry_of k m.cluster.entries ≡ Some e → e.making ≡ Some call → IsIncomplete e r
-maker_incomplete m inv call k r e found making =
-    let good = subst (λ maker. IsGoodIn m k (inv.shapes k) e maker) making (inv.holds.entries k e found) in
-    ap (λ nodes. slice_index nodes r == 0) good.0.complete ∙ ap (λ n. n == 0) (slice_index-replicate 8 r)
-
+-- so it is where the call makes it
 pub making_incomplete : (m : Machine) → Invariant m → (call : CallId) (k r : ℕ) → IsMadeBy m call k → IsSomeAnd (entry_of k m.cluster.entries) (λ e. IsIncomplete e r)
 making_incomplete m inv call k r by =
     let (e, found, making) = IsSomeAnd-at (entry_of k m.cluster.entries) (λ e. e.making ≡ Some call) (making_there m.cluster inv.holds.rises call k by) in
@@ -535,6 +473,86 @@ put_history m history k r s x is there = record {
     before : (j q : ℕ) (d : CallId) → Has (record m { replicas = put2 m.replicas k r (Some (replica_from s x)) }) j q d → Has m j q d ⊎ HasCopied m j d
     before j q d has = follows.effects j q has.replica d has.there has.effect
 
+-- ---- the failure of a node
+
+module _ (m : Machine) (inv : Invariant m) (history : HasHistory m) (r : ℕ) (apart : AreApart m.cluster.entries) where
+  -- the machine behind it
+  abbrev behind : Machine
+  behind = failed_at r m
+
+  -- a weak write of the call was cut short: it was in hand, and is not live
+  record IsCutShort (d : CallId) : Type 0 where
+    k : ℕ
+    marks : Marked
+    marker : IsMarker m k marks
+    call : marks.call ≡ d
+    gone : is_live behind.cluster d ≡ false
+
+  -- a replica has an effect of a call of which it had one, or whose weak write was cut short
+  had_then : (k q : ℕ) (d : CallId) → Has behind k q d → Has m k q d ⊎ IsCutShort d
+  had_then k q d has = by_what it.becomes
+    where
+      it : WasReplica m inv history.bare r apart k q has.replica
+      it = was_replica m inv history.bare r apart k q has.replica has.there
+
+      by_what : Becomes m inv history.bare r apart it.before it.then q it.replica has.replica → Has m k q d ⊎ IsCutShort d
+      by_what (stays same) = inl (record { replica = it.replica; there = it.there; effect = subst (λ (x : ReplicaState). HasEffect d x.effects) same has.effect })
+      by_what (leads it_was led none same) = inl (record { replica = it.replica; there = it.there; effect = subst (λ (x : ReplicaState). HasEffect d x.effects) same has.effect })
+      by_what (cut_short marks stand dead was_led led generation same) = elim (effect_more d it.replica.effects (Broken marks.call marks.update marks.moment marks.done) (subst (λ (x : ReplicaState). HasEffect d x.effects) same has.effect)) [
+        | inl was ↦ inl (record { replica = it.replica; there = it.there; effect = was })
+        | inr new ↦ inr (record { k = k; marks = marks; marker = marks_owned m inv.shapes inv.holds history.bare k q it.replica marks it.there stand; call = new; gone = subst (λ d. is_live behind.cluster d ≡ false) new dead })
+      ]
+
+  -- such a call has begun
+  cut_short_given : (d : CallId) → IsCutShort d → d.number < m.next d.actor
+  cut_short_given d cut =
+      let by = cut.marker in
+      subst (λ (d : CallId). d.number < m.next d.actor) (by.call_is ∙ cut.call) (inv.holds.hands (who by.state) by.state by.in_hand).number
+
+  -- and is in hand no more
+  cut_short_ended : (s : CallState) → behind.in_hand (who s) ≡ Some s → IsCutShort s.call → ⊥
+  cut_short_ended s left cut =
+      let (held, others) = left_is false m inv.shapes inv.holds r (who s) s left in
+      let hand = inv.holds.hands (who s) s held in
+      let by = cut.marker in
+      let same : s ≡ by.state = one_call m.in_hand m.pending m.next inv.holds.calls (who s) (who by.state) s by.state held by.in_hand (sym (by.call_is ∙ cut.call)) in
+      let live_was : is_live m.cluster s.call ≡ true = hand.live (ap (λ (z : CallState). is_enter (driver_of z)) same ∙ ap is_enter by.driver_is) in
+      let live : is_live behind.cluster s.call ≡ true = live_staying (λ k q. count_in (m.replicas k q)) r m.cluster s.call hand.client (left_stays false m inv.shapes inv.holds r s others) ∙ live_was in
+      let w : true ≡ false = sym live ∙ cut.gone in cc w
+
+  -- a snapshot is of a checkpoint that is there still, and was there
+  copied_then : (k : ℕ) (d : CallId) → HasCopied behind k d → HasCopied m k d
+  copied_then k d has = record { snapshot = has.snapshot; there = (IsSomeAnd-at (entry_of k behind.cluster.entries) (λ e. m.snapshots k ≡ Some has.snapshot) (snapshot_was (entry_of k behind.cluster.entries) (m.snapshots k) has.snapshot has.there)).2; effect = has.effect }
+
+  -- a call that is left was in hand
+  held_then : (w : Who) (s : CallState) → behind.in_hand w ≡ Some s → m.in_hand w ≡ Some s
+  held_then w s left = (left_is false m inv.shapes inv.holds r w s left).0
+
+  pulled_then : (d : CallId) → HasInHand behind d → HasInHand m d
+  pulled_then d has = record { name = has.name; state = has.state; held = held_then has.name has.state has.held; snapshot = has.snapshot; there = has.there; effect = has.effect }
+
+  -- it has its replicas and reservations where they may be
+  bare_then : IsBare behind
+  bare_then = record {
+    complete = λ k q y there. (let it = was_replica m inv history.bare r apart k q y there in IsSomeAnd-from (entry_of k behind.cluster.entries) (λ e. IsCompleteOn e q) it.then it.found it.complete);
+    reserves = λ k q i is. elim (q == r) as (λ b. cond b None (reservation_under (entry_of k behind.cluster.entries) q (m.reserved k q)) ≡ Some i → IsSomeAnd (entry_of k behind.cluster.entries) (λ e. IsIncomplete e q)) [
+      | true ↦ λ gone. absurd (cc gone)
+      | false ↦ λ some. reserved_under (entry_of k behind.cluster.entries) q (m.reserved k q) i some
+    ] is;
+  }
+
+  -- so it is behind the failure as it was
+  failed_history : HasHistory behind
+  failed_history = record {
+    bare = bare_then;
+    given = λ k q d has. elim (had_then k q d has) [ inl was ↦ history.given k q d was | inr cut ↦ cut_short_given d cut ];
+    commits = λ k q s left has. elim (had_then k q s.call has) [ inl was ↦ history.commits k q s (held_then (who s) s left) was | inr cut ↦ absurd (cut_short_ended s left cut) ];
+    given_copied = λ k d has. history.given_copied k d (copied_then k d has);
+    commits_copied = λ k s left has. history.commits_copied k s (held_then (who s) s left) (copied_then k s.call has);
+    given_pulled = λ d has. history.given_pulled d (pulled_then d has);
+    ended_pulled = λ s left has. history.ended_pulled s (held_then (who s) s left) (pulled_then s.call has);
+  }
+
 -- what is allowed and due keeps it
 pub keeps_history : (m : Machine) (l : Label) → Invariant m → HasHistory m → Allowed m l → IsDue m l → HasHistory (after m l)
 keeps_history m (labels.Began call op end details) inv history allowed is = begun_history m history call op end is.number
@@ -553,6 +571,8 @@ keeps_history m (labels.Nodes n) inv history allowed is = record {
   ended_pulled = λ s held has. history.ended_pulled s held (record { name = has.name; state = has.state; held = has.held; snapshot = has.snapshot; there = has.there; effect = has.effect });
 }
 keeps_history m (labels.Moved t) inv history allowed is = moved_history m history t
+keeps_history m (labels.Failed r true) inv history allowed is = failed_history m inv history r is.2
+keeps_history m (labels.Failed r false) inv history allowed is = history
 keeps_history m (labels.Shown k replicas) inv history allowed is = history
 keeps_history m (labels.Pulled k reply) inv history allowed is = after_pull HasHistory m k reply is history (λ x from none. pulled_history m history k x from)
 keeps_history m (labels.Put k r reply) inv history allowed is = after_put HasHistory m k r reply history (λ s x copied on. put_history m history k r s x copied on.there)

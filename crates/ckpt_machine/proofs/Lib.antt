@@ -102,6 +102,7 @@ pub mod Reserved
 pub mod Undone
 pub mod Created
 pub mod OpenThere
+mod OpensApart
 pub mod OpenAsking
 pub mod OpenMaking
 pub mod OpenSteps
@@ -161,6 +162,7 @@ pub mod FreedNodes
 pub mod KeptEntries
 pub mod WholeLists
 pub mod Carried
+mod CompleteUp
 pub mod RequestRows
 pub mod CopySteps
 pub mod Leads
@@ -168,7 +170,19 @@ pub mod ServedNodes
 pub mod LentReplicas
 pub mod Going
 pub mod DriverTaking
+mod EachKept
+mod FailedEach
+mod FailedMade
+mod FailedReplicas
 pub mod StepTaking
 pub mod RunExamples
 pub mod StepDone
 pub mod NodeListings
+mod ShapedReplicas
+mod BrokenCorrupt
+mod CorruptedSections
+pub mod FailedCounts
+pub mod FailedNodes
+mod EndedCalls
+mod InOrder
+mod CallsEnd

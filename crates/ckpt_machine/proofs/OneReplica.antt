@@ -1,5 +1,5 @@
 -- A step on one replica: what its row says of the replica and of the entry, and that the replica has its generation and its effects still.
-use Rattle.std.proofs.Common.{◌≡◌, ◌⊎◌, ℕ, inr, [], ◌∷◌, Option, Some, None, Bool, true, false, ℤ, List, refl}
+use Rattle.std.proofs.Common.{◌≡◌, ◌⊎◌, ℕ, inr, [], ◌∷◌, ◌++◌, Option, Some, None, Bool, true, false, ℤ, List, refl}
 use Rattle.std.specs.Prelude.{IsOk}
 use Rattle.ckpt_types.specs.declared.identities.CallId.{CallId}
 use Rattle.ckpt_types.specs.declared.update.Update.{Update}
@@ -23,6 +23,7 @@ use Rattle.ckpt_machine.specs.Machine.{Machine, Staged, ReplicaState, CallState,
 use Rattle.ckpt_machine.specs.Options.{is_weak, is_by_element}
 use Rattle.cluster_record.specs.Placement.{is_all}
 use Rattle.ckpt_machine.specs.Replays.{IsPrefix}
+use Rattle.ckpt_machine.specs.Runs.{last}
 use Rattle.ckpt_machine.specs.After.{committed_slot, with_committed, next_element_written, with_next_element, effect_of}
 use Rattle.ckpt_machine.specs.Due.{Told, IsDone, due}
 use Rattle.ckpt_machine.proofs.Histories.{HasHistory}
@@ -37,10 +38,18 @@ update_word (ops.Write p u) place update is = tt
 update_word (ops.Over p u) place update is = tt
 update_word op place update is = absurd (cc is)
 
--- a call in hand takes this step, which is due, on a replica that is there; it began in the log with this very update, of this checkpoint
+-- the state is the one behind a front of the log
+pub record IsBehindFront (log : List Label) (m : Machine) : Type 0 where
+  pub front : List Label
+  pub rest : List Label
+  pub log_is : log ≡ front ++ rest
+  pub state_is : m ≡ last front
+
+-- a call in hand takes this step, which is due, behind a front of the log, on a replica that is there; it began in the log with this very update, of this checkpoint
 pub record StepsOn (log : List Label) (m : Machine) (s : CallState) (verb : Verb) (k r : ℕ) (x : ReplicaState) : Type 0 where
   pub inv : Invariant m
   pub history : HasHistory m
+  pub at : IsBehindFront log m
   pub held : m.in_hand (who s) ≡ Some s
   pub there : m.replicas k r ≡ Some x
   pub told : Told

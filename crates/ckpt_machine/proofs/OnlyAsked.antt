@@ -9,7 +9,8 @@ use Rattle.weak_marks.specs.Marks.{Marked, is_left}
 use Rattle.cluster_record.specs.declared.entries.Entry.{Entry}
 use Rattle.cluster_record.specs.RecordState.{entry_of, identity_of}
 use Rattle.ckpt_machine.specs.Laws.{OfEachRun}
-use Rattle.ckpt_machine.specs.Machine.{Machine, Effect, Applied, Staged, ReplicaState, Snapshot}
+use Rattle.ckpt_machine.specs.Failing.{broken}
+use Rattle.ckpt_machine.specs.Machine.{Machine, Effect, Applied, Broken, Staged, ReplicaState, Snapshot}
 use Rattle.ckpt_machine.specs.Runs.{last, IsRun}
 use Rattle.ckpt_machine.specs.Shape.{IsCompleteOn}
 use Rattle.ckpt_machine.specs.Propagation.{replica_from}
@@ -105,6 +106,9 @@ module _ (log : List Label) where
     unmarked = λ m s k r x e marks step active stand was. asked_as e (marks_ended x (Some marks)) (
         let it = was e refl in
         record { effects = asked_more log e.identity x.effects (Applied marks.call marks.update marks.moment) it.effects (it.marked marks stand.stand); staged = it.staged; marked = λ other none. absurd (cc none) });
+    broken_off = λ e r x marks stand free none was. asked_as e (broken marks x) (
+        let it = was e refl in
+        record { effects = asked_more log e.identity x.effects (Broken marks.call marks.update marks.moment marks.done) it.effects (it.marked marks stand); staged = it.staged; marked = λ other none. absurd (cc none) });
   }
 
 -- THE LAW: after each front of a run

@@ -3,8 +3,11 @@ use Rattle.ckpt_machine.specs.Laws.{RunsKeepPromises}
 use Rattle.ckpt_machine.proofs.Acknowledged.{acknowledged_stay}
 use Rattle.ckpt_machine.proofs.ActivesSet.{actives_are_set}
 use Rattle.ckpt_machine.proofs.AllOrNone.{on_all_or_none}
+use Rattle.ckpt_machine.proofs.BrokenCorrupt.{only_broken_corrupt}
+use Rattle.ckpt_machine.proofs.CallsEnd.{calls_end}
 use Rattle.ckpt_machine.proofs.Causes.{ends_allowed}
 use Rattle.ckpt_machine.proofs.EffectsTell.{effects_tell}
+use Rattle.ckpt_machine.proofs.InOrder.{effects_keep_order}
 use Rattle.ckpt_machine.proofs.OnlyAsked.{only_asked}
 use Rattle.ckpt_machine.proofs.OwnersInHand.{owners_in_hand}
 use Rattle.ckpt_machine.proofs.RefusedRuns.{run_leaves}
@@ -16,9 +19,12 @@ promises_kept log run = record {
   all_or_none = on_all_or_none log run;
   acknowledged = acknowledged_stay log run;
   effects = effects_tell log run;
+  order = effects_keep_order log run;
+  corrupted = only_broken_corrupt log run;
   synchronized = synchronisations_tell log run;
   asked = only_asked log run;
   owners = owners_in_hand log run;
   actives = actives_are_set log run;
+  ends = calls_end log run;
   causes = ends_allowed log run;
 }

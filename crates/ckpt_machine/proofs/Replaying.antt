@@ -14,12 +14,13 @@ use Rattle.ckpt_types.specs.Sections.{Section, opening}
 use Rattle.ckpt_types.specs.Updates.{outcome}
 use Rattle.run_labels.specs.declared.labels.Label.{Label}
 use Rattle.weak_marks.specs.Marks.{Marked, elements_in, is_left, with_next_done}
-use Rattle.replica.specs.Replicas.{first_written, elements_left}
+use Rattle.replica.specs.Replicas.{first_written, elements_left, all_corrupted}
 use Rattle.cluster_record.specs.declared.entries.Entry.{Entry}
 use Rattle.cluster_record.specs.RecordState.{entry_of}
 use Rattle.ckpt_machine.specs.Beginning.{update_is_bad}
 use Rattle.ckpt_machine.specs.Invariant.{Invariant}
-use Rattle.ckpt_machine.specs.Machine.{Machine, Effect, Applied, Staged, ReplicaState, Snapshot}
+use Rattle.ckpt_machine.specs.Failing.{broken}
+use Rattle.ckpt_machine.specs.Machine.{Machine, Effect, Applied, Broken, Staged, ReplicaState, Snapshot}
 use Rattle.ckpt_machine.specs.Options.{is_by_element}
 use Rattle.cluster_record.specs.Placement.{is_all}
 use Rattle.ckpt_machine.specs.Propagation.{replica_from}
@@ -127,6 +128,10 @@ module _ (e : Entry) (x : ReplicaState) (marks : Marked) (stand : x.marks ≡ So
       let then = effects_done-last e.attributes x.effects (Applied marks.call marks.update marks.moment) (opening e.attributes e.made) in
       replayed e (marks_ended x (Some marks)) refl (there ∙ ap (λ done. each_done e.attributes marks.moment done under) all ∙ at_once ∙ sym then)
 
+  -- cut short, its sections are corrupted, which is an effect then
+  broken_replay : IsReplayed e (broken marks x)
+  broken_replay = replayed e (broken marks x) refl (ap (all_corrupted elements) there ∙ sym (effects_done-last e.attributes x.effects (Broken marks.call marks.update marks.moment marks.done) (opening e.attributes e.made)))
+
 -- ---- every step
 
 -- what declares the same, from the same moment, has the same replay
@@ -150,7 +155,7 @@ replay_kept e f keeps x was = record {
     }
 
 -- where updates are on all replicas, no marks stand
-all_unmarked : (m : Machine) → Invariant m → IsBare m → (k r : ℕ) (x : ReplicaState) (e : Entry) → m.replicas k r ≡ Some x → entry_of k m.cluster.entries ≡ Some e → is_all e.attributes ≡ true → x.marks ≡ None
+pub all_unmarked : (m : Machine) → Invariant m → IsBare m → (k r : ℕ) (x : ReplicaState) (e : Entry) → m.replicas k r ≡ Some x → entry_of k m.cluster.entries ≡ Some e → is_all e.attributes ≡ true → x.marks ≡ None
 all_unmarked m inv bare k r x e there found all = (subst (λ all. IsShapedBy all (inv.shapes k) e.active r x) all (shaped_there m inv.shapes inv.holds bare k r x e there found).shaped).unmarked
 
 -- it is replayed by the entry of its checkpoint, where this is there
@@ -184,6 +189,7 @@ kept_replay log = record {
   marked = λ m s k r x e step active can was f found. subst (λ f. IsReplayed f (with_marks s.call (update_of s.op) m.cluster.moment x)) (same_Some e f found) (marked_replay e s.call (update_of s.op) m.cluster.moment x can (was e refl));
   element = λ m s k r x e marks step active stand was f found. subst (λ f. IsReplayed f (next_element_written e.attributes x (Some marks))) (same_Some e f found) (element_replay e x marks stand.stand (was e refl) stand.are.left_is);
   unmarked = λ m s k r x e marks step active stand was f found. subst (λ f. IsReplayed f (marks_ended x (Some marks))) (same_Some e f found) (unmarked_replay e x marks stand.stand (was e refl) stand.are.left_is);
+  broken_off = λ e r x marks stand free none was f found. subst (λ f. IsReplayed f (broken marks x)) (same_Some e f found) (broken_replay e x marks stand (was e refl));
 }
 
 -- THE LAW: each replica is the replay of its effects

@@ -182,8 +182,8 @@ module _ (log : List Label) (inv : Invariant (last log)) (s : CallState) (held :
 
 module _ (log : List Label) (run : IsRun log) (all : AllSetting log (last log)) where
   -- a label of no call
-  other_setting : (l : Label) (R : RecordState) (z : CallState) → (last log).in_hand (who z) ≡ Some z → (place : ℕ) → asked z.op ≡ asks.SetActive place → R.clients ≡ (last log).cluster.clients → ((k r : ℕ) → IsHoldOf l z.call k r → ⊥) → IsSettingOf (log ++ l ∷ []) R z.call z.kept z.snapshot
-  other_setting l R z held place is same no_hold = longer log l (last log).cluster R z.call z.kept z.snapshot no_hold (ap (find_key client_key (client_of z.call)) same) (all z held place is)
+  other_setting : (l : Label) (R : RecordState) (z : CallState) → (last log).in_hand (who z) ≡ Some z → (place : ℕ) → asked z.op ≡ asks.SetActive place → find_key client_key (client_of z.call) R.clients ≡ find_key client_key (client_of z.call) (last log).cluster.clients → ((k r : ℕ) → IsHoldOf l z.call k r → ⊥) → IsSettingOf (log ++ l ∷ []) R z.call z.kept z.snapshot
+  other_setting l R z held place is same no_hold = longer log l (last log).cluster R z.call z.kept z.snapshot no_hold same (all z held place is)
 
   after_setting : (l : Label) → Allowed (last log) l → IsDue (last log) l → AllSetting (log ++ l ∷ []) (after (last log) l)
   after_setting (labels.Began call op end details) allowed due z held place is =
@@ -217,8 +217,8 @@ module _ (log : List Label) (run : IsRun log) (all : AllSetting log (last log)) 
             longer log l (last log).cluster n.cluster z.call z.kept z.snapshot no_hold (client_stays (last log) inv s held z was place is end details verb j q reply row) (all z was place is))
       ])
   after_setting l allowed due z held place is =
-      let still = quiet (last log) l tt due in
-      other_setting l (after (last log) l).cluster z (ap (λ f. f (who z)) (sym still.in_hand) ∙ held) place is still.clients (λ k r of. of)
+      let still = quiet (last log) (run_history log run).0 l tt due in
+      other_setting l (after (last log) l).cluster z (still.held (who z) z held) place is (still.client (who z) z held) (λ k r of. of)
 
 -- so in a run
 pub all_setting : (log : List Label) → IsRun log → AllSetting log (last log)

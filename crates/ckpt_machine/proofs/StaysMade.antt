@@ -83,12 +83,11 @@ StaysMade-then e f g first second = record {
 
 -- ---- what a checkpoint keeps that may get another active
 
--- it is made, of no lower generation; it is on the same nodes and maybe more, and has an active where it had one
+-- it is made, of no lower generation; and while this stays it has an active where it had one
 pub record IsMadeFrom (e f : Entry) : Type 0 where
   pub made : f.making ≡ None
   pub generation : e.generation ≤ f.generation
-  pub remains : (r : ℕ) → IsCompleteOn e r → IsCompleteOn f r
-  pub led : IsSome e.active → IsSome f.active
+  pub led : f.generation ≡ e.generation → IsSome e.active → IsSome f.active
 
 -- where it is made it is such a one; and it declares the same, and is of the same moment
 pub record GoesOnMade (e f : Entry) : Type 0 where
@@ -104,8 +103,7 @@ StaysMade-goes e f stays = record {
       record {
         made = still.made;
         generation = (let same = still.generation in omega (arith, same));
-        remains = still.remains;
-        led = λ led. subst IsSome (sym still.active) led;
+        led = λ same led. subst IsSome (sym still.active) led;
       };
   attributes = stays.attributes;
   since = stays.since;

@@ -25,7 +25,7 @@ use Rattle.run_labels.specs.declared.labels.Label.{Label}
 use Rattle.run_labels.specs.declared.labels.Label.TheVariants as labels
 use Rattle.cluster_record.specs.declared.entries.Entry.{Entry}
 use Rattle.cluster_record.specs.Calls.{left}
-use Rattle.cluster_record.specs.RecordState.{entry_of}
+use Rattle.cluster_record.specs.RecordState.{RecordState, entry_of}
 use Rattle.cluster_record.specs.StepDone.{done_of, counting}
 use Rattle.ckpt_machine.specs.Acknowledged.{HasBegun}
 use Rattle.ckpt_machine.specs.Driving.{Kept}
@@ -48,6 +48,7 @@ use Rattle.ckpt_machine.specs.BeginRows.{BeginRow}
 use Rattle.ckpt_machine.specs.Beginning.{Standing}
 use Rattle.ckpt_machine.proofs.Bringing.{HasPulledIn, HasFirst, IsBringing, stays_bringing, step_brings}
 use Rattle.ckpt_machine.proofs.Quiet.{quiet}
+use Rattle.ckpt_machine.proofs.CompleteUp.{complete_up}
 use Rattle.ckpt_machine.proofs.EachReplica.{run_copies}
 use Rattle.ckpt_machine.proofs.Follows.{IsBare}
 use Rattle.ckpt_machine.proofs.Generations.{generation_there}
@@ -67,13 +68,13 @@ use Rattle.ckpt_machine.proofs.SyncSteps.{IsSynchronize, served_as, served_each}
 
 -- each synchronisation that this state has in hand brings what it has pulled in the log
 abbrev AllBring : List Label → Machine → Type 0
-AllBring log m = (a : Who) (s : CallState) → m.in_hand a ≡ Some s → IsSynchronize (asked s.op) → IsBringing log m.cluster.entries m.replicas s
+AllBring log m = (a : Who) (s : CallState) → m.in_hand a ≡ Some s → IsSynchronize (asked s.op) → IsBringing log m.cluster m.replicas s
 
 -- a call that begins has nothing in hand, and has served no node
-begun_bringing : (log : List Label) (entries : List Entry) (replicas : ℕ → ℕ → Option ReplicaState) (end : Option Outcome) (call : CallId) (op : Op) (kept : Kept) (s : CallState) → call_begun end call op kept ≡ Some s → IsBringing log entries replicas s
-begun_bringing log entries replicas end call op kept s is =
+begun_bringing : (log : List Label) (R : RecordState) (replicas : ℕ → ℕ → Option ReplicaState) (end : Option Outcome) (call : CallId) (op : Op) (kept : Kept) (s : CallState) → call_begun end call op kept ≡ Some s → IsBringing log R replicas s
+begun_bringing log R replicas end call op kept s is =
     let (d, driven, same) = begun_as end call op kept s is in
-    subst (IsBringing log entries replicas) same (record {
+    subst (IsBringing log R replicas) same (record {
       none = λ none r. refl;
       pulled = λ k z ckpt has. absurd (cc has);
       served = λ k z ckpt has. absurd (cc has);
@@ -88,13 +89,13 @@ module _ (log : List Label) (run : IsRun log) (all : AllBring log (last log)) wh
   goes_by l allowed k given = let (inv, history) = run_history log run in after_goes m inv history.bare (run_copies log run) k given l allowed
 
   -- a call that takes no step brings what it has pulled
-  other_brings : (l : Label) (allowed : Allowed m l) (a : Who) (s : CallState) → m.in_hand a ≡ Some s → IsSynchronize (asked s.op) → IsBringing (log ++ l ∷ []) (after m l).cluster.entries (after m l).replicas s
-  other_brings l allowed a s held asks_is = let (inv, history) = run_history log run in stays_bringing log l inv history (run_copies log run) s a held (all a s held asks_is) (after m l).cluster.entries (after m l).replicas (goes_by l allowed)
+  other_brings : (l : Label) (allowed : Allowed m l) (a : Who) (s : CallState) → m.in_hand a ≡ Some s → IsSynchronize (asked s.op) → IsBringing (log ++ l ∷ []) (after m l).cluster (after m l).replicas s
+  other_brings l allowed a s held asks_is = let (inv, history) = run_history log run in stays_bringing log l inv history (run_copies log run) s a held (all a s held asks_is) (after m l).cluster (after m l).replicas (goes_by l allowed)
 
   -- each call in hand brings what it has pulled, behind any label that is allowed and due
   after_brings : (l : Label) → Allowed m l → IsDue m l → AllBring (log ++ l ∷ []) (after m l)
   after_brings (labels.Began call op end details) allowed due a s held asks_is = elim (put_who-cases m.in_hand (stepped_as call (word_of_op op)) (call_begun end call op (first_kept m call op)) a s held) [
-    | inl own ↦ begun_bringing (log ++ labels.Began call op end details ∷ []) m.cluster.entries m.replicas end call op (first_kept m call op) s own.1
+    | inl own ↦ begun_bringing (log ++ labels.Began call op end details ∷ []) m.cluster m.replicas end call op (first_kept m call op) s own.1
     | inr other ↦ other_brings (labels.Began call op end details) allowed a s other.1 asks_is
   ]
   after_brings (labels.Stepped call op verb j q reply end details) allowed due a z in_hand asks_is =
@@ -110,15 +111,15 @@ module _ (log : List Label) (run : IsRun log) (all : AllBring log (last log)) wh
       let behind : CallState = kept_behind m s n.cluster verb j q reply in
       let goes : (k : ℕ) → k ≤ m.cluster.last_identity → GoesOn m k n = λ k given. stepped_goes m inv history.bare (run_copies log run) k given s held t own row in
       let there = subst (λ o. (step_of m o verb j q reply end).in_hand a ≡ Some z) due.in_hand in_hand in
-      subst (λ o. IsBringing (log ++ l ∷ []) (step_of m o verb j q reply end).cluster.entries (step_of m o verb j q reply end).replicas z) (sym due.in_hand) (elim (put_who-cases n.in_hand (who s) (left end behind) a z there) [
+      subst (λ o. IsBringing (log ++ l ∷ []) (step_of m o verb j q reply end).cluster (step_of m o verb j q reply end).replicas z) (sym due.in_hand) (elim (put_who-cases n.in_hand (who s) (left end behind) a z there) [
         | inl here ↦ (
             let asks_own : IsSynchronize (asked s.op) = subst (λ (z : CallState). IsSynchronize (asked z.op)) (sym (left_is end behind z here.1)) asks_is in
-            subst (IsBringing (log ++ l ∷ []) n.cluster.entries n.replicas) (left_is end behind z here.1) (step_brings log inv history (run_copies log run) s held (all (who s) s held asks_own) asks_own call due.call_is op end details verb j q reply goes due.done own row))
+            subst (IsBringing (log ++ l ∷ []) n.cluster n.replicas) (left_is end behind z here.1) (step_brings log inv history (run_copies log run) s held (all (who s) s held asks_own) asks_own call due.call_is op end details verb j q reply goes due.done own row))
         | inr other ↦ (
             let was : m.in_hand a ≡ Some z = (follows m inv history s held t row).in_hand a z other.1 in
-            stays_bringing log l inv history (run_copies log run) z a was (all a z was asks_is) n.cluster.entries n.replicas goes)
+            stays_bringing log l inv history (run_copies log run) z a was (all a z was asks_is) n.cluster n.replicas goes)
       ])
-  after_brings l allowed due a s held asks_is = other_brings l allowed a s (ap (λ f. f a) (sym (quiet m l tt due).in_hand) ∙ held) asks_is
+  after_brings l allowed due a s held asks_is = other_brings l allowed a s ((quiet m (run_history log run).0 l tt due).held a s held) asks_is
 
 all_bring : (log : List Label) → IsRun log → AllBring log (last log)
 all_bring log run = along AllBring (λ front l before allowed due all. after_brings front before all l allowed due) [] log run (λ a s held asks_is. absurd (cc held))
@@ -249,12 +250,12 @@ module _ (m : Machine) (inv : Invariant m)
   all_by verb j q reply own row = absurd row
 
 -- where a call has served all complete nodes, each complete replica has first what it has in hand
-have_first : (log : List Label) (n : Machine) (s : CallState) (answer : Answer) → IsBare n → IsBringing log n.cluster.entries n.replicas s → (all : HasServedAll n.cluster.entries s answer) → HaveFirst n all.ckpt all.pulled.effects
-have_first log n s answer bare brings all e r x found there =
+have_first : (log : List Label) (n : Machine) (s : CallState) (answer : Answer) → Invariant n → IsBare n → IsBringing log n.cluster n.replicas s → (all : HasServedAll n.cluster.entries s answer) → HaveFirst n all.ckpt all.pulled.effects
+have_first log n s answer inv bare brings all e r x found there =
     let same : all.entry ≡ e = same_Some all.entry e (sym all.found ∙ found) in
     let (f, is, complete_at) = IsSomeAnd-at (entry_of all.ckpt n.cluster.entries) (λ e. IsCompleteOn e r) (bare.complete all.ckpt r x there) in
     let complete : IsCompleteOn all.entry r = subst (λ e. IsCompleteOn e r) (same_Some f all.entry (sym is ∙ all.found)) complete_at in
-    let (y, at, first) = IsSomeAnd-at (n.replicas all.ckpt r) (HasFirst all.pulled) (brings.served all.ckpt all.pulled all.kept all.in_hand all.entry r all.found all.present (all.all r complete)) in
+    let (y, at, first) = IsSomeAnd-at (n.replicas all.ckpt r) (HasFirst all.pulled) (brings.served all.ckpt all.pulled all.kept all.in_hand all.entry r (complete_up n inv all.ckpt r all.entry all.found complete) all.found all.present (all.all r complete)) in
     let x_is : y ≡ x = same_Some y x (sym at ∙ there) in
     subst (λ (x : ReplicaState). (x.generation ≡ e.generation) × IsPrefix all.pulled.effects x.effects) x_is (first.0 ∙ all.present ∙ ap (λ (e : Entry). e.generation) same, first.1)
 
@@ -294,7 +295,7 @@ tells_by log run d word syncs verb j q reply told details allowed due call answe
       there = from.there;
       answer_is = sym is.1 ∙ all.answer_is ∙ ap (λ (xs : List Effect). answers.Pulled (length xs)) (sym from.effects);
       stands = subst (λ (m : Machine). IsSome (entry_of all.ckpt m.cluster.entries)) (sym then_is) (subst IsSome (sym all.found) refl);
-      have = subst (HaveFirst (last (log ++ l ∷ [])) all.ckpt) (sym from.effects) (subst (λ m. HaveFirst m all.ckpt all.pulled.effects) (sym then_is) (have_first (log ++ l ∷ []) then_machine behind told (subst IsBare then_is bare) (record { none = brings.none; pulled = brings.pulled; served = brings.served }) all));
+      have = subst (HaveFirst (last (log ++ l ∷ [])) all.ckpt) (sym from.effects) (subst (λ m. HaveFirst m all.ckpt all.pulled.effects) (sym then_is) (have_first (log ++ l ∷ []) then_machine behind told (subst Invariant then_is holds) (subst IsBare then_is bare) (record { none = brings.none; pulled = brings.pulled; served = brings.served }) all));
     })
   where
     end : Option Outcome
@@ -333,10 +334,13 @@ tells_by log run d word syncs verb j q reply told details allowed due call answe
     then_is : last (log ++ l ∷ []) ≡ then_machine
     then_is = last-push log l ∙ ap (λ o. step_of (last log) o verb j q reply end) due.in_hand
 
+    holds : Invariant (last (log ++ l ∷ []))
+    holds = (run_history (log ++ l ∷ []) (run_more log l run allowed due)).0
+
     bare : IsBare (last (log ++ l ∷ []))
     bare = (run_history (log ++ l ∷ []) (run_more log l run allowed due)).1.bare
 
-    brings : IsBringing (log ++ l ∷ []) changed_machine.cluster.entries changed_machine.replicas behind
+    brings : IsBringing (log ++ l ∷ []) changed_machine.cluster changed_machine.replicas behind
     brings =
         let (inv, history) = run_history log run in
         let asks_is : IsSynchronize (asked s.op) = (let (place, timeout, is) = asks_by s.op (subst IsSyncWord (sym due.word) syncs) in subst IsSynchronize (sym is) tt) in

@@ -22,6 +22,9 @@ use Rattle.node_msgs.specs.declared.steps.StepReply.{StepReply}
 use Rattle.node_msgs.specs.declared.steps.Verb.{Verb}
 use Rattle.run_labels.specs.declared.labels.Label.{Label}
 use Rattle.run_labels.specs.declared.labels.Label.TheVariants as labels
+use Rattle.ckpt_types.specs.Asks.{Ask, asked, is_async_ask}
+use Rattle.ckpt_types.specs.Asks as asks
+use Rattle.ckpt_machine.specs.Failing.{enters_on, failed_at, is_of_node}
 use Rattle.ckpt_machine.specs.Invariant.{IsBegunBy, Invariant}
 use Rattle.ckpt_machine.specs.Machine.{Machine, CallState, who}
 use Rattle.ckpt_machine.specs.After.{after, after_beginning, changed, async_call, call_begun, goes_with, is_over, left_over, kept_behind, step_of, ended_calls, handle_opened}
@@ -31,8 +34,9 @@ use Rattle.ckpt_machine.specs.Runs.{last, IsRun}
 use Rattle.ckpt_machine.specs.Whose.{is_of, put_who, same_who}
 use Rattle.ckpt_machine.proofs.ChangedHands.{changed_holds}
 use Rattle.ckpt_machine.proofs.Actors.{same_actor-refl, same_actor-true, same_call-false}
-use Rattle.ckpt_machine.proofs.AsyncNames.{async_named}
+use Rattle.ckpt_machine.proofs.AsyncNames.{async_asked, async_named}
 use Rattle.ckpt_machine.proofs.Copying.{after_pull, after_put}
+use Rattle.ckpt_machine.proofs.FailedCalls.{by_client, still}
 use Rattle.ckpt_machine.proofs.Histories.{run_history}
 use Rattle.ckpt_machine.proofs.KeptLists.{among_none, among_filtered, passes_filtered, none_found, found_filtered, found_front, found_last}
 use Rattle.ckpt_machine.proofs.PendingNames.{is_call-true, is_call-refl, among_unfinished}
@@ -56,6 +60,11 @@ HasUnderWay m = AreUnderWay m.in_hand m.pending
 and_false : (b c : Bool) → c ≡ false → (b && c) ≡ false
 and_false true c is = is
 and_false false c is = refl
+
+-- an asynchronous call asks for something else than to become live
+async_enters : (r : ℕ) (ask : Ask) → is_async_ask ask ≡ true → enters_on r ask ≡ false
+async_enters r (asks.Enter q version callbacks) is = absurd (cc is)
+async_enters r ask is = refl
 
 -- ---- those of one actor change
 
@@ -206,6 +215,24 @@ module _ (m : Machine) (under_way : HasUnderWay m) where
   begin_under_way inv call op (Some (Done answer)) details is = begun_by inv call op (Some (Done answer)) details is (m.pending call.actor) (others_stay inv call op (Some (Done answer)) details is call.actor)
   begin_under_way inv call op (Some end) details is = begun_by inv call op (Some end) details is (m.pending call.actor) (others_stay inv call op (Some end) details is call.actor)
 
+  -- a node has failed: those are left that are of no client on it, and are in hand
+  failed_under_way : Invariant m → (r : ℕ) → HasUnderWay (failed_at r m)
+  failed_under_way inv r a c there = by_node (is_of_node m.cluster r a) refl there
+    where
+      by_node : (b : Bool) → is_of_node m.cluster r a ≡ b → Contains (cond b no_pending (m.pending a)).unfinished c → IsAwaited (failed_at r m).in_hand (cond b no_pending (m.pending a)).unfinished a c
+      by_node true goes among = absurd (among_none c among)
+      by_node false stays among = record { actor = was.actor; found = was.found; held = by_hand (m.in_hand (whos.Call c.call)) refl was.held }
+        where
+          was : IsAwaited m.in_hand (m.pending a).unfinished a c
+          was = under_way a c among
+
+          by_hand : (o : Option CallState) → m.in_hand (whos.Call c.call) ≡ o → IsSome o → IsSome ((failed_at r m).in_hand (whos.Call c.call))
+          by_hand None none some = absurd (cc some)
+          by_hand (Some s) held some =
+              let (async, named) = async_named s c.call (inv.holds.hands (whos.Call c.call) s held).whose in
+              let other : is_of_node m.cluster r s.call.actor ≡ false = ap (is_of_node m.cluster r) (ap (λ (d : CallId). d.actor) named ∙ was.actor) ∙ stays in
+              ap is_some (still false m inv.shapes inv.holds r (whos.Call c.call) s held (by_client false m inv.shapes inv.holds r s (async_enters r (asked s.op) (sym (async_asked s.op) ∙ async)) ∙ other))
+
   -- whatever the label is
   after_under_way : Invariant m → (l : Label) → IsDue m l → HasUnderWay (after m l)
   after_under_way inv (labels.Began call op end details) due = begin_under_way inv call op end details due
@@ -213,6 +240,8 @@ module _ (m : Machine) (under_way : HasUnderWay m) where
   after_under_way inv (labels.Word by word said) due = under_way
   after_under_way inv (labels.Nodes n) due = under_way
   after_under_way inv (labels.Moved t) due = under_way
+  after_under_way inv (labels.Failed r true) due = failed_under_way inv r
+  after_under_way inv (labels.Failed r false) due = under_way
   after_under_way inv (labels.Shown k replicas) due = under_way
   after_under_way inv (labels.Pulled k reply) due = after_pull HasUnderWay m k reply due under_way (λ x from none. under_way)
   after_under_way inv (labels.Put k r reply) due = after_put HasUnderWay m k r reply under_way (λ s x copied on. under_way)

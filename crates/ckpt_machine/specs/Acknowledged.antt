@@ -1,5 +1,5 @@
 -- An update that was answered OK, and where it is from then on.
-use Rattle.std.specs.Prelude.{◌≡◌, ◌⊎◌, ℕ, List, ◌∷◌, ◌++◌, Option, Some, None, true}
+use Rattle.std.specs.Prelude.{◌≡◌, ◌≢◌, ◌⊎◌, ℕ, List, [], ◌∷◌, ◌++◌, Option, Some, None, IfSome, true}
 use Rattle.ckpt_types.specs.declared.answers.Outcome.{Outcome}
 use Rattle.ckpt_types.specs.declared.answers.Outcome.TheVariants.{Done}
 use Rattle.node_msgs.specs.declared.details.Details.{Details}
@@ -68,9 +68,19 @@ abbrev pub IsOnItsReplicas : Machine → ℕ → CallId → Update → Type 0
 IsOnItsReplicas m k call update =
     (r : ℕ) (x : ReplicaState) → m.replicas k r ≡ Some x → IsToHave (entry_of k m.cluster.entries) r → HasUpdate call update x.effects
 
--- the call began in the log with an update, of the checkpoint that the label behind the log names, and this update is on the replicas of that checkpoint
--- on which it has to be
-pub record IsAcknowledged (log : List Label) (l : Label) (call : CallId) (m : Machine) : Type 0 where
+-- the failure of this node is not that of the active of the checkpoint, or the updates of this go to all replicas
+abbrev pub LeavesActive : Option Entry → ℕ → Type 0
+LeavesActive o r = IfSome o (λ e. (is_all e.attributes ≡ true) ⊎ (e.active ≢ Some r))
+
+-- no failure in these labels, behind that front, takes the node of the active of this checkpoint, whose updates go to the active alone
+abbrev pub KeepsActive : List Label → List Label → ℕ → Type 0
+KeepsActive front more k =
+    (before behind : List Label) (r : ℕ) → more ≡ before ++ labels.Failed r true ∷ behind
+    → LeavesActive (entry_of k (last (front ++ before)).cluster.entries) r
+
+-- the call began in the log with an update, of the checkpoint that the label behind the log names; and behind the labels that come then, of which none
+-- takes the active away with its node, this update is on the replicas of that checkpoint on which it has to be
+pub record IsAcknowledged (log : List Label) (l : Label) (call : CallId) (more : List Label) : Type 0 where
   pub op : Op
   pub asks : IsUpdateWord (word_of_op op)
   pub ckpt : ℕ
@@ -78,11 +88,11 @@ pub record IsAcknowledged (log : List Label) (l : Label) (call : CallId) (m : Ma
   -- with no other operation, and on no other checkpoint
   pub once : (other : Op) (k : Option ℕ) → HasBegun log call other k → (other ≡ op) × (k ≡ Some ckpt)
   pub named : ckpt_named l ≡ Some ckpt
-  pub on_its : IsOnItsReplicas m ckpt call (update_of op)
+  pub on_its : KeepsActive (log ++ l ∷ []) more ckpt → IsOnItsReplicas (last (log ++ l ∷ more)) ckpt call (update_of op)
 
 -- WHAT WAS ANSWERED OK STAYS: after any label that answers OK to a call that asks for an update, and at every time from then on, each complete replica
--- of its checkpoint has the update, or where updates go to the active alone, the active's
+-- of its checkpoint has the update; or where updates go to the active alone, the active's, as long as no failure takes the node of the active
 abbrev pub AcknowledgedStay : List Label → Type 0
 AcknowledgedStay log =
     (front more back : List Label) (l : Label) (call : CallId) → log ≡ front ++ l ∷ (more ++ back) → Acknowledges l call
-    → IsAcknowledged front l call (last (front ++ l ∷ more))
+    → IsAcknowledged front l call more

@@ -12,7 +12,7 @@ use Rattle.ckpt_types.specs.declared.identities.Who.TheVariants.{Actor}
 use Rattle.ckpt_types.specs.declared.identities.Who.TheVariants as whos
 use Rattle.ckpt_types.specs.declared.operation.Op.{Op}
 use Rattle.ckpt_types.specs.declared.update.Update.{Update}
-use Rattle.ckpt_types.specs.Sections.{Section, opening}
+use Rattle.ckpt_types.specs.Sections.{Section}
 use Rattle.ckpt_types.specs.Updates.{outcome}
 use Rattle.ckpt_types.specs.Reads.{NextGiven, given, chosen}
 use Rattle.ckpt_types.specs.declared.sections.Choice.{Choice}
@@ -50,40 +50,10 @@ use Rattle.ckpt_machine.specs.Tables.{handle_closed, started, gone_on, ended_at_
 use Rattle.ckpt_machine.specs.Whose.{is_of, put_who}
 use Rattle.ckpt_machine.specs.Seen.{seen_at}
 use Rattle.ckpt_machine.specs.Due.{asked_handle, counted_at, ids_asked, kept_at_beginning}
+use Rattle.ckpt_machine.specs.Failing.{failed_at}
+pub use Rattle.ckpt_machine.specs.Under.{opened_state, replica_under, replicas_under, reservation_under, snapshot_under, with_record}
 
 -- ---- what a step changes
-
--- a replica as a checkpoint's opening makes it
-abbrev pub opened_state : Entry → ReplicaState
-opened_state e = record { sections = opening e.attributes e.made; effects = []; generation = e.generation; slot = None; marks = None }
-
--- a node that is not complete has no replica, one that becomes complete has the opening one
-abbrev pub replica_under : Option Entry → ℕ → ℕ → Option ReplicaState → Option ReplicaState
-replica_under None before r old = None
-replica_under (Some e) before r old = if slice_index e.complete r == 0 then None else if before == 0 then Some (opened_state e) else old
-
--- the replicas after a change of the record
-abbrev pub replicas_under : RecordState → RecordState → (ℕ → ℕ → Option ReplicaState) → ℕ → ℕ → Option ReplicaState
-replicas_under old new replicas k r = replica_under (entry_of k new.entries) (slice_index (complete_of (entry_of k old.entries)) r) r (replicas k r)
-
--- a reservation goes with its entry, and when its node is complete
-abbrev pub reservation_under : Option Entry → ℕ → Option ℕ → Option ℕ
-reservation_under None r old = None
-reservation_under (Some e) r old = if slice_index e.complete r == 0 then old else None
-
--- a snapshot goes with its entry
-abbrev pub snapshot_under : Option Entry → Option Snapshot → Option Snapshot
-snapshot_under None old = None
-snapshot_under (Some e) old = old
-
--- the record is this, with the replicas, reservations and snapshots under it
-abbrev pub with_record : Machine → RecordState → Machine
-with_record m R = record m {
-  cluster = R;
-  replicas = replicas_under m.cluster R m.replicas;
-  reserved = λ k r. reservation_under (entry_of k R.entries) r (m.reserved k r);
-  snapshots = λ k. snapshot_under (entry_of k R.entries) (m.snapshots k);
-}
 
 -- the moment of the first slot on a complete node, or the record's
 abbrev pub moment_of_slot : Option Staged → ℤ → ℤ
@@ -431,6 +401,8 @@ after m (labels.Began call op end details) = after_beginning m call op end
 after m (labels.Stepped call op verb k r reply end details) = step_of m (m.in_hand (stepped_as call op)) verb k r reply end
 after m (labels.Nodes n) = record m { cluster = brought_up n m.cluster }
 after m (labels.Moved t) = with_record m (moved t m.cluster)
+after m (labels.Failed r true) = failed_at r m
+after m (labels.Failed r false) = m
 after m (labels.Pulled k reply) = with_pulled m k reply (source_at m k)
 after m (labels.Put k r reply) = with_put m k r reply (m.snapshots k) (target_at m k r)
 after m label = m

@@ -41,6 +41,7 @@ use Rattle.node_core.specs.Nodes.{MayReserve}
 use Rattle.node_core.specs.Seen.{record_seen}
 use Rattle.weak_marks.specs.Marks.{Marked, call_of}
 use Rattle.node_msgs.specs.Steps.{word_of, verb_of, event_verb}
+use Rattle.ckpt_machine.specs.Entries.{AreApart}
 use Rattle.ckpt_machine.specs.Driving.{Kept, driver_start, driver_state, driver_next, driver_taken, driver_end, event_ckpt, event_node, event_end, event_refusal, takes_memory}
 use Rattle.ckpt_machine.specs.Listing.{listing_at}
 use Rattle.ckpt_machine.specs.Options.{is_weak, if_declared}
@@ -252,6 +253,11 @@ pub record IsBegun (m : Machine) (call : CallId) (op : Op) (end : Option Outcome
 
 -- ---- any label
 
+-- a node fails, where it is up and the updates of each checkpoint go to its active alone; the label says of one that is not up that it is down
+abbrev pub MayFail : RecordState → ℕ → Bool → Type 0
+MayFail R r true = (r < nodes_max) × (is_up r R ≡ true) × AreApart R.entries
+MayFail R r false = (r < nodes_max) × (is_up r R ≡ false)
+
 -- the label is due in this state; what is not built is not due
 abbrev pub IsDue : Machine → Label → Type 0
 IsDue m (labels.Began call op end details) = IsBegun m call op end details
@@ -260,6 +266,7 @@ IsDue m (labels.Stepped call op verb k r reply end details) =
 IsDue m (labels.Word who word said) = IsWord m who word said
 IsDue m (labels.Nodes n) = (0 < n) × (n ≤ nodes_max) × (m.cluster.last_incarnations ≡ no_nodes)
 IsDue m (labels.Moved t) = IsMomentFrom m.cluster.moment t
+IsDue m (labels.Failed r was_up) = MayFail m.cluster r was_up
 IsDue m (labels.Shown k replicas) = replicas ≡ listing_at m k
 IsDue m (labels.Pulled k reply) = reply ≡ pull_answer m k
 IsDue m (labels.Put k r reply) = reply ≡ put_answer m k r

@@ -175,6 +175,8 @@ pub record Facts (m : Machine) : Type 0 where
   pub up_to : AllUpTo m.cluster.last_identity m.cluster.entries
   -- no checkpoint is there that is over
   pub stay : AllStay m.cluster.moment m.cluster.entries
+  -- one in the making has no active
+  pub unled : (k : ℕ) (e : Entry) → entry_of k m.cluster.entries ≡ Some e → IsSome e.making → e.active ≡ None
   pub ready : (w : Who) (s : CallState) (r : ℕ) (request : Request) → m.in_hand w ≡ Some s → due m s ≡ Serve r request
       → (r < nodes_max) × IsServable m r request
   -- a due stage has the moment of the slots that stand

@@ -13,8 +13,8 @@ use Rattle.cluster_record.specs.declared.entries.Entry.{Entry}
 use Rattle.cluster_record.specs.Failing.{failed, goes_with_node}
 use Rattle.cluster_record.specs.RecordState.{RecordState, entry_of, is_active, is_live, swept}
 use Rattle.ckpt_machine.specs.Machine.{Machine, Broken, ReplicaState, CallState}
-use Rattle.ckpt_machine.specs.After.{replicas_under, reservation_under, with_record}
 use Rattle.ckpt_machine.specs.Due.{count_in}
+use Rattle.ckpt_machine.specs.Under.{replicas_under, reservation_under, with_record}
 
 -- ---- its calls
 

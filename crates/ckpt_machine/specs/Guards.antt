@@ -22,7 +22,7 @@ use Rattle.ckpt_types.specs.Asks as asks
 use Rattle.ckpt_machine.specs.Machine.{Machine, CallState}
 use Rattle.ckpt_machine.specs.Propagation.{pull_answer, put_answer}
 use Rattle.ckpt_machine.specs.Listing.{listing_at}
-use Rattle.ckpt_machine.specs.Due.{Told}
+use Rattle.ckpt_machine.specs.Due.{Told, MayFail}
 use Rattle.ckpt_machine.specs.UpdateGuards.{CommitRow, StageRow}
 use Rattle.ckpt_machine.specs.ActiveGuards.{ActivateRow, ApplyRow, ElementRow, HoldRow, InstallRow, IterRow, MarkRow, NextRow, PullRow, ReadRow, StatusRow, UnmarkRow}
 use Rattle.ckpt_machine.specs.OpenGuards.{CloseRow, CreateRow, EnterRow, FinishRow, LeaveRow, OpenRow, ReserveRow, RetainRow, UndoRow, UnlinkRow}
@@ -145,6 +145,7 @@ Allowed m (labels.Stepped call op verb k r reply end details) =
 Allowed m (labels.Word who word said) = IsAllowedWord m who word said
 Allowed m (labels.Nodes n) = (0 < n) × (n ≤ nodes_max) × (m.cluster.last_incarnations ≡ no_nodes)
 Allowed m (labels.Moved t) = IsMomentFrom m.cluster.moment t
+Allowed m (labels.Failed r was_up) = MayFail m.cluster r was_up
 Allowed m (labels.Shown k replicas) = replicas ≡ listing_at m k
 Allowed m (labels.Pulled k reply) = reply ≡ pull_answer m k
 Allowed m (labels.Put k r reply) = reply ≡ put_answer m k r

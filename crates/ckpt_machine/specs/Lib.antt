@@ -4,11 +4,13 @@ pub mod Tables
 pub mod Driving
 pub mod Machine
 pub mod Whose
+pub mod OpensApart
 pub mod Options
 pub mod Complete
 pub mod Listing
 pub mod Propagation
 pub mod Failing
+pub mod CallsEnd
 pub mod Dead
 pub mod BeginRows
 pub mod Guards
@@ -53,3 +55,7 @@ pub mod UpdateGuards
 pub mod ActiveGuards
 pub mod OpenGuards
 pub mod LookGuards
+pub mod Under
+pub mod BrokenCorrupt
+pub mod CountsTold
+pub mod InOrder

@@ -1,5 +1,5 @@
 -- The nodes of a world, each by its number.
-use Rattle.std.specs.Prelude.{◌≡◌, ℕ, List, length, map, Option, Some, None, slice_get, slice_set, if◌then◌else◌, filter}
+use Rattle.std.specs.Prelude.{◌≡◌, ℕ, ◌+◌, List, [], ◌∷◌, length, map, Option, Some, None, slice_get, slice_set, if◌then◌else◌, filter}
 use Rattle.ckpt_types.specs.Limits.{nodes_max}
 use Rattle.node_msgs.specs.declared.replies.Reply.{Reply}
 use Rattle.node_msgs.specs.declared.requests.Request.{Request}
@@ -9,6 +9,7 @@ use Rattle.cluster_record.specs.Places.{find_key, change_key, list_or}
 use Rattle.cluster_record.specs.RecordState.{RecordState}
 use Rattle.replica.specs.Replicas.{Replica}
 use Rattle.node_core.specs.Changing.{added_for}
+use Rattle.node_core.specs.Failing.{node_left}
 use Rattle.node_core.specs.Nodes.{NodeState, replica_key, replicas_after, seen_for, is_there}
 use Rattle.node_core.specs.Payloads.{Payload}
 use Rattle.node_core.specs.Seen.{entry_seen}
@@ -54,3 +55,14 @@ pub record StandByNumber (nodes : List NodeState) : Type 0 where
 -- on each node, those whose checkpoint has an entry
 abbrev pub freed : List Entry → List (List Replica) → List (List Replica)
 freed entries nodes = map (filter (is_there entries)) nodes
+
+-- ---- what the failure of a node leaves
+
+-- from the node of a number on, by the record behind the failure
+abbrev pub left_from : RecordState → ℕ → ℕ → List (List Replica) → List (List Replica)
+left_from R failed n [] = []
+left_from R failed n (xs ∷ nodes) = (node_left R failed (record { number = n; replicas = xs })).replicas ∷ left_from R failed (n + 1) nodes
+
+-- what the failure of a node leaves of all of them, by the record behind it
+abbrev pub nodes_left : RecordState → ℕ → List (List Replica) → List (List Replica)
+nodes_left R failed nodes = left_from R failed 0 nodes

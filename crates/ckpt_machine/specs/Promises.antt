@@ -4,11 +4,14 @@ use Rattle.run_labels.specs.declared.labels.Label.{Label}
 use Rattle.ckpt_machine.specs.Refusals.{EachRefusalLeaves}
 use Rattle.ckpt_machine.specs.AllOrNone.{IsAllOrNoneThroughout}
 use Rattle.ckpt_machine.specs.Acknowledged.{AcknowledgedStay}
+use Rattle.ckpt_machine.specs.BrokenCorrupt.{OnlyBrokenCorrupt}
+use Rattle.ckpt_machine.specs.InOrder.{EffectsKeepOrder}
 use Rattle.ckpt_machine.specs.Replays.{EffectsTellThroughout}
 use Rattle.ckpt_machine.specs.Synchronized.{SynchronizedTell}
 use Rattle.ckpt_machine.specs.WasAsked.{OnlyAskedThroughout}
 use Rattle.ckpt_machine.specs.Owners.{OwnersInHandThroughout}
 use Rattle.ckpt_machine.specs.ActivesSet.{ActivesAreSet}
+use Rattle.ckpt_machine.specs.CallsEnd.{CallsEnd}
 use Rattle.ckpt_machine.specs.Causes.{EachEndIsAllowed}
 
 -- the log keeps all that a run promises
@@ -18,11 +21,16 @@ pub record KeepsPromises (log : List Label) : Type 0 where
   pub refused : EachRefusalLeaves log
   -- after each front of the log, an update of a checkpoint that has them on all replicas is on all complete ones or on none
   pub all_or_none : IsAllOrNoneThroughout log
-  -- an update that was answered OK is on each complete replica from then on, or where updates go to the active alone, on the active's
+  -- an update that was answered OK is on each complete replica from then on; or where updates go to the active alone, on the active's, as long as no
+  -- failure takes the node of the active
   pub acknowledged : AcknowledgedStay log
   -- after each front, each replica is the replay of the updates that it has taken, each once; where they go to the active alone, of the active's first
   -- ones, if it follows the active
   pub effects : EffectsTellThroughout log
+  -- after each front, no replica has an update of a call in front of one of a call that had ended before that began
+  pub order : EffectsKeepOrder log
+  -- after each front, a section of a replica is corrupted only if an element of a weak write that was cut short there names it
+  pub corrupted : OnlyBrokenCorrupt log
   -- behind a synchronisation that was answered OK each complete replica has the checkpoint's generation, and first what the active had when it was pulled
   pub synchronized : SynchronizedTell log
   -- only what was asked for is done: each effect of each replica, and what is staged or marked there, is of a call that began in the log with this very
@@ -32,5 +40,7 @@ pub record KeepsPromises (log : List Label) : Type 0 where
   pub owners : OwnersInHandThroughout log
   -- behind the setting of an active that was answered OK, the client's node is the active, and has what the one before it had
   pub actives : ActivesAreSet log
+  -- a call that was in hand is so no more by its own step, by the failure of a node, or with its client or its handle, and in no other way
+  pub ends : CallsEnd log
   -- each end of a call is allowed where it comes, so its cause is there
   pub causes : EachEndIsAllowed log

@@ -3,13 +3,14 @@
 #![tactic(auto)]
 
 ghost use Rattle.ckpt_machine.specs.Laws.{Starts, IsLawful, EachRunHas, GivesFacts, CountsUp, BringsNearer, StepsAreFew, RefusalsLeave, EndsAsItMay, FailuresKeep, FailuresKeepApart, RunsKeepPromises};
+ghost use Rattle.ckpt_machine.specs.OpensApart.{RunsStayApart};
 
 /// Of any number of nodes up to eight, and any number of calls in hand: what is due is allowed and keeps the invariant,
 /// which gives all that the code relies on; a call in hand comes nearer to its end by each of its steps, of which few are
 /// left; what is refused leaves all but the making of its own call as it was; a call ends only with an answer that it may
 /// have; the failure of a node keeps the invariant, but for what it says of no failures alone, and all of it where updates
-/// go to the actives alone; and each run keeps what a run promises, promise by promise: `KeepsPromises`, in
-/// `specs/Promises.antt`.
+/// go to the actives alone, as they do in each run in which no open asks for anything else; and each run keeps what a run
+/// promises, promise by promise: `KeepsPromises`, in `specs/Promises.antt`.
 ///
 /// Whoever relies on the law calls it: it does nothing, and its clauses stand in the caller's proof without the laws'
 /// own proofs, which are long to read.
@@ -26,5 +27,6 @@ pub fn machine_law()
     ensures ends { EndsAsItMay }
     ensures failures { FailuresKeep }
     ensures failures_apart { FailuresKeepApart }
+    ensures apart { RunsStayApart }
     ensures promises { RunsKeepPromises }
 {}

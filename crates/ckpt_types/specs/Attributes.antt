@@ -58,6 +58,10 @@ same_but_retention a b =
     && (a.max_section_size == b.max_section_size)
     && (a.max_section_id_size == b.max_section_id_size)
 
+-- an update is on all replicas before it is answered; else on the active alone
+abbrev pub is_all : CreationAttributes → Bool
+is_all a = a.creation_flags == wr_all_replicas
+
 -- what attributes that pass the check keep to
 pub record IsWellFormed (a : CreationAttributes) : Type 0 where
   pub flags : has_malformed_flags a.creation_flags ≡ false

@@ -6,10 +6,13 @@ ghost use Rattle.script_lang.specs.Grammar.{script_of};
 ghost use Rattle.script_lang.specs.declared.faults.ScriptFault.{ScriptFault};
 ghost use Rattle.ckpt_machine.specs.Acknowledged.{AcknowledgedStay};
 ghost use Rattle.ckpt_machine.specs.Replays.{EffectsTellThroughout};
+ghost use Rattle.ckpt_machine.specs.InOrder.{EffectsKeepOrder};
+ghost use Rattle.ckpt_machine.specs.BrokenCorrupt.{OnlyBrokenCorrupt};
 ghost use Rattle.ckpt_machine.specs.Synchronized.{SynchronizedTell};
 ghost use Rattle.ckpt_machine.specs.WasAsked.{OnlyAskedThroughout};
 ghost use Rattle.ckpt_machine.specs.Owners.{OwnersInHandThroughout};
 ghost use Rattle.ckpt_machine.specs.ActivesSet.{ActivesAreSet};
+ghost use Rattle.ckpt_machine.specs.CallsEnd.{CallsEnd};
 ghost use Rattle.ckpt_machine.specs.Causes.{EachEndIsAllowed};
 ghost use Rattle.ckpt_machine.specs.AllOrNone.{IsAllOrNoneThroughout};
 ghost use Rattle.ckpt_machine.specs.Refusals.{EachRefusalLeaves};
@@ -48,10 +51,13 @@ pub fn ckpt_run<R: Threads + Wait + Sync, S: Source, K: Sink, G: Gate>(
     ensures all_or_none { IsAllOrNoneThroughout log.new.labels }
     ensures acknowledged { AcknowledgedStay log.new.labels }
     ensures effects { EffectsTellThroughout log.new.labels }
+    ensures order { EffectsKeepOrder log.new.labels }
+    ensures corrupted { OnlyBrokenCorrupt log.new.labels }
     ensures synchronized { SynchronizedTell log.new.labels }
     ensures asked { OnlyAskedThroughout log.new.labels }
     ensures owners { OwnersInHandThroughout log.new.labels }
     ensures actives { ActivesAreSet log.new.labels }
+    ensures ends { CallsEnd log.new.labels }
     ensures causes { EachEndIsAllowed log.new.labels }
 
     // The log follows the script that was read, all of it or a front; or nothing was played.

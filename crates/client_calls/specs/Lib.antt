@@ -16,3 +16,4 @@ pub mod AlonePlaces
 pub mod AloneLending
 pub mod LineWords
 pub mod HandBegun
+pub mod Abandoning

@@ -2,15 +2,19 @@
 ghost use Rattle.std.specs.Prelude.{◌≡◌, ◌∷◌, ◌++◌, filter, Some, None, [], IfNone, IfSome, OnOk, OnErr, IsSome, MatchOption};
 ghost use Rattle.std.specs.Borrow.{sem};
 ghost use Rattle.cluster_record.specs.Calls.{same_actor};
+ghost use Rattle.client_calls.specs.Abandoning.{calls_left};
 ghost use Rattle.client_calls.specs.AloneLending.{LendsAlone};
+ghost use Rattle.cluster_record.specs.Failing.{goes_with_node};
 ghost use Rattle.ckpt_types.specs.declared.identities.ActorName.TheVariants.{Client};
 ghost use Rattle.call_dispatch.specs.PendingCalls.{find_async};
 ghost use Rattle.ckpt_machine.specs.After.{goes_with, is_over};
 ghost use Rattle.client_calls.specs.AlonePlaces.{found_alone, has_call, has_other, meets, without_met, IsPlaceOf};
 
+use crate::abandoning::is_on;
 use crate::in_hand::InHand;
 use call_dispatch::Pending;
-use ckpt_types::{ActorName, AsyncKind, CallId};
+use ckpt_types::{ActorName, AsyncKind, CallId, NodeId};
+use cluster_record::Record;
 use std::alloc::{AllocError, Global};
 use std::marker::Model;
 
@@ -79,6 +83,15 @@ impl AloneCalls {
         ensures { self.new ≡ [] }
     {
         self.list.clear();
+    }
+
+    /// These are the calls of the client of that number: where it is live on the node, all go. It takes no memory.
+    pub fn cut_off(&mut self, cluster: &Record, client: u8, node: NodeId)
+        ensures { self.new ≡ calls_left (goes_with_node cluster.now node) client self.old }
+    {
+        if is_on(cluster, client, node) {
+            self.list.clear();
+        }
     }
 
     /// The synchronisations of this client over a handle that is closed, if one is, go.

@@ -1,6 +1,7 @@
 //! What one client's call does, over the table of its client and its place among the calls in hand.
 #![tactic(auto)]
 
+mod abandoning;
 mod alone;
 mod beginning;
 mod begun;
@@ -17,6 +18,7 @@ mod options;
 mod settling;
 mod table;
 
+pub use abandoning::unless_abandoned;
 pub use alone::AloneCalls;
 pub use beginning::begin_end;
 pub use begun::{begin_hand, rooms_of, take_room};

@@ -8,18 +8,22 @@ ghost use Rattle.client_handles.specs.ClientState.{handle_at, handle_numbered, h
 ghost use Rattle.call_dispatch.specs.PendingCalls.{callback_of, dispatched, given_answer, given_by, given_number, no_pending, pending_count, with_begun};
 ghost use Rattle.ckpt_machine.specs.After.{async_call, left_over};
 ghost use Rattle.ckpt_machine.specs.Tables.{flags_or_none, handle_asked, handle_given, kept_asked, started, closing, handle_closed, has_place, places_set, registering};
+ghost use Rattle.cluster_record.specs.Failing.{goes_with_node};
+ghost use Rattle.client_calls.specs.Abandoning.{table_left};
 ghost use Rattle.client_calls.specs.Lending.{come_back, lending, IsGoingOnWith, IsOutOf};
 ghost use Rattle.client_calls.specs.NewTable.{new_table};
 ghost use Rattle.client_calls.specs.TableEnds.{table_ended};
 ghost use Rattle.client_calls.specs.TableState.{with_room, with_client, begun_with, with_calls, begun_done, CanBegin, CanBeginDone, CanGoOnAlone};
 
+use crate::abandoning::is_on;
 use crate::kept_calls::{async_call, callbacks_of, dispatch, given_of_none};
 use call_dispatch::Pending;
 use ckpt_types::{
-    AisError, Answer, CallId, Callback, CallbackSet, CkptId, Elements, Given, HANDLES_MAX, Op,
-    OpenFlags, Outcome,
+    AisError, Answer, CallId, Callback, CallbackSet, CkptId, Elements, Given, HANDLES_MAX, NodeId,
+    Op, OpenFlags, Outcome,
 };
 use client_handles::{Client, HandleView};
+use cluster_record::Record;
 use section_iter::Iteration;
 use std::alloc::{AllocError, Global};
 use std::marker::Model;
@@ -381,6 +385,17 @@ impl Table {
     {
         if let Some(pending) = &mut self.pending {
             pending.clear();
+        }
+    }
+
+    /// This is the table of the client of that number: where it is live on the node, its handles, its iterations and its
+    /// asynchronous calls go. It takes no memory.
+    pub fn cut_off(&mut self, cluster: &Record, client: u8, node: NodeId)
+        ensures { self.new ≡ table_left (goes_with_node cluster.now node) client self.old }
+    {
+        if is_on(cluster, client, node) {
+            self.leave();
+            self.forget_all();
         }
     }
 

@@ -1,12 +1,9 @@
 -- On which nodes a checkpoint has its replicas, and which of them is the active.
 use Rattle.std.specs.Prelude.{ℕ, List, Bool, ◌&&◌, ◌==◌, replicate, slice_index, slice_set, if◌then◌else◌}
 use Rattle.ckpt_types.specs.declared.attributes.CreationAttributes.{CreationAttributes}
+pub use Rattle.ckpt_types.specs.Attributes.{is_all}
 use Rattle.ckpt_types.specs.Attributes.{has_flag}
-use Rattle.ckpt_types.specs.Limits.{nodes_max, wr_all_replicas, checkpoint_collocated}
-
--- an update is on all replicas before it is answered; else on the active alone
-abbrev pub is_all : CreationAttributes → Bool
-is_all a = a.creation_flags == wr_all_replicas
+use Rattle.ckpt_types.specs.Limits.{nodes_max, checkpoint_collocated}
 
 -- its replicas are on the nodes of those that open it
 abbrev pub is_collocated : CreationAttributes → Bool

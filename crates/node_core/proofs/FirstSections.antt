@@ -1,8 +1,7 @@
 -- The first sections, and one more, that keep to what is declared.
 use Rattle.std.proofs.Common.{◌≡◌, ℕ, ◌+◌, ◌≤◌, List, length, take, slice_get, Some, All, sym, subst}
 use Rattle.std.proofs.lemmas.List.{take_all}
-use Rattle.std.proofs.lemmas.List.Elements.{All-push, All-get_or}
-use Rattle.std.proofs.lemmas.Option.{slice_get_within, get_or_from_slice_get}
+use Rattle.std.proofs.lemmas.List.Elements.{All-push}
 use Rattle.ckpt_types.specs.Sections.{Section}
 use Rattle.snap_copy.proofs.TakenLemmas.{take-next}
 

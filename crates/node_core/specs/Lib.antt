@@ -1,6 +1,7 @@
 pub mod Behind
 pub mod Changing
 pub mod Details
+pub mod Failing
 pub mod Fitting
 pub mod Keeping
 pub mod Lending

@@ -3,6 +3,7 @@
 
 mod changing;
 mod copying;
+mod failing;
 mod fitting;
 mod keeping;
 mod lending;

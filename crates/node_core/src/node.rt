@@ -4,11 +4,13 @@ ghost use Rattle.cluster_record.specs.Places.{find_key};
 ghost use Rattle.node_core.specs.Behind.{remains_at};
 ghost use Rattle.node_core.specs.Changing.{added_for, changed_node, lent_behind, seen_for_change, ChangeFits, IsAddition};
 ghost use Rattle.node_core.specs.Details.{details_told};
+ghost use Rattle.node_core.specs.Failing.{next_change, node_left, HoldsEachOnce, WantsNothing};
 ghost use Rattle.node_core.specs.Fitting.{MayBeMade, RequestFits};
 ghost use Rattle.node_core.specs.Nodes.{NodeState, replica_key, seen_from, seen_for, served_for, MayReply, node_after, freed_node};
 ghost use Rattle.node_core.specs.Lending.{HasRoomToRead};
-ghost use Rattle.node_core.specs.Payloads.{payload_of};
+ghost use Rattle.node_core.specs.Payloads.{payload_of, Payload};
 ghost use Rattle.node_core.specs.ReplicaLending.{LendsReplica};
+ghost use Rattle.node_core.specs.Seen.{RecordSeen};
 ghost use Rattle.std.specs.Borrow.{sem};
 ghost use Rattle.ckpt_types.specs.Reads.{read};
 ghost use Rattle.ckpt_types.specs.declared.answers.Answer.TheVariants as answers;
@@ -17,6 +19,7 @@ ghost use Rattle.node_core.specs.Serving.{done_or_refused, details_at, iteration
 
 use crate::changing::{break_at, lead_at, lend_at, stage_at, take_at};
 use crate::copying::copy_replicas;
+use crate::failing::{clear_due, first_due};
 use crate::fitting::{change_fits_in, fits_in};
 use crate::lent::Lent;
 use crate::reads::read_in;
@@ -231,6 +234,46 @@ impl Node {
         ensures { MatchOption result (find_key replica_key ckpt self.now.replicas ≡ None) (λ replica. find_key replica_key ckpt self.now.replicas ≡ Some replica.now) }
     {
         find_at(self.replicas.as_slice(), ckpt)
+    }
+
+    /// Behind the failure of a node, by the record behind it, the change that is due next at this one: on the node that
+    /// failed all replicas go; on another, of the first replica at which a change is due, that goes with its checkpoint, or
+    /// its weak write ends whose call is gone, or it gets the generation of a checkpoint whose active the node is now. It is
+    /// one that `change` makes with nothing lent.
+    pub fn next_change(&self, seen: &Record, failed: NodeId) -> Option<NodeChange>
+        ensures { result ≡ next_change seen.now failed self.now }
+    {
+        if self.number == failed {
+            return clear_due(self.replicas.as_slice());
+        }
+        first_due(self.replicas.as_slice(), self.number, seen)
+    }
+
+    // A change that wants nothing, as `change` makes it.
+    fn change_alone(&mut self, change: &NodeChange)
+        requires alone { WantsNothing change.now }
+        ensures { (seen : RecordSeen) (p : Payload) → self.new ≡ changed_node seen change.now p self.old }
+    {
+        match change {
+            NodeChange::Lead(ckpt, generation) => {
+                lead_at(self.replicas.as_mut_slice(), *ckpt, *generation);
+            }
+            NodeChange::Break(ckpt) => break_at(self.replicas.as_mut_slice(), *ckpt),
+            NodeChange::Drop(ckpt) => keep_others(&mut self.replicas, *ckpt),
+            NodeChange::Clear => self.replicas.clear(),
+            _ => unreachable!(),
+        }
+    }
+
+    /// What the failure of a node leaves of this one, by the record behind it: each change that is due by `next_change`, one
+    /// after the other, until none is. It takes no memory. It requires that no two replicas are of one checkpoint.
+    pub fn fail(&mut self, seen: &Record, failed: NodeId)
+        requires once { HoldsEachOnce self.old.replicas }
+        ensures { self.new ≡ node_left seen.now failed self.old }
+    {
+        while let Some(change) = self.next_change(seen, failed) {
+            self.change_alone(&change);
+        }
     }
 
     /// The replicas go, complete or reserved, whose checkpoint has no entry in the record. It takes no memory.

@@ -121,7 +121,7 @@ the_first_fault_is_told : Read (
     ∷ fails 1 reasons.Word " nodes 1"
     ∷ fails 1 reasons.Word " fail n0"
     ∷ fails 1 reasons.Number "nodes 1\r\n"
-    ∷ fails 1 reasons.NotBuilt "fail n0"
+    ∷ fails 1 reasons.Nodes "fail n0"
     ∷ fails 2 reasons.Word "nodes 1\nfoo"
     ∷ fails 2 reasons.Word "nodes 1\nNodes 1"
     ∷ fails 2 reasons.Nodes "nodes 1\nnodes 1"
@@ -150,6 +150,14 @@ the_first_fault_is_told : Read (
     ∷ fails 2 reasons.NotBuilt "nodes 1\nrace  1 "
     ∷ fails 2 reasons.NotBuilt "nodes 1\nend"
     ∷ fails 2 reasons.NotBuilt "nodes 1\njoin n0"
+    ∷ fails 2 reasons.Word "nodes 2\nfail n8"
+    ∷ fails 2 reasons.Word "nodes 2\nfail c0"
+    ∷ fails 2 reasons.Word "nodes 2\nfail  n1"
+    ∷ fails 2 reasons.Word "nodes 2\nfails n1"
+    ∷ fails 2 reasons.Count "nodes 2\nfail"
+    ∷ fails 2 reasons.Count "nodes 2\nfail n1 n2"
+    ∷ fails 2 reasons.Word "nodes 2\nbegin fail n1"
+    ∷ fails 2 reasons.Word "nodes 2\nbegin fail"
     ∷ fails 2 reasons.NotBuilt "nodes 1\ncopy\n"
     ∷ fails 2 reasons.Count "nodes 1\nbegin"
     ∷ fails 2 reasons.Word "nodes 1\nbegin "
@@ -160,6 +168,49 @@ the_first_fault_is_told : Read (
     ∷ [])
 unfolding scripts
 the_first_fault_is_told = refl
+
+-- creation flags of 1 put the updates of a checkpoint on all replicas
+a_node_may_fail : Read (
+    says 2 "nodes 2\nfail n1"
+    ∷ says 2 "nodes 1\nfail n7"
+    ∷ says 4 "nodes 8\nfail n0\n#\nfail n0\n\nfail n7"
+    ∷ says 4 "nodes 2\nat 5\nfail n1\nat 6"
+    ∷ says 4 "nodes 2\nclient c0 n0 B.2.2 none\nopen c0 h0 'ck 7 end 2 16 0 1 16 8\nfail n1"
+    ∷ says 4 "nodes 2\nclient c0 n0 B.2.2 none\nopen c0 h0 'ck 7 end 4 16 0 1 16 8\nfail n1"
+    ∷ says 4 "nodes 2\nclient c0 n0 B.2.2 none\nopen c0 h0 'ck 7 end 10 16 0 1 16 8\nfail n1"
+    ∷ says 4 "nodes 2\nclient c0 n0 B.2.2 none\nopen c0 h0 'ck 7 end 12 16 0 1 16 8\nfail n1"
+    ∷ says 4 "nodes 2\nclient c0 n0 B.2.2 none\nbegin open c0 h0 'ck 7 end 2 16 0 1 16 8\nfail n1"
+    ∷ says 4 "nodes 2\nclient c0 n0 B.2.2 none\nopenasync c0 h0 5 'ck 7 2 16 0 1 16 8\nfail n1"
+    ∷ says 4 "nodes 2\nclient c0 n0 B.2.2 none\nbegin openasync c0 h0 5 'ck 7 4 16 0 1 16 8\nfail n1"
+    ∷ says 4 "nodes 2\nfail n1\nclient c0 n0 B.2.2 none\nopen c0 h0 'ck 7 end 2 16 0 1 16 8"
+    ∷ says 4 "nodes 2\nfail n1\nclient c0 n0 B.2.2 none\nbegin openasync c0 h0 5 'ck 7 2 16 0 1 16 8"
+    ∷ says 4 "nodes 2\nclient c0 n0 B.2.2 none\nopen c0 h0 'ck 1 end\nfail n1"
+    ∷ says 4 "nodes 2\nclient c0 n0 B.2.2 none\nopenasync c0 h0 1 'ck 1\nfail n1"
+    ∷ says 4 "nodes 2\nclient c0 n0 B.2.2 none\nopen c0 h0 'ck 7 end 9 16 0 1 16 8\nfail n1"
+    ∷ says 3 "nodes 2\nclient c0 n0 B.2.2 none\nopen c0 h0 'ck 7 end 1 16 0 1 16 8"
+    ∷ [])
+unfolding scripts
+a_node_may_fail = refl
+
+-- beside a checkpoint whose updates are on all replicas the first of the failures is not built; other faults come before
+none_fails_beside_all_replicas : Read (
+    fails 4 reasons.NotBuilt "nodes 2\nclient c0 n0 B.2.2 none\nopen c0 h0 'ck 7 end 1 16 0 1 16 8\nfail n1"
+    ∷ fails 2 reasons.NotBuilt "nodes 2\nfail n1\nclient c0 n0 B.2.2 none\nopen c0 h0 'ck 7 end 1 16 0 1 16 8"
+    ∷ fails 4 reasons.NotBuilt "nodes 2\nclient c0 n0 B.2.2 none\nbegin open c0 h0 'ck 7 end 1 16 0 1 16 8\nfail n1"
+    ∷ fails 2 reasons.NotBuilt "nodes 2\nfail n1\nclient c0 n0 B.2.2 none\nbegin open c0 h0 'ck 7 end 1 16 0 1 16 8"
+    ∷ fails 4 reasons.NotBuilt "nodes 2\nclient c0 n0 B.2.2 none\nopenasync c0 h0 5 'ck 7 1 16 0 1 16 8\nfail n1"
+    ∷ fails 2 reasons.NotBuilt "nodes 2\nfail n1\nclient c0 n0 B.2.2 none\nopenasync c0 h0 5 'ck 7 1 16 0 1 16 8"
+    ∷ fails 4 reasons.NotBuilt "nodes 2\nclient c0 n0 B.2.2 none\nbegin openasync c0 h0 5 'ck 7 1 16 0 1 16 8\nfail n1"
+    ∷ fails 2 reasons.NotBuilt "nodes 2\nfail n1\nclient c0 n0 B.2.2 none\nbegin openasync c0 h0 5 'ck 7 1 16 0 1 16 8"
+    ∷ fails 4 reasons.NotBuilt "nodes 2\nclient c0 n0 B.2.2 none\nopen c0 h0 'ck 7 end 1 16 0 1 16 8\nfail n1\nfail n0"
+    ∷ fails 4 reasons.NotBuilt "nodes 2\n\n# a node\nfail n1\nat 1\nfail n0\nclient c0 n0 B.2.2 none\nopen c0 h0 'ck 7 end 1 16 0 1 16 8"
+    ∷ fails 5 reasons.NotBuilt "nodes 2\nclient c0 n0 B.2.2 none\nopen c0 h0 'ck 7 end 2 16 0 1 16 8\nopen c0 h0 'ck 7 end 1 16 0 1 16 8\nfail n1\nopen c0 h0 'ck 7 end 2 16 0 1 16 8"
+    ∷ fails 4 reasons.NotBuilt "nodes 2\nclient c0 n0 B.2.2 none\nopen c0 h0 'ck 7 end 1 16 0 1 16 8\nfail n7"
+    ∷ fails 5 reasons.Word "nodes 2\nclient c0 n0 B.2.2 none\nopen c0 h0 'ck 7 end 1 16 0 1 16 8\nfail n1\nfoo"
+    ∷ fails 5 reasons.NotBuilt "nodes 2\nclient c0 n0 B.2.2 none\nopen c0 h0 'ck 7 end 1 16 0 1 16 8\nfail n1\njoin n1"
+    ∷ [])
+unfolding scripts
+none_fails_beside_all_replicas = refl
 
 faults_of_opens : ReadBehind opened (
     fails 4 reasons.Count "open c0 h0 'ck 7 end 1 16 0 1 16"
@@ -446,6 +497,7 @@ scripts_have_one_spelling : SpellBehind [] (
     ∷ ("nodes 1\nopenasync c7 h1 18446744073709551615 '~ 7\nbegin openasync c7 h2 0 x 2 1 16 9223372036854775807 1 16 8\nsyncasync c7 h1 5\n\ndispatch c7 4294967295", "nodes 1\nopenasync c7 h1 18446744073709551615 x7e 7\nbegin openasync c7 h2 0 x 2 1 16 end 1 16 8\nsyncasync c7 h1 5\ndispatch c7 4294967295\n")
     ∷ ("nodes 8\nbegin close c9 h8\nstep c9 1000000\n#\nfinish c9\nstep c9.70 2\nfinish n7\n\nshow K9999", "nodes 8\nbegin close c9 h8\nstep c9 1000000\nfinish c9\nstep c9.70 2\nfinish n7\nshow K9999\n")
     ∷ ("nodes 8\n#\npull K9\nput K9 n7\n\nput K9999 n0\npropagate K80", "nodes 8\npull K9\nput K9 n7\nput K9999 n0\npropagate K80\n")
+    ∷ ("nodes 8\n#\nfail n7\n\nfail n0", "nodes 8\nfail n7\nfail n0\n")
     ∷ ("nodes 2\nbegin create c0 h0 'a 9223372036854775807 'b\nbegin write c0 h0 'a 0 'b x 1 xFF", "nodes 2\nbegin create c0 h0 x61 end x62\nbegin write c0 h0 x61 0 x62 x 1 xff\n")
     ∷ [])
 unfolding scripts

@@ -123,11 +123,7 @@ pub fn is_later(word: FirstWord) -> bool
 {
     matches!(
         word,
-        FirstWord::Op(OpWord::Copy)
-            | FirstWord::Fail
-            | FirstWord::Join
-            | FirstWord::Race
-            | FirstWord::End
+        FirstWord::Op(OpWord::Copy) | FirstWord::Join | FirstWord::Race | FirstWord::End
     )
 }
 

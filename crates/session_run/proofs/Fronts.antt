@@ -27,6 +27,7 @@ use Rattle.client_calls.specs.declared.in_hand.InHand.{InHand}
 use Rattle.ckpt_machine.specs.Machine.{Machine, CallState}
 use Rattle.ckpt_machine.specs.Runs.{last, last_from}
 use Rattle.session_run.specs.Follows.{AnswersLine, AreSteps, AreStepsBehind, IsWholeCall, StepsToEnd, StepsUpTo, stepped_call, FollowsFrom, Follows, FollowsFront}
+use Rattle.cluster_record.specs.RecordState.{is_up}
 use Rattle.session_run.specs.Growing.{GrowsBy, GrowsTowards, IsFinish, IsStepping, AreLeft}
 use Rattle.session_run.proofs.Following.{idle_alone, none_stepped}
 use Rattle.world_core.specs.HandsState.{hand_at}
@@ -71,6 +72,7 @@ could_answer m (lines.Pull k) = labels.Pulled k pulls.Nothing
 could_answer m (lines.Put k r) = labels.Put k r puts.Nothing
 could_answer m (lines.Propagate k) = labels.Pulled k pulls.Nothing
 could_answer m (lines.Show k) = labels.Shown k None
+could_answer m (lines.Fail r) = labels.Failed r (is_up r m.cluster)
 could_answer m line = labels.Nodes 0
 
 -- one step, where some are asked for
@@ -94,6 +96,7 @@ could_answer-answers m t (lines.Pull k) playable = (refl, refl)
 could_answer-answers m t (lines.Put k r) playable = (refl, refl, refl)
 could_answer-answers m t (lines.Propagate k) playable = (refl, refl)
 could_answer-answers m t (lines.Show k) playable = (refl, refl)
+could_answer-answers m t (lines.Fail r) playable = refl
 could_answer-answers m t line playable = absurd playable
 
 -- lines that can be played could be answered one by one, from any state

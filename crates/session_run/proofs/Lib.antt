@@ -1,4 +1,5 @@
 pub mod Following
+mod Apart
 pub mod Fronts
 pub mod Playable
 pub mod Putting

@@ -88,6 +88,7 @@ AnswersLine m (lines.Pull k) log = IsPull k log
 AnswersLine m (lines.Put k r) log = ArePuts k (r ∷ []) log
 AnswersLine m (lines.Propagate k) log = IsPropagation k (other_nodes (entry_of k m.cluster.entries)) log
 AnswersLine m (lines.Show k) log = IsListing k log
+AnswersLine m (lines.Fail r) log = log ≡ labels.Failed r (is_up r m.cluster) ∷ []
 AnswersLine m line log = ⊥
 
 -- from this state the lines come in order, each with its labels, no more than a line gives, and each in the state after

@@ -4,13 +4,13 @@ use Rattle.ckpt_types.specs.Asks.{IsBuilt}
 use Rattle.ckpt_types.specs.Limits.{client_numbers, nodes_max}
 use Rattle.script_lines.specs.declared.lines.Line.{Line}
 use Rattle.script_lines.specs.declared.lines.Line.TheVariants as lines
-use Rattle.script_lang.specs.BuiltScripts.{AreFirstNodes}
+use Rattle.script_lang.specs.BuiltScripts.{AreFirstNodes, IsApartWhereNodesFail}
 use Rattle.script_lang.specs.Grammar.{moment_behind}
 use Rattle.cluster_record.specs.RecordState.{IsMomentFrom}
 use Rattle.world_core.specs.Runs.{IsScriptClient, MayBeStepped}
 
 -- at this moment the line can be played with the nodes up: a call of a client, whole or only begun; steps of a call; a moment that does not go back; a
--- pull, a put at one of the nodes, or a propagation; or a show
+-- pull, a put at one of the nodes, or a propagation; a show; or the failure of one of the nodes
 abbrev pub IsPlayableLine : ℤ → Line → Type 0
 IsPlayableLine t (lines.Call c op) = (c < client_numbers) × IsBuilt op
 IsPlayableLine t (lines.Begin a op) = IsScriptClient a × IsBuilt op
@@ -21,6 +21,7 @@ IsPlayableLine t (lines.Pull k) = Unit {0}
 IsPlayableLine t (lines.Put k r) = r < nodes_max
 IsPlayableLine t (lines.Propagate k) = Unit {0}
 IsPlayableLine t (lines.Show k) = Unit {0}
+IsPlayableLine t (lines.Fail r) = r < nodes_max
 IsPlayableLine t line = ⊥
 
 -- each of the lines can be played at the moment at which it comes, the first at this one
@@ -28,7 +29,11 @@ abbrev pub ArePlayable : ℤ → List Line → Type 0
 ArePlayable t [] = Unit {0}
 ArePlayable t (line ∷ rest) = IsPlayableLine t line × ArePlayable (moment_behind t line) rest
 
--- A SCRIPT THAT CAN BE PLAYED: the nodes come up first, and then come such lines from the moment 0; or nothing comes
+-- the nodes come up first, and then come such lines from the moment 0; or nothing comes
+abbrev pub ComeInOrder : List Line → Type 0
+ComeInOrder [] = Unit {0}
+ComeInOrder (line ∷ rest) = AreFirstNodes line × ArePlayable (pos 0) rest
+
+-- A SCRIPT THAT CAN BE PLAYED: lines that come in this order; and where nodes fail, no checkpoint is opened whose updates are on all replicas
 abbrev pub IsPlayable : List Line → Type 0
-IsPlayable [] = Unit {0}
-IsPlayable (line ∷ rest) = AreFirstNodes line × ArePlayable (pos 0) rest
+IsPlayable lines = ComeInOrder lines × IsApartWhereNodesFail lines

@@ -65,6 +65,7 @@ fn play<W: Cluster>(
     ensures follows { OnOk result (Follows lines.now log.new.labels) }
     ensures front { FollowsFront lines.now log.new.labels }
 {
+    machine_law();
     world_law();
     for line in lines {
         play_line(alloc, line, log, world)?;
@@ -99,6 +100,7 @@ fn play_line<W: Cluster>(
         Line::Put(ckpt, node) => world.event(alloc, Event::Put(*ckpt, *node), log),
         Line::Propagate(ckpt) => propagate(alloc, *ckpt, log, world),
         Line::Show(ckpt) => world.event(alloc, Event::Show(*ckpt), log),
+        Line::Fail(node) => world.event(alloc, Event::Fail(*node), log),
         _ => unreachable!(),
     }
 }

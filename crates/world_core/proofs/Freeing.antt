@@ -41,7 +41,7 @@ fits_left_case true E s fits = fits
 fits_left_case false E s fits = tt
 
 -- and they count the same effects
-fits_left : (entries : List Entry) (backgrounds : List Background) (k : ℕ) (E : List Effect) → FitsSnapshot E (pulled_in backgrounds k) → FitsSnapshot E (pulled_in (backgrounds_left entries backgrounds) k)
+pub fits_left : (entries : List Entry) (backgrounds : List Background) (k : ℕ) (E : List Effect) → FitsSnapshot E (pulled_in backgrounds k) → FitsSnapshot E (pulled_in (backgrounds_left entries backgrounds) k)
 fits_left entries backgrounds k E fits =
     subst (λ s. FitsSnapshot E (where_pulled s)) (sym (background_in-left entries backgrounds k)) (fits_left_case (is_some (entry_of k entries)) E (background_in backgrounds k) fits)
 

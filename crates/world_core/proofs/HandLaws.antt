@@ -49,7 +49,7 @@ has_one call other apart (Some h) is = same_call-false h.call other (λ same. ap
 
 module _ (call : CallId) where
   -- what is found is of the name
-  found-call : (xs : List (Option InHand)) (h : InHand) → found_alone call xs ≡ Some h → same_call h.call call ≡ true
+  pub found-call : (xs : List (Option InHand)) (h : InHand) → found_alone call xs ≡ Some h → same_call h.call call ≡ true
   found-call [] h e = absurd (cc e)
   found-call (x ∷ xs) h e = elim (has_call call x) as (λ b. has_call call x ≡ b → cond b x (found_alone call xs) ≡ Some h → same_call h.call call ≡ true) [ true ↦ λ is here. ap (has_call call) (sym here) ∙ is | false ↦ λ apart more. found-call xs h more ] refl e
 

@@ -21,7 +21,6 @@ pub mod Named
 pub mod New
 pub mod NewCalls
 pub mod NoneGone
-pub mod Numbered
 pub mod Openings
 pub mod Pulling
 pub mod Putting
@@ -48,3 +47,6 @@ pub mod Words
 mod Staging
 mod Reading
 pub mod EventEnds
+pub mod ByNumber
+pub mod FailedParts
+pub mod FailedWorld

@@ -14,7 +14,7 @@ use Rattle.ckpt_machine.specs.Shown.{FitsSnapshot, shown_reservation, shown_snap
 use Rattle.ckpt_machine.proofs.GoesAt.{GoesAt, copied_case, effects_under, record_fits_case, record_shown_case, reserved_case}
 
 -- and of one that is gone nothing is kept
-none_pulled : (o : Option Entry) (s : Option Background) → HasRoom o s → o ≡ None → where_pulled s ≡ None
+pub none_pulled : (o : Option Entry) (s : Option Background) → HasRoom o s → o ≡ None → where_pulled s ≡ None
 none_pulled None s room gone = ap where_pulled room
 none_pulled (Some e) s room gone = absurd (cc gone)
 

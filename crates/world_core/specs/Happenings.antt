@@ -24,8 +24,9 @@ use Rattle.world_core.specs.declared.world.Event.{Event}
 use Rattle.world_core.specs.declared.world.Event.TheVariants as happenings
 use Rattle.world_core.specs.declared.world.World.{World}
 use Rattle.cluster_record.specs.Calls.{left}
-use Rattle.cluster_record.specs.RecordState.{empty_record, IsMomentFrom}
+use Rattle.cluster_record.specs.RecordState.{empty_record, is_up, IsMomentFrom}
 use Rattle.ckpt_machine.specs.Driving.{driver_next}
+use Rattle.ckpt_machine.specs.Entries.{AreApart}
 use Rattle.ckpt_types.specs.Asks.{IsBuilt}
 use Rattle.ckpt_machine.specs.Tables.{rooms_in}
 use Rattle.client_calls.specs.Names.{client_by}
@@ -120,6 +121,12 @@ pub record SetsMoment (t : ℤ) (old new : World) (label : Label) : Type 0 where
   pub hands : new.hands ≡ old.hands
   pub does : Does old new label
 
+-- a node fails, where it is up, and the moment is as it was
+pub record Fails (r : ℕ) (old new : World) (label : Label) : Type 0 where
+  pub label_is : label ≡ labels.Failed r (is_up r old.cluster)
+  pub moment : new.cluster.moment ≡ old.cluster.moment
+  pub does : Does old new label
+
 -- what the event asks of the world
 abbrev pub ComesNow : World → Event → Type 0
 ComesNow w (happenings.Nodes n) = (0 < n) × (n ≤ nodes_max) × (w.cluster ≡ empty_record)
@@ -129,6 +136,7 @@ ComesNow w (happenings.Show k) = Unit {0}
 ComesNow w (happenings.At t) = IsMomentFrom w.cluster.moment t
 ComesNow w (happenings.Pull k) = Unit {0}
 ComesNow w (happenings.Put k r) = r < nodes_max
+ComesNow w (happenings.Fail r) = (r < nodes_max) × AreApart w.cluster.entries
 ComesNow w event = ⊥
 
 -- what the event does, with the label that answers it
@@ -140,4 +148,5 @@ IsAnswered (happenings.Show k) old new label = TellsReplicas k old new label
 IsAnswered (happenings.At t) old new label = SetsMoment t old new label
 IsAnswered (happenings.Pull k) old new label = Propagates (IsPulledOf k) old new label
 IsAnswered (happenings.Put k r) old new label = Propagates (IsPutOf k r) old new label
+IsAnswered (happenings.Fail r) old new label = Fails r old new label
 IsAnswered event old new label = ⊥

@@ -2,7 +2,6 @@ pub mod Backgrounds
 pub mod Begun
 pub mod TableLending
 pub mod LiveRooms
-pub mod ReplicaLending
 pub mod Freeing
 pub mod Listing
 pub mod HandsState
@@ -19,3 +18,5 @@ pub mod StepsLeft
 pub mod Happenings
 pub mod TablesState
 pub mod TablesLending
+pub mod ByNumber
+pub mod Failing

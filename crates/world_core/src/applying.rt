@@ -12,10 +12,10 @@ ghost use Rattle.ckpt_machine.specs.RecordReady.{CanAsk, CanAdd, HasFound, HasNo
 ghost use Rattle.ckpt_machine.specs.Driving.{takes_memory};
 ghost use Rattle.ckpt_machine.specs.Drivers.{Open};
 
-use crate::nodes::Nodes;
 use crate::snapshots::Snapshots;
 use ckpt_types::{CallId, CkptId, CreationAttributes, OpenAsk};
 use client_calls::{Driver, DriverKind, OneStep};
+use cluster_nodes::Nodes;
 use cluster_record::{OpenAnswer, Record, number_of};
 use drive_open::{OpenCall, SharedAsk};
 use node_msgs::RecordStep;

@@ -1,5 +1,5 @@
 //! The calls in hand.
-ghost use Rattle.std.specs.Prelude.{◌≡◌, ◌<◌, length, replicate, Some, None, [], IfOk, OnOk, OnErr, slice_get, IsSome, MatchOption};
+ghost use Rattle.std.specs.Prelude.{◌≡◌, ◌<◌, length, map, replicate, Some, None, [], IfOk, OnOk, OnErr, slice_get, IsSome, MatchOption};
 ghost use Rattle.std.specs.Borrow.{sem};
 ghost use Rattle.ckpt_types.specs.Limits.{client_numbers};
 ghost use Rattle.cluster_record.specs.Calls.{client_of, IsClient};
@@ -8,12 +8,17 @@ ghost use Rattle.ckpt_types.specs.declared.identities.ActorName.TheVariants.{Cli
 ghost use Rattle.ckpt_types.specs.declared.identities.Who.TheVariants.{Actor};
 ghost use Rattle.cluster_record.specs.Places.{or_none};
 ghost use Rattle.ckpt_machine.specs.After.{goes_with};
+ghost use Rattle.client_calls.specs.Abandoning.{calls_left, place_left};
+ghost use Rattle.cluster_record.specs.Failing.{goes_with_node};
+ghost use Rattle.world_core.specs.ByNumber.{each_by_number};
+ghost use Rattle.world_core.specs.Failing.{hands_left};
 ghost use Rattle.world_core.specs.HandsState.{alone_in, hand_at, with_alone, without_all, without_call, without_those, HasAlone};
 ghost use Rattle.client_calls.specs.AlonePlaces.{found_alone};
 
 use call_dispatch::Pending;
-use ckpt_types::{ActorName, CLIENT_NUMBERS, CallId, Who};
-use client_calls::{AloneCalls, InHand};
+use ckpt_types::{ActorName, CLIENT_NUMBERS, CallId, NodeId, Who};
+use client_calls::{AloneCalls, InHand, unless_abandoned};
+use cluster_record::Record;
 use std::alloc::{AllocError, Global};
 use std::marker::Model;
 
@@ -139,6 +144,31 @@ impl Hands {
         ensures { self.new ≡ without_those c (λ v. goes_with handle (Client c) pending.now v) self.old }
     {
         self.alone[c as usize].forget_over(c, handle, pending);
+    }
+
+    /// The calls that the failure of a node abandons are in hand no more. It takes no memory.
+    pub fn cut_off(&mut self, cluster: &Record, node: NodeId)
+        ensures { self.new ≡ hands_left cluster.now node self.old }
+    {
+        leave_places(self.clients.as_mut_slice(), cluster, node);
+        leave_calls(self.alone.as_mut_slice(), cluster, node);
+    }
+}
+
+fn leave_places(places: &mut [Option<InHand>], cluster: &Record, node: NodeId)
+    ensures { places.new ≡ map (place_left cluster.now node) places.old }
+{
+    for place in places.iter_mut() {
+        unless_abandoned(place, cluster, node);
+    }
+}
+
+fn leave_calls(lists: &mut [AloneCalls], cluster: &Record, node: NodeId)
+    requires { length lists.old ≡ client_numbers }
+    ensures { lists.new ≡ each_by_number (calls_left (goes_with_node cluster.now node)) 0 lists.old }
+{
+    for c in 0..CLIENT_NUMBERS as u8 {
+        lists[c as usize].cut_off(cluster, c, node);
     }
 }
 

@@ -3,11 +3,11 @@
 
 mod applying;
 mod begins;
+mod failing;
 mod gone;
 mod hands;
 mod law;
 mod moments;
-mod nodes;
 mod propagation;
 mod setting;
 mod showing;

@@ -12,11 +12,11 @@ ghost use Rattle.ckpt_machine.specs.Propagating.{CanPut, nodes_put, pull_told, p
 ghost use Rattle.world_core.specs.Runs.{IsPulledOf, IsPutOf};
 ghost use Rattle.world_core.specs.Shows.{IsShown};
 
-use crate::nodes::Nodes;
 use crate::snapshots::Snapshots;
 use crate::world::World;
 use ckpt_types::{CkptId, NodeId};
 use client_calls::is_all;
+use cluster_nodes::Nodes;
 use cluster_record::{Entry, Record, is_active};
 use replica::Replica;
 use run_labels::{Label, PullReply, PutReply, RunLog};

@@ -13,10 +13,10 @@ ghost use Rattle.ckpt_machine.specs.Leading.{copy_held, nodes_led, CanLead, HasF
 ghost use Rattle.ckpt_machine.specs.Nodes.{replica_in};
 ghost use Rattle.world_core.specs.Shows.{HasNumbersLeft, IsShown};
 
-use crate::nodes::Nodes;
 use crate::world::World;
 use ckpt_types::{CallId, CkptId, Held, NodeId, Who};
 use client_calls::{InHand, let_go, stepped};
+use cluster_nodes::Nodes;
 use cluster_record::{Entry, Record};
 use node_core::pull_whole;
 use node_msgs::{Reply, StepReply, Verb};

@@ -7,11 +7,11 @@ ghost use Rattle.world_core.specs.Listing.{world_listing};
 ghost use Rattle.ckpt_machine.specs.NodeListing.{kept_slot_listed, kept_replica_listed, node_listed, nodes_listed, made_listed};
 ghost use Rattle.world_core.specs.Happenings.{Adds, TellsReplicas};
 
-use crate::nodes::Nodes;
 use crate::world::World;
 use ckpt_types::{
     Bytes, CkptId, LISTED_BYTES_MAX, Moment, NODES_MAX, NodeId, SectionRef, Sections, Vector,
 };
+use cluster_nodes::Nodes;
 use cluster_record::{Entry, is_active};
 use replica::Replica;
 use run_labels::{

@@ -1,12 +1,15 @@
 //! What all clients keep: the tables of c0 to c99.
-ghost use Rattle.std.specs.Prelude.{◌≡◌, ◌<◌, IfOk, Some, replicate, slice_get};
+ghost use Rattle.std.specs.Prelude.{◌≡◌, ◌<◌, IfOk, Some, length, replicate, slice_get};
 ghost use Rattle.std.specs.Borrow.{sem};
 ghost use Rattle.ckpt_types.specs.Limits.{client_numbers};
 ghost use Rattle.client_calls.specs.NewTable.{new_table};
+ghost use Rattle.cluster_record.specs.Failing.{goes_with_node};
+ghost use Rattle.world_core.specs.Failing.{tables_left};
 ghost use Rattle.world_core.specs.TableLending.{LendsTable};
 
-use ckpt_types::CLIENT_NUMBERS;
+use ckpt_types::{CLIENT_NUMBERS, NodeId};
 use client_calls::Table;
+use cluster_record::Record;
 use std::alloc::{AllocError, Global};
 use std::marker::Model;
 
@@ -55,6 +58,22 @@ impl Tables {
         ensures value { slice_get self.old c ≡ Some result.now }
     {
         &mut self.list[c as usize]
+    }
+
+    /// The clients that are live on a node go with it. It takes no memory.
+    pub fn cut_off(&mut self, cluster: &Record, node: NodeId)
+        ensures { self.new ≡ tables_left (goes_with_node cluster.now node) self.old }
+    {
+        cut_off(self.list.as_mut_slice(), cluster, node);
+    }
+}
+
+fn cut_off(tables: &mut [Table], cluster: &Record, node: NodeId)
+    requires { length tables.old ≡ client_numbers }
+    ensures { tables.new ≡ tables_left (goes_with_node cluster.now node) tables.old }
+{
+    for c in 0..CLIENT_NUMBERS as u8 {
+        tables[c as usize].cut_off(cluster, c, node);
     }
 }
 

@@ -9,11 +9,11 @@ ghost use Rattle.world_core.specs.declared.world.World.{World};
 ghost use Rattle.world_core.specs.StepsLeft.{ComesNearer};
 
 use crate::hands::Hands;
-use crate::nodes::Nodes;
 use crate::snapshots::Snapshots;
 use crate::tables::Tables;
 use ckpt_machine::machine_law;
 use ckpt_types::{ActorName, CkptId, Moment, NodeId, Op, Who};
+use cluster_nodes::Nodes;
 use cluster_record::Record;
 use run_labels::RunLog;
 use std::alloc::{AllocError, Global};
@@ -35,6 +35,8 @@ pub enum Event {
     Pull(CkptId),
     /// The background snapshot of a checkpoint is put onto the replica of a node.
     Put(CkptId, NodeId),
+    /// A node fails.
+    Fail(NodeId),
 }
 
 /// The cluster.
@@ -167,6 +169,10 @@ impl World {
             }
             Event::Put(ckpt, r) => {
                 self.put(ckpt, r, log);
+                Ok(())
+            }
+            Event::Fail(r) => {
+                self.fail(r, log);
                 Ok(())
             }
             _ => unreachable!(),

@@ -6,6 +6,7 @@ use Rattle.ckpt_machine.proofs.FailureLaw.{failures_keep}
 use Rattle.ckpt_machine.proofs.FewSteps.{steps_are_few}
 use Rattle.ckpt_machine.proofs.Lawful.{lawful}
 use Rattle.ckpt_machine.proofs.Nearer.{step_nearer}
+use Rattle.ckpt_machine.proofs.OpensApart.{stays_apart}
 use Rattle.ckpt_machine.proofs.Promises.{promises_kept}
 use Rattle.ckpt_machine.proofs.Refusing.{refusal_leaves}
 use Rattle.ckpt_machine.proofs.RunLaws.{run_has}
@@ -44,6 +45,9 @@ returns-clause-failures c = failures_keep
 
 pub returns-clause-failures_apart : goal.returns-clause-failures_apart
 returns-clause-failures_apart c = failures_keep_apart
+
+pub returns-clause-apart : goal.returns-clause-apart
+returns-clause-apart c = stays_apart
 
 pub returns-clause-promises : goal.returns-clause-promises
 returns-clause-promises c = promises_kept

@@ -12,6 +12,12 @@ returns-clause-acknowledged g c = (c.machine_law.ensures.promises c.run_command.
 pub returns-clause-effects : goal.returns-clause-effects
 returns-clause-effects g c = (c.machine_law.ensures.promises c.run_command.new.log.labels c.run_command.ensures.run.run).effects
 
+pub returns-clause-order : goal.returns-clause-order
+returns-clause-order g c = (c.machine_law.ensures.promises c.run_command.new.log.labels c.run_command.ensures.run.run).order
+
+pub returns-clause-corrupted : goal.returns-clause-corrupted
+returns-clause-corrupted g c = (c.machine_law.ensures.promises c.run_command.new.log.labels c.run_command.ensures.run.run).corrupted
+
 pub returns-clause-synchronized : goal.returns-clause-synchronized
 returns-clause-synchronized g c = (c.machine_law.ensures.promises c.run_command.new.log.labels c.run_command.ensures.run.run).synchronized
 
@@ -23,6 +29,9 @@ returns-clause-owners g c = (c.machine_law.ensures.promises c.run_command.new.lo
 
 pub returns-clause-actives : goal.returns-clause-actives
 returns-clause-actives g c = (c.machine_law.ensures.promises c.run_command.new.log.labels c.run_command.ensures.run.run).actives
+
+pub returns-clause-ends : goal.returns-clause-ends
+returns-clause-ends g c = (c.machine_law.ensures.promises c.run_command.new.log.labels c.run_command.ensures.run.run).ends
 
 pub returns-clause-causes : goal.returns-clause-causes
 returns-clause-causes g c = (c.machine_law.ensures.promises c.run_command.new.log.labels c.run_command.ensures.run.run).causes

@@ -1,6 +1,0 @@
-use Rattle.std.proofs.Common.{◌≡◌}
-use Rattle.world_core.proofs.Numbered.{nodes_from}
-use Rattle.world_core.proofs.nodes.new_nodes.Given as goal
-
-abbrev pub invariant-loop-r : goal.invariant-loop-r
-invariant-loop-r l = l.nodes.items ≡ nodes_from l.r
