@@ -1,9 +1,24 @@
 -- What was answered OK is on every complete replica of its checkpoint, or where updates go to the active alone, on the active's; and it stays there, as long as no failure takes the active.
 use Rattle.std.proofs.Common.{◌≡◌, ◌⊎◌, ℕ, zero, suc, ◌+◌, ◌≤◌, inl, inr, List, [], ◌∷◌, ◌++◌, Option, Some, None, Bool, true, false, cond, not, ◌==◌, ◌&&◌, ℤ, refl, sym, ap, subst, ◌∙◌, append_assoc, arith}
-use Rattle.std.specs.Prelude.{◌≢◌, is_some, IsSome, IsSomeAnd, slice_index}
+use Rattle.std.specs.Prelude.{◌≢◌, is_some, IsSome, IfSome, IsSomeAnd, slice_index}
 use Rattle.std.proofs.lemmas.Bool.{eqb-true, and_parts}
 use Rattle.std.proofs.lemmas.List.{append-nil}
 use Rattle.std.proofs.lemmas.Option.{same_Some}
+use Rattle.cluster_record.specs.declared.calls.UpdatePhase.{UpdatePhase}
+use Rattle.cluster_record.specs.declared.calls.UpdatePhase.TheVariants.{Staging, Committing, Claiming, Claimed, Withdrawing, Resolving}
+use Rattle.cluster_record.specs.DueOnce.{OneStep}
+use Rattle.cluster_record.specs.DueSync.{SyncState}
+use Rattle.cluster_record.specs.declared.calls.SyncKind.{SyncKind}
+use Rattle.cluster_record.specs.declared.calls.SyncKind.TheVariants.{Synchronize, ActiveSet}
+use Rattle.ckpt_types.specs.Asks as asking
+use Rattle.cluster_record.specs.DueOnce as once
+use Rattle.ckpt_machine.specs.Drivers as drivers
+use Rattle.ckpt_machine.specs.Drivers.{Driver}
+use Rattle.ckpt_machine.specs.InHand.{IsInPlace, IsOnceAt, IsSyncBy}
+use Rattle.ckpt_machine.specs.LookGuards.{IsUpdated, LookDone}
+use Rattle.ckpt_machine.proofs.FailureLaw.{failures_keep}
+use Rattle.ckpt_machine.proofs.Lives.{held_not_dead}
+use Rattle.ckpt_machine.specs.Dead.{IsDead, is_enter}
 use Rattle.ckpt_machine.proofs.Dropped.{held_as, ended_none}
 use Rattle.ckpt_types.specs.declared.answers.Answer.{Answer}
 use Rattle.ckpt_types.specs.declared.answers.Outcome.{Outcome}
@@ -28,18 +43,18 @@ use Rattle.cluster_record.specs.Makings.{making_of}
 use Rattle.cluster_record.specs.Failing.{goes_with_node}
 use Rattle.cluster_record.specs.Identities.{IdentitiesRise, AllUpTo}
 use Rattle.cluster_record.specs.Places.{put2}
-use Rattle.cluster_record.specs.RecordState.{RecordState, entry_of, complete_of, stays, swept, moved, entered, finished, home_of, opened_with, opened, closed, unlinked, unreferred, unnamed, departed, undone, with_hold, hold_set, active_set}
+use Rattle.cluster_record.specs.RecordState.{RecordState, entry_of, complete_of, stays, swept, moved, entered, finished, home_of, opened_with, opened, closed, unlinked, unreferred, unnamed, departed, undone, with_hold, hold_set, active_set, is_up, is_live}
 use Rattle.cluster_record.proofs.IdentityLaws.{IdentitiesRise-filter}
 use Rattle.ckpt_machine.specs.Acknowledged.{IsUpdateWord, Acknowledges, ckpt_named, HasBegun, IsUpdateBy, HasUpdate, IsToHave, IsOnItsReplicas, LeavesActive, KeepsActive, AcknowledgedStay}
 use Rattle.ckpt_machine.specs.AllOrNone.{OneUpdate, IsOfOne}
-use Rattle.ckpt_types.specs.Asks.{asked, update_asked, update_of}
+use Rattle.ckpt_types.specs.Asks.{asked, update_asked, update_of, Ask}
 use Rattle.ckpt_machine.specs.Complete.{with_replica, replicas_from, complete_replicas}
 use Rattle.ckpt_machine.specs.Guards.{IsOnOwn, Row, Allowed}
 use Rattle.ckpt_machine.specs.ActiveGuards.{ApplyOk, AreMarksOf}
 use Rattle.ckpt_machine.specs.UpdateGuards.{CommitOk, ends_update}
-use Rattle.ckpt_machine.specs.Entries.{AreApart}
+use Rattle.ckpt_machine.specs.Entries.{WasMade}
 use Rattle.ckpt_machine.specs.Failing.{failed_at}
-use Rattle.ckpt_machine.specs.GuardTerms.{OnEach, OnAll}
+use Rattle.ckpt_machine.specs.GuardTerms.{OnEach, OnAll, owns_slot}
 use Rattle.ckpt_machine.specs.Invariant.{Invariant}
 use Rattle.ckpt_machine.specs.Laws.{OfEachRun}
 use Rattle.ckpt_machine.specs.Listing.{is_active}
@@ -49,9 +64,9 @@ use Rattle.ckpt_machine.specs.Owned.{OwnsNothing}
 use Rattle.ckpt_machine.specs.Propagation.{replica_from}
 use Rattle.ckpt_machine.specs.Runs.{last, IsRun}
 use Rattle.node_core.specs.Serving.{update_answer}
-use Rattle.ckpt_machine.specs.Shape.{IsCompleteOn}
-use Rattle.ckpt_machine.specs.After.{with_record, record_step, created_for, retained_for, change_replica, with_committed, committed_slot, with_applied, having_taken, with_marks, with_next_element, without_marks, marks_ended, with_slot, effect_of, with_lead, changed, on_ok, on_look, without_making, at_some, replica_under, opened_state, stepped, step_of, staged_moment, after}
-use Rattle.ckpt_machine.specs.Due.{Told, IsDue, count_in}
+use Rattle.ckpt_machine.specs.Shape.{IsCompleteOn, IsOwner, PhaseFits}
+use Rattle.ckpt_machine.specs.After.{with_record, record_step, created_for, retained_for, change_replica, with_committed, committed_slot, with_applied, having_taken, with_marks, with_next_element, without_marks, marks_ended, with_slot, with_claim, without_slot, effect_of, with_lead, changed, on_ok, on_look, without_making, at_some, replica_under, opened_state, stepped, step_of, staged_moment, after}
+use Rattle.ckpt_machine.specs.Due.{Told, IsDue, count_in, driver_of}
 use Rattle.ckpt_machine.proofs.HeldIn.{IsCopyOfActive}
 use Rattle.ckpt_machine.proofs.Activating.{made_where_complete, led_by, Leads, leader, with_leader, leader-cases, found_led, led_made, led_entry, after_activate}
 use Rattle.ckpt_machine.proofs.ActiveNode.{active_complete}
@@ -69,15 +84,13 @@ use Rattle.ckpt_machine.proofs.Histories.{HasHistory, slot_owned, on_replica-the
 use Rattle.ckpt_machine.proofs.Installed.{after_install}
 use Rattle.ckpt_machine.proofs.Joining.{collocated_apart, opened_with-identity}
 use Rattle.ckpt_machine.proofs.Lawful.{lawful}
-use Rattle.ckpt_machine.proofs.NodeGone.{complete_still}
 use Rattle.ckpt_machine.proofs.OptionLemmas.{IsSomeAnd-at, IfSome-at}
 use Rattle.ckpt_machine.proofs.Actors.{same_call-true}
-use Rattle.ckpt_machine.proofs.Owning.{owner_update}
 use Rattle.ckpt_machine.proofs.References.{released-identity}
 use Rattle.ckpt_machine.proofs.RefusedRuns.{owns_nothing}
 use Rattle.ckpt_machine.proofs.BegunBefore.{all_began}
 use Rattle.ckpt_machine.proofs.BegunOnce.{begins_once}
-use Rattle.ckpt_machine.proofs.UpdateAnswers.{begin_not_done, IsTakenOn, done_by_taking}
+use Rattle.ckpt_machine.proofs.UpdateAnswers.{begin_not_done, IsTakenOn, done_by_taking, IsChange, changes}
 use Rattle.ckpt_machine.proofs.StaysMade.{IsMadeAs, StaysMade, StaysMade-same, StaysMade-kept, held_made, held-identity, MadeOn, MadeOn-swept, released_made, opened_made, same_on, changed_on, filter_on, departed_on, finished_on, created_for_on, retained_for_on, StepNeeds, row_needs}
 use Rattle.ckpt_machine.proofs.Whose.{one_call}
 use Rattle.ckpt_machine.proofs.Runs.{last-push, run_before, run_front, IsRunFrom-back}
@@ -274,49 +287,52 @@ module _ (k : ℕ) (call : CallId) (update : Update) (m : Machine) (stay : Stays
           not_led r (inl all) apart = let w : true ≡ false = sym all ∙ collocated_apart lead.entry.attributes lead.collocated in cc w
           not_led r (inr active) apart = apart (same_Some q r active)
 
-  -- a failure, where updates go to the actives alone, of a node that is not the active's
-  module _ (inv : Invariant m) (bare : IsBare m) (r : ℕ) (apart : AreApart m.cluster.entries) (leaves : LeavesActive (entry_of k m.cluster.entries) r) where
-    -- what the entry was, which has the active that it had
+  -- a failure: where updates go to the active alone, of another node than the active's
+  module _ (inv : Invariant m) (bare : IsBare m) (r : ℕ) (up : is_up r m.cluster ≡ true) (leaves : LeavesActive (entry_of k m.cluster.entries) r) where
+    -- what the entry was: its updates are on all replicas, or it has the active that it had
     record WasLed (f : Entry) : Type 0 where
       e : Entry
       was : entry_of k m.cluster.entries ≡ Some e
       left : IsFailedEntry (λ q. count_in (m.replicas e.identity q)) (goes_with_node m.cluster r) r e f
-      other : e.active ≢ Some r
-      active : f.active ≡ e.active
+      active : (is_all e.attributes ≡ true) ⊎ (f.active ≡ e.active)
 
     was_led : (f : Entry) → entry_of k (failed_at r m).cluster.entries ≡ Some f → WasLed f
     was_led f found =
-        let it = was_entry false m inv.shapes inv.holds r k f found in
-        let (other, active) = still_led (λ q. count_in (m.replicas it.e.identity q)) (goes_with_node m.cluster r) r it.e f it.left (apart k it.e it.was) (IfSome-at (entry_of k m.cluster.entries) (λ e. (is_all e.attributes ≡ true) ⊎ (e.active ≢ Some r)) leaves it.e it.was) in
-        record { e = it.e; was = it.was; left = it.left; other = other; active = active }
-
-    -- another node that was complete is so still
-    complete_left : (e f : Entry) (q : ℕ) → IsFailedEntry (λ q. count_in (m.replicas e.identity q)) (goes_with_node m.cluster r) r e f → e.active ≢ Some r → e.active ≡ Some q → IsCompleteOn e q → IsCompleteOn f q
-    complete_left e f q left other led there = ap (λ cs. slice_index cs q == 0) left.complete ∙ complete_still e.complete r q (by_test (q == r) refl) there
+        let it = was_entry m inv.shapes inv.holds r k f found in
+        record { e = it.e; was = it.was; left = it.left; active = by_all (is_all it.e.attributes) it.e f refl it.left (IfSome-at (entry_of k m.cluster.entries) (λ e. (is_all e.attributes ≡ true) ⊎ (e.active ≢ Some r)) leaves it.e it.was) }
       where
-        by_test : (b : Bool) → (q == r) ≡ b → b ≡ false
-        by_test true same = absurd (other (led ∙ ap Some (eqb-true q r same)))
-        by_test false apart = refl
+        by_all : (b : Bool) (e f : Entry) → is_all e.attributes ≡ b → IsFailedEntry (λ q. count_in (m.replicas e.identity q)) (goes_with_node m.cluster r) r e f → (is_all e.attributes ≡ true) ⊎ (e.active ≢ Some r) → (is_all e.attributes ≡ true) ⊎ (f.active ≡ e.active)
+        by_all true e f all left others = inl all
+        by_all false e f alone left others = inr (still_led (λ q. count_in (m.replicas e.identity q)) (goes_with_node m.cluster r) r e f left alone others).1
 
     -- the replica has what it had
-    has_left : (e f : Entry) (q : ℕ) (x y : ReplicaState) → Becomes m inv bare r apart e f q x y → HasUpdate call update x.effects → HasUpdate call update y.effects
+    has_left : (e f : Entry) (q : ℕ) (x y : ReplicaState) → Becomes m inv bare r e f q x y → HasUpdate call update x.effects → HasUpdate call update y.effects
     has_left e f q x y (failures.stays same) has = subst (λ (z : ReplicaState). HasUpdate call update z.effects) (sym same) has
     has_left e f q x y (failures.cut_short marks stand gone was led same is) has = subst (λ (z : ReplicaState). HasUpdate call update z.effects) (sym is) (has_more call update x.effects (Broken marks.call marks.update marks.moment marks.done ∷ []) has)
     has_left e f q x y (failures.leads was led none is) has = subst (λ (z : ReplicaState). HasUpdate call update z.effects) (sym is) has
 
+    -- what is made then was made
+    made_left : (f : Entry) → entry_of k (failed_at r m).cluster.entries ≡ Some f → f.making ≡ None
+    made_left f found = let it = was_led f found in it.left.making ∙ stay.made it.e it.was
+
+    -- each that is to have it was to have it
+    before_left : (f : Entry) (it : WasLed f) (q : ℕ) → IsToHave (Some f) q → IsToHave (Some it.e) q
+    before_left f it q to_have = elim it.active [ inl all ↦ inl all | inr same ↦ to_have_left it.e f it.left.attributes same q to_have ]
+
+    -- there is an active, where there has to be
+    some_then : (f : Entry) (it : WasLed f) → (is_all f.attributes ≡ true) ⊎ IsSome f.active
+    some_then f it = elim it.active [ inl all ↦ inl (ap is_all it.left.attributes ∙ all) | inr same ↦ some_left it.e f it.left.attributes same (stay.some it.e it.was) ]
+
     failure_stays : Stays k call update (failed_at r m)
     failure_stays = record {
       given = stay.given;
-      made = λ f found. (let it = was_led f found in it.left.making ∙ stay.made it.e it.was);
-      some = λ f found. (let it = was_led f found in some_left it.e f it.left.attributes it.active (stay.some it.e it.was));
-      led = λ f found q active. (
-          let it = was_led f found in
-          let led : it.e.active ≡ Some q = sym it.active ∙ active in
-          complete_left it.e f q it.left it.other led (stay.led it.e it.was q led));
+      made = made_left;
+      some = λ f found. some_then f (was_led f found);
+      led = λ f found q active. (let then = failures_keep m r inv up in active_complete (failed_at r m) then.shapes k f q then.holds found (made_left f found) active);
       its = λ q y is to_have. (
-          let it = was_replica m inv bare r apart k q y is in
+          let it = was_replica m inv bare r k q y is in
           let at = was_led it.then it.found in
-          let before : IsToHave (Some at.e) q = to_have_left at.e it.then at.left.attributes at.active q (subst (λ o. IsToHave o q) it.found to_have) in
+          let before : IsToHave (Some at.e) q = before_left it.then at q (subst (λ o. IsToHave o q) it.found to_have) in
           has_left it.before it.then q it.replica y it.becomes (stay.its q it.replica it.there (subst (λ o. IsToHave o q) (sym at.was) before)));
     }
 
@@ -373,6 +389,8 @@ module _ (k : ℕ) (call : CallId) (update : Update) (m : Machine) (stay : Stays
     changed_stays s verbs.Finish j q reply needs done = finished_stays s j q reply needs
     changed_stays s verbs.Undo j q reply needs done = ok_stays reply _ (one_stays j _ undone_stays)
     changed_stays s verbs.Stage j q reply needs done = ok_stays reply _ (both_stay j q _ (λ j q. replica_stays j q (m.replicas j q) refl (with_slot s.call (update_of s.op) (staged_moment m j)) (λ x has. has)))
+    changed_stays s verbs.Claim j q reply needs done = ok_stays reply _ (both_stay j q _ (λ j q. replica_stays j q (m.replicas j q) refl (with_claim s.call) (λ x has. has)))
+    changed_stays s verbs.Withdraw j q reply needs done = ok_stays reply _ (both_stay j q _ (λ j q. replica_stays j q (m.replicas j q) refl without_slot (λ x has. has)))
     changed_stays s verbs.Commit j q reply needs done = ok_stays reply _ (both_stay j q _ (λ j q. replica_stays j q (m.replicas j q) refl (with_committed (entry_of j m.cluster.entries)) (λ x has. committed_has (entry_of j m.cluster.entries) x call update has)))
     changed_stays s verbs.Apply j q reply needs done = ok_stays reply _ (both_stay j q _ (λ j q. replica_stays j q (m.replicas j q) refl (with_applied s.call (update_of s.op) m.cluster.moment (entry_of j m.cluster.entries))
         (λ x has. applied_has (entry_of j m.cluster.entries) s.call (update_of s.op) m.cluster.moment x call update has)))
@@ -406,7 +424,7 @@ module _ (k : ℕ) (call : CallId) (update : Update) (m : Machine) (stay : Stays
   after_stays inv bare (labels.Shown j replicas) allowed leaves = stay
   after_stays inv bare (labels.Pulled j reply) allowed leaves = after_pull (Stays k call update) m j reply allowed stay (λ x from none. stay)
   after_stays inv bare (labels.Put j q reply) allowed leaves = after_put (Stays k call update) m j q reply stay (λ s x copied on. put_stays j q s x on)
-  after_stays inv bare (labels.Failed r true) allowed leaves = failure_stays inv bare r allowed.2 leaves
+  after_stays inv bare (labels.Failed r true) allowed leaves = failure_stays inv bare r allowed.1 leaves
   after_stays inv bare (labels.Failed r false) allowed leaves = stay
   after_stays inv bare l allowed leaves = absurd allowed
 
@@ -429,12 +447,44 @@ module _ (P : ReplicaState → Type 0) where
   each_at f n (c ∷ cs) each zero y some at = first_of n (replicas_from f (n + 1) cs) (c == 0) (f n) y some (ap f (let here : n ≡ n + 0 = omega arith in here) ∙ at) each
   each_at f n (c ∷ cs) each (suc d) y some at = each_at f (n + 1) cs (rest_of n (replicas_from f (n + 1) cs) (c == 0) (f n) each) d y some (ap f (let there : n + 1 + d ≡ n + suc d = omega arith in there) ∙ at)
 
+-- and what holds of each complete replica holds of each that is there
+on_each_there : (m : Machine) → IsBare m → (k : ℕ) (P : ReplicaState → Type 0) → OnEach P (complete_replicas m k) → (q : ℕ) (y : ReplicaState) → m.replicas k q ≡ Some y → P y
+on_each_there m bare k P each q y at =
+    let (f, is, complete) = IsSomeAnd-at (entry_of k m.cluster.entries) (λ e. IsCompleteOn e q) (bare.complete k q y at) in
+    each_at P (m.replicas k) 0 f.complete (subst (λ o. OnEach P (replicas_from (m.replicas k) 0 (complete_of o))) is each) q y complete (ap (m.replicas k) (let same : 0 + q ≡ q = omega arith in same) ∙ at)
+
+-- the checkpoint of a call in hand that asks for an update was made
+change_made : (m : Machine) (inv : Invariant m) (s : CallState) → m.in_hand (who s) ≡ Some s → (place : ℕ) (update : Update) → asked s.op ≡ asking.Change place update → (k : ℕ) → s.kept.ckpt ≡ Some k → WasMade m.cluster k
+change_made m inv s held place update is k kept = by_driver (driver_of s) (inv.holds.hands (who s) s held).here
+  where
+    apart : {P : Type 0} (ask : Ask) → asked s.op ≡ ask → (asking.Change place update ≡ ask → ⊥) → P
+    apart ask other never = absurd (never (sym is ∙ other))
+
+    its : (j : ℕ) → s.kept.ckpt ≡ Some j → WasMade m.cluster j → WasMade m.cluster k
+    its j at made = subst (WasMade m.cluster) (same_Some j k (sym at ∙ kept)) made
+
+    by_once : (x : OneStep) → IsOnceAt m s x → WasMade m.cluster k
+    by_once (once.Enter r) at = apart _ at.asks (λ w. cc w)
+    by_once once.Leave at = apart _ at.asks (λ w. cc w)
+    by_once (once.Close j) at = apart _ at.asks (λ w. cc w)
+    by_once (once.Unlink name) at = apart _ at (λ w. cc w)
+    by_once (once.Retain j duration) at = apart _ at.asks (λ w. cc w)
+
+    by_sync : (u : SyncState) (kind : SyncKind) → IsSyncBy m s u kind → WasMade m.cluster k
+    by_sync u (Synchronize deadline) at = apart _ at.asks (λ w. cc w)
+    by_sync u (ActiveSet local) at = apart _ at.asks (λ w. cc w)
+
+    by_driver : (d : Driver) → IsInPlace m inv.shapes s d → WasMade m.cluster k
+    by_driver (drivers.Once x) at = by_once x at
+    by_driver (drivers.Open o) at = apart _ at.asks.asks (λ w. cc w)
+    by_driver (drivers.Update u) at = its u.ckpt at.kept at.made
+    by_driver (drivers.Active a) at = its a.ckpt at.kept at.made
+    by_driver (drivers.Sync u) at = by_sync u u.kind at
+
 -- where updates are on all replicas, one has the update and nothing staged, and the call owns nothing, all have it
 module _ (m : Machine) (inv : Invariant m) (bare : IsBare m) (k r : ℕ) (call : CallId) (update : Update) (e : Entry) (found : entry_of k m.cluster.entries ≡ Some e) (made : e.making ≡ None) (all : is_all e.attributes ≡ true) (x : ReplicaState) (there : m.replicas k r ≡ Some x) (free : x.slot ≡ None) (has : HasUpdate call update x.effects) (owns : OwnsNothing m call) where
   on_each : (P : ReplicaState → Type 0) → OnEach P (complete_replicas m k) → (q : ℕ) (y : ReplicaState) → m.replicas k q ≡ Some y → P y
-  on_each P each q y at =
-      let (f, is, complete) = IsSomeAnd-at (entry_of k m.cluster.entries) (λ e. IsCompleteOn e q) (bare.complete k q y at) in
-      each_at P (m.replicas k) 0 f.complete (subst (λ o. OnEach P (replicas_from (m.replicas k) 0 (complete_of o))) is each) q y complete (ap (m.replicas k) (let same : 0 + q ≡ q = omega arith in same) ∙ at)
+  on_each P each q y at = on_each_there m bare k P each q y at
 
   of_one : (one : OneUpdate) (done : Bool) → IsOfOne one done x None → (q : ℕ) (y : ReplicaState) → m.replicas k q ≡ Some y → (o : Option Staged) → y.slot ≡ o → IsOfOne one done y o → HasUpdate call update y.effects
   of_one one true first q y at None none second = subst (HasUpdate call update) (first.1 ∙ sym second.1) has
@@ -495,12 +545,37 @@ module _ (m : Machine) (inv : Invariant m) (history : HasHistory m) (d : CallId)
   abbrev ended : CallState → ReplicaState → Machine
   ended s y = stepped (record m { replicas = put2 m.replicas j r (Some y) }) s (Some (Done answer))
 
-  -- what is staged by a call in hand is its own update
-  own_update : (s : CallState) → m.in_hand (who s) ≡ Some s → (x : ReplicaState) (slot : Staged) → m.replicas j r ≡ Some x → x.slot ≡ Some slot → slot.owner ≡ s.call → slot.update ≡ update_of s.op
-  own_update s held x slot there staged owner =
-      let (by, origin, update) = slot_owned m inv.shapes inv.holds history.bare j r x slot there staged in
-      let state : by.state ≡ s = one_call m.in_hand m.pending m.next inv.holds.calls (who by.state) (who s) by.state s by.in_hand held (by.call_is ∙ owner) in
-      update ∙ owner_update m j (inv.shapes j) slot.owner by ∙ ap (λ (z : CallState). update_of z.op) state
+  -- who owns a slot by a call in hand is that call
+  own_owner : (s : CallState) → m.in_hand (who s) ≡ Some s → (x : ReplicaState) (slot : Staged) → m.replicas j r ≡ Some x → x.slot ≡ Some slot → slot.owner ≡ s.call → IsOwner m j (inv.shapes j) s.call
+  own_owner s held x slot there staged owner =
+      let (by, origin, update, owns) = slot_owned m inv.shapes inv.holds history.bare j r x slot there staged in
+      elim by [
+        | inl own ↦ subst (IsOwner m j (inv.shapes j)) owner own
+        | inr left ↦ absurd (held_not_dead m inv.shapes inv.holds s held (subst (IsDead m) owner left.0))
+      ]
+
+  -- which is live
+  own_live : (s : CallState) → IsOwner m j (inv.shapes j) s.call → is_live m.cluster s.call ≡ true
+  own_live s own = ap (is_live m.cluster) (sym own.call_is) ∙ (inv.holds.hands (who own.state) own.state own.in_hand).live (ap is_enter own.driver_is)
+
+  -- what is staged by a call in hand, as its own, is its own update
+  own_update : (s : CallState) → m.in_hand (who s) ≡ Some s → (x : ReplicaState) (slot : Staged) → m.replicas j r ≡ Some x → x.slot ≡ Some slot → slot.owner ≡ s.call → slot.origin ≡ s.call → slot.update ≡ update_of s.op
+  own_update s held x slot there staged owner own_origin =
+      let (by, origin, update, owns) = slot_owned m inv.shapes inv.holds history.bare j r x slot there staged in
+      let own = own_owner s held x slot there staged owner in
+      let state : own.state ≡ s = one_call m.in_hand m.pending m.next inv.holds.calls (who own.state) (who s) own.state s own.in_hand held own.call_is in
+      update ∙ by_phase own (sym origin ∙ own_origin) own.driver.phase own.phase ∙ ap (λ (z : CallState). update_of z.op) state
+    where
+      never : IsDead m (inv.shapes j).origin → (inv.shapes j).origin ≡ s.call → {P : Type 0} → P
+      never dead is = absurd (held_not_dead m inv.shapes inv.holds s held (subst (IsDead m) is dead))
+
+      by_phase : (own : IsOwner m j (inv.shapes j) s.call) → (inv.shapes j).origin ≡ s.call → (ph : UpdatePhase) → PhaseFits m (inv.shapes j) own.state own.driver ph → (inv.shapes j).update ≡ update_of own.state.op
+      by_phase own is Staging fits = fits.update
+      by_phase own is Committing fits = fits.update
+      by_phase own is Claiming fits = absurd fits
+      by_phase own is Claimed fits = never fits.origin is
+      by_phase own is Withdrawing fits = never fits.origin is
+      by_phase own is Resolving fits = never fits.origin is
 
   -- it stays from a step on that leaves it on the replicas that are to have it
   ended_stays : (s : CallState) (e : Entry) (x y : ReplicaState) → entry_of j m.cluster.entries ≡ Some e → m.replicas j r ≡ Some x → (is_all e.attributes ≡ true) ⊎ IsSome e.active → IsOnItsReplicas (ended s y) j s.call (update_of s.op) → Stays j s.call (update_of s.op) (ended s y)
@@ -534,9 +609,10 @@ module _ (m : Machine) (inv : Invariant m) (history : HasHistory m) (d : CallId)
       let is : after m l ≡ n = ap (λ o. step_of m o verbs.Commit (Some j) (Some r) words.Ok (Some (Done answer))) allowed.in_hand ∙ ap (λ o. stepped (change_replica m j r o (with_committed (entry_of j m.cluster.entries))) s (Some (Done answer))) there in
       let inv_n : Invariant n = subst Invariant is (lawful m l inv due).1 in
       let bare_n : IsBare n = subst IsBare is (keeps_history m l inv history allowed due).bare in
-      let owns = owns_nothing n inv_n bare_n s.call (ended_none m.in_hand m.pending m.next inv.holds.calls s held m.in_hand (λ w z there. there)) in
+      let live : is_live m.cluster s.call ≡ true = own_live s (own_owner s held x ok.slot there ok.staged ok.owner) in
+      let owns = owns_nothing n inv_n bare_n s.call (ended_none m.in_hand m.pending m.next inv.holds.calls s held m.in_hand (λ w z there. there)) (λ k q z slot c at staged of dead same. (let w : true ≡ false = sym live ∙ ap (is_live m.cluster) (sym same) ∙ dead.gone in cc w)) in
       let free : y.slot ≡ None = ap (λ (z : ReplicaState). z.slot) y_is ∙ committed_free e.attributes x x.slot ok.slot ok.staged in
-      let has : HasUpdate s.call u y.effects = subst (λ (z : ReplicaState). HasUpdate s.call u z.effects) (sym y_is) (committed_new e.attributes x x.slot ok.slot s.call u ok.staged origin (own_update s held x ok.slot there ok.staged ok.owner)) in
+      let has : HasUpdate s.call u y.effects = subst (λ (z : ReplicaState). HasUpdate s.call u z.effects) (sym y_is) (committed_new e.attributes x x.slot ok.slot s.call u ok.staged origin (own_update s held x ok.slot there ok.staged ok.owner origin)) in
       let made = is_made m inv history.bare j r e x found there in
       let every = on_every n inv_n bare_n j r s.call u e found made row_of.0 y (put2-here m.replicas j r (Some y)) free has owns in
       subst (λ c. Stays j c u (after m l)) allowed.call_is (subst (Stays j s.call u) (sym is) (ended_stays s e x y found there (inl row_of.0) (λ q z at to_have. every q z at)))
@@ -584,13 +660,13 @@ module _ (m : Machine) (inv : Invariant m) (history : HasHistory m) (d : CallId)
 
 -- ---- any label that answers OK
 
--- the call began with an update, of the checkpoint that the label names, and the update stays from the label on
+-- the call began with an update, of the checkpoint that the label names, where it names one, and the update stays from the label on
 record IsTaken (log : List Label) (l : Label) (call : CallId) : Type 0 where
   op : Op
   asks : IsUpdateWord (word_of_op op)
   ckpt : ℕ
   begun : HasBegun log call op (Some ckpt)
-  named : ckpt_named l ≡ Some ckpt
+  named : IfSome (ckpt_named l) (λ k. k ≡ ckpt)
   stay : Stays ckpt call (update_of op) (after (last log) l)
 
 module _ (log : List Label) (run : IsRun log) (inv : Invariant (last log)) (history : HasHistory (last log)) where
@@ -609,12 +685,54 @@ module _ (log : List Label) (run : IsRun log) (inv : Invariant (last log)) (hist
         stay = stay;
       }
 
-  -- a commit, an update in one step, or the end of a weak write, and no other
+  -- by a look, where each complete replica has it
+  looked : (d : CallId) (word : OpWord) (k r : Option ℕ) (answer : Answer) (details : Details) (allowed : Allowed (last log) (labels.Stepped d word verbs.Look k r words.Done (Some (Done answer)) details)) → IsUpdateWord word → IsTaken log (labels.Stepped d word verbs.Look k r words.Done (Some (Done answer)) details) d
+  looked d word k r answer details allowed asks = by_ask (asked s.op) refl (changes s.op (subst IsUpdateWord (sym allowed.word) asks)) allowed.row.2
+    where
+      m : Machine
+      m = last log
+
+      s : CallState
+      s = allowed.state
+
+      held : m.in_hand (who s) ≡ Some s
+      held = held_as m d word s allowed.in_hand allowed.call_is allowed.word
+
+      l : Label
+      l = labels.Stepped d word verbs.Look k r words.Done (Some (Done answer)) details
+
+      it_stays : (j : ℕ) → WasMade m.cluster j → (update : Update) → update ≡ update_of s.op → IsSomeAnd (entry_of j m.cluster.entries) (IsUpdated m s.call update j) → Stays j s.call (update_of s.op) (after m l)
+      it_stays j was update same there =
+          let (e, found, updated) = IsSomeAnd-at (entry_of j m.cluster.entries) (IsUpdated m s.call update j) there in
+          let made : (f : Entry) → entry_of j m.cluster.entries ≡ Some f → f.making ≡ None = λ f at. subst (λ o. IfSome o (λ (z : Entry). z.making ≡ None)) at was.made in
+          subst (λ o. Stays j s.call (update_of s.op) (step_of m o verbs.Look k r words.Done (Some (Done answer)))) (sym allowed.in_hand) (record {
+            given = entry_of-given m.cluster.last_identity j m.cluster.entries e inv.holds.up_to found;
+            made = made;
+            some = λ f at. inl (ap (λ (z : Entry). is_all z.attributes) (same_Some f e (sym at ∙ found)) ∙ updated.0);
+            led = λ f at q active. active_complete m inv.shapes j f q inv.holds at (made f at) active;
+            its = λ q y at to_have. subst (λ u. HasUpdate s.call u y.effects) same (on_each_there m history.bare j (λ z. (owns_slot s.call z.slot ≡ false) × HasUpdate s.call update z.effects) updated.1 q y at).1;
+          })
+
+      by_ask : (ask : Ask) → asked s.op ≡ ask → IsChange ask → LookDone m s ask answer → IsTaken log l d
+      by_ask (asking.Change place update) is change done =
+          let (j, kept, there) = IsSomeAnd-at s.kept.ckpt (λ j. IsSomeAnd (entry_of j m.cluster.entries) (IsUpdated m s.call update j)) done.1 in
+          record {
+            op = s.op;
+            asks = subst IsUpdateWord (sym allowed.word) asks;
+            ckpt = j;
+            begun = subst (λ c. HasBegun log c s.op (Some j)) allowed.call_is (subst (HasBegun log s.call s.op) kept (all_began log run s held));
+            named = subst (λ o. IfSome o (λ k. k ≡ j)) (sym allowed.row.0) tt;
+            stay = subst (λ c. Stays j c (update_of s.op) (after m l)) allowed.call_is (it_stays j (change_made m inv s held place update is j kept) update (sym (ap update_asked is)) there);
+          }
+      by_ask ask is change done = absurd change
+
+  -- a commit, a look that finds nothing left, an update in one step, or the end of a weak write, and no other
   answered : (d : CallId) (word : OpWord) (verb : Verb) (k r : Option ℕ) (reply : StepReply) (answer : Answer) (details : Details) → Allowed (last log) (labels.Stepped d word verb k r reply (Some (Done answer)) details) → IsDue (last log) (labels.Stepped d word verb k r reply (Some (Done answer)) details)
       → IsUpdateWord word → IsTakenOn verb k r reply → IsTaken log (labels.Stepped d word verb k r reply (Some (Done answer)) details) d
   answered d word verbs.Commit (Some j) (Some r) words.Ok answer details allowed due asks is = taken d word verbs.Commit j r answer details allowed allowed.own asks (committed_stays (last log) inv history d word j r answer details allowed due)
   answered d word verbs.Apply (Some j) (Some r) words.Ok answer details allowed due asks is = taken d word verbs.Apply j r answer details allowed allowed.own asks (applied_stays (last log) inv history d word j r answer details allowed)
   answered d word verbs.Unmark (Some j) (Some r) words.Ok answer details allowed due asks is = taken d word verbs.Unmark j r answer details allowed allowed.own asks (unmarked_stays (last log) inv history d word j r answer details allowed)
+  answered d word verbs.Look k r words.Done answer details allowed due asks is = looked d word k r answer details allowed asks
   answered d word verb k r reply answer details allowed due asks is = absurd is
 
   acknowledged : (l : Label) → Allowed (last log) l → IsDue (last log) l → (call : CallId) → Acknowledges l call → IsTaken log l call

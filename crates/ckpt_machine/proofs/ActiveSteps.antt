@@ -12,6 +12,7 @@ use Rattle.cluster_record.specs.Places.{put, put2}
 use Rattle.cluster_record.specs.Calls.{same_call}
 use Rattle.cluster_record.specs.RecordState.{entry_of}
 use Rattle.ckpt_machine.specs.Drivers as drivers
+use Rattle.ckpt_machine.specs.Dead.{IsDead}
 use Rattle.ckpt_machine.specs.InHand.{is_marked_by, IsDoneIn, IsInHand}
 use Rattle.ckpt_machine.specs.Invariant.{IsMaker, IsGoodIn, IsOfGeneration, InvariantIn}
 use Rattle.ckpt_machine.specs.Machine.{Machine, ReplicaState, CallState, who}
@@ -23,7 +24,7 @@ use Rattle.ckpt_machine.proofs.Actors.{same_call-refl}
 use Rattle.ckpt_machine.proofs.CallsKept.{IsSameCall, same_call-None, apart_from, calls_left}
 use Rattle.ckpt_machine.proofs.OnComplete.{present_generation, put_complete}
 use Rattle.ckpt_machine.proofs.OptionLemmas.{IsSomeAnd-from}
-use Rattle.ckpt_machine.proofs.Lives.{LivesOn, lives_on-one, lives_on-fewer}
+use Rattle.ckpt_machine.proofs.Lives.{LivesOn, lives_on-one, lives_on-fewer, enters-fewer, enters-one, dead_on}
 use Rattle.ckpt_machine.proofs.OtherCalls.{LooksAlike, LooksLater-refl, making_still, IsInHand-alike, IsIn-apart, IsGoodIn-alike}
 use Rattle.ckpt_machine.specs.Whose.{put_who, same_who}
 use Rattle.ckpt_machine.proofs.Whose.{put_who-cases, put_who-other, apart_states}
@@ -97,7 +98,7 @@ module _ (m : Machine) (shapes : ℕ → Shape) (inv : InvariantIn shapes m) (s 
       ]
 
       hands_left : (b : Who) (z : CallState) → put_who m.in_hand (who s) None b ≡ Some z → IsInHand (record m { in_hand = put_who m.in_hand (who s) None }) shapes b z
-      hands_left b z left = let was = inv.hands b z (was_held b z left) in record { whose = was.whose; client = was.client; number = was.number; built = was.built; driven = was.driven; live = was.live; home = was.home; here = IsIn-apart m shapes m.next m.pending (put_who m.in_hand (who s) None) z (driver_of z) was.here }
+      hands_left b z left = let was = inv.hands b z (was_held b z left) in record { whose = was.whose; client = was.client; number = was.number; built = was.built; driven = was.driven; live = was.live; home = was.home; here = IsIn-apart m shapes m.next m.pending (put_who m.in_hand (who s) None) (dead_on m (record m { in_hand = put_who m.in_hand (who s) None }) (λ d. refl) refl (enters-fewer m (record m { in_hand = put_who m.in_hand (who s) None }) was_held)) z (driver_of z) was.here }
 
       -- whose marks stand is another call
       another : (j : ℕ) (e : Entry) → entry_of j m.cluster.entries ≡ Some e → (marks : Marked) → (shapes j).marks ≡ Some marks → (own : IsMarker m j marks) → same_who (who own.state) (who s) ≡ false
@@ -155,7 +156,6 @@ module _ (m : Machine) (shapes : ℕ → Shape) (inv : InvariantIn shapes m) (s 
       lowest = was.lowest;
       first = λ q p d below there owns own. no_slot p d owns;
       owned = λ q d owns. no_slot q d owns;
-      live = was.live;
       led = λ w same. ap is_some active;
       marked = marked;
       held = λ d is. absurd (let w : Some d ≡ None = sym is ∙ no_hold in cc w);
@@ -165,8 +165,8 @@ module _ (m : Machine) (shapes : ℕ → Shape) (inv : InvariantIn shapes m) (s 
     abbrev pub LeavesMarks : Type 0
     LeavesMarks = (d : CallId) → d ≢ s.call → is_marked_by d marks ≡ is_marked_by d (shapes a.ckpt).marks
 
-    looks_then : LeavesMarks → (z : CallState) → z.call ≢ s.call → LooksAlike m then_machine shapes then_shapes z
-    looks_then leaves z other = record {
+    looks_then : LeavesMarks → ((d : CallId) → IsDead m d → IsDead then_machine d) → (z : CallState) → z.call ≢ s.call → LooksAlike m then_machine shapes then_shapes z
+    looks_then leaves dead z other = record {
       up = λ r up. up;
       lives = refl;
       home = refl;
@@ -182,6 +182,7 @@ module _ (m : Machine) (shapes : ℕ → Shape) (inv : InvariantIn shapes m) (s 
         | true ↦ λ same. leaves z.call other ∙ ap (λ n. is_marked_by z.call (shapes n).marks) (sym (eqb-true j a.ckpt same))
         | false ↦ λ same. refl
       ] refl;
+      dead = λ j f was found. dead;
       done = λ j was. elim (j == a.ckpt) as (λ b. (j == a.ckpt) ≡ b → IsDoneIn (shapes j) z → IsDoneIn (cond b (marked_so (shapes a.ckpt) marks) (shapes j)) z) [
         | true ↦ λ same done. let here = subst (λ n. IsDoneIn (shapes n) z) (eqb-true j a.ckpt same) done in record { free = here.free; under = here.under }
         | false ↦ λ same done. done
@@ -208,12 +209,15 @@ module _ (m : Machine) (shapes : ℕ → Shape) (inv : InvariantIn shapes m) (s 
       calls = calls_left m.in_hand m.pending m.next inv.calls s held o same;
     }
       where
+        dead : (d : CallId) → IsDead m d → IsDead then_machine d
+        dead = dead_on m then_machine (λ d. refl) refl (enters-one m then_machine s held (inv.hands (who s) s held).driven o same (λ z is. (own z is).driven) (λ w. refl))
+
         hands_then : (b : Who) (z : CallState) → put_who m.in_hand (who s) o b ≡ Some z → IsInHand then_machine then_shapes b z
         hands_then b z there = elim (put_who-cases m.in_hand (who s) o b z there) [
           | inl here ↦ subst (λ c. IsInHand then_machine then_shapes c z) (sym here.0) (own z here.1)
           | inr other ↦ (
               let was = inv.hands b z other.1 in
-              IsInHand-alike m then_machine shapes then_shapes z (looks_then leaves z (apart_from m.in_hand m.pending m.next inv.calls s held b z other.1 other.0)) b (λ live. live) was.number was)
+              IsInHand-alike m then_machine shapes then_shapes z (looks_then leaves dead z (apart_from m.in_hand m.pending m.next inv.calls s held b z other.1 other.0)) b (λ live. live) was.number was)
         ]
 
         lives : LivesOn m then_machine

@@ -260,6 +260,8 @@ module _ (log : List Label) (run : IsRun log) (d : CallId) (answer : Answer) (de
     by_verb verbs.Finish j q reply then_is own row = absurd (row_at_ckpt j q _ row.0 (λ k p. no_ask _ p.2.asks))
     by_verb verbs.Undo j q reply then_is own row = absurd (row_at_ckpt j q _ row.0 (λ k p. no_ask _ p.2.asks))
     by_verb verbs.Stage j q reply then_is own row = absurd (at_node j q _ row.0 (λ k r p. no_ask _ p.2))
+    by_verb verbs.Claim j q reply then_is own row = absurd (at_node j q _ row.0 (λ k r p. no_ask _ p.2))
+    by_verb verbs.Withdraw j q reply then_is own row = absurd (at_node j q _ row.0 (λ k r p. no_ask _ p.2))
     by_verb verbs.Commit j q reply then_is own row = absurd (at_node j q _ row (λ k r p. no_ask _ p.2))
     by_verb verbs.Apply j q reply then_is own row = absurd (at_node j q _ row (λ k r p. no_ask _ p.2))
     by_verb verbs.Mark j q reply then_is own row = absurd (at_node j q _ row (λ k r p. no_ask _ p.2))

@@ -7,7 +7,7 @@ use Rattle.cluster_record.specs.Places.{list_or}
 use Rattle.node_core.specs.Nodes.{replica_key, with_reserved}
 use Rattle.replica.specs.Replicas.{Replica, opened_replica}
 use Rattle.ckpt_machine.specs.Nodes.{replica_in, with_added, with_opened}
-use Rattle.ckpt_machine.proofs.OnceByKey.{counted, counted-push}
+use Rattle.node_core.proofs.OnceByKey.{counted, counted-push}
 use Rattle.ckpt_machine.specs.Holding.{replicas_on}
 use Rattle.ckpt_machine.proofs.HoldingLaws.{once_set}
 use Rattle.ckpt_machine.proofs.Reserving.{NoneButThis, reserved_here}

@@ -15,7 +15,7 @@ use Rattle.ckpt_machine.proofs.RunLaws.{run_has}
 use Rattle.ckpt_machine.proofs.Runs.{run_front}
 use Rattle.ckpt_machine.proofs.NodeLists.{FirstComplete, first_complete-is, trichotomy}
 use Rattle.ckpt_machine.proofs.OnAll.{shaped_replicas}
-use Rattle.ckpt_machine.proofs.Stage.{IfSome-more, on_complete}
+use Rattle.ckpt_machine.proofs.OnComplete.{IfSome-more, on_complete}
 
 module _ (m : Machine) (k : ℕ) (z : Shape) (e : Entry) (found : entry_of k m.cluster.entries ≡ Some e) (spread : IsSpread m k z e) (all : is_all e.attributes ≡ true) where
   -- where the lowest has no slot, none has

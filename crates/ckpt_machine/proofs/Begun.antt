@@ -26,6 +26,7 @@ use Rattle.ckpt_types.specs.Asks.{asked, IsBuilt}
 use Rattle.ckpt_types.specs.Asks as asks
 use Rattle.ckpt_machine.specs.Drivers as drivers
 use Rattle.ckpt_machine.specs.Entries.{WasMade}
+use Rattle.ckpt_machine.specs.Dead.{IsDead}
 use Rattle.ckpt_machine.specs.InHand.{is_enter, IsInPlace, IsInHand, IsUpdateIn}
 use Rattle.ckpt_machine.specs.Invariant.{AreCalls, IsGoodClient, IsGoodIn, InvariantIn}
 use Rattle.ckpt_machine.specs.Machine.{Machine, CallState, who}
@@ -37,7 +38,7 @@ use Rattle.ckpt_machine.specs.Due.{driver_of, IsDriven, kept_at_beginning, decla
 use Rattle.ckpt_machine.specs.Whose.{put_who}
 use Rattle.ckpt_machine.proofs.Actors.{same_actor-true}
 use Rattle.ckpt_machine.proofs.NodeLists.{has-none}
-use Rattle.ckpt_machine.proofs.Lives.{LivesOn, owner_in}
+use Rattle.ckpt_machine.proofs.Lives.{LivesOn}
 use Rattle.ckpt_machine.proofs.OtherCalls.{IsIn-apart, IsGoodIn-apart}
 use Rattle.ckpt_machine.proofs.Owning.{is_owner-true}
 use Rattle.ckpt_machine.proofs.ByActor.{put_actor-here}
@@ -141,6 +142,16 @@ module _ (m : Machine) (shapes : ℕ → Shape) (inv : InvariantIn shapes m) (ca
       stays : (z : CallState) → m.in_hand (who z) ≡ Some z → put_who m.in_hand w o (who z) ≡ m.in_hand (who z)
       stays z held = put_who-other m.in_hand w o (who z) (held_by_other m.in_hand w idle (who z) z held)
 
+      dead : (d : CallId) → IsDead m d → IsDead (then_machine w pending o) d
+      dead d was = record {
+        begun = next_rises d.actor d.number was.begun;
+        gone = was.gone;
+        before = λ v z at actor enter. elim (put_who-cases m.in_hand w o v z at) [
+          | inl here ↦ begun_higher d z (own z here.1).call_is was.begun actor
+          | inr other ↦ was.before v z other.1 actor enter
+        ];
+      }
+
       hands_then : (v : Who) (z : CallState) → put_who m.in_hand w o v ≡ Some z → IsInHand (then_machine w pending o) shapes v z
       hands_then v z there = elim (put_who-cases m.in_hand w o v z there) [
         | inl here ↦ (let mine = own z here.1 in record {
@@ -151,21 +162,14 @@ module _ (m : Machine) (shapes : ℕ → Shape) (inv : InvariantIn shapes m) (ca
           driven = mine.driven;
           live = mine.live;
           home = mine.home;
-          here = IsIn-apart m shapes then_next pending (put_who m.in_hand w o) z (driver_of z) mine.at;
+          here = IsIn-apart m shapes then_next pending (put_who m.in_hand w o) dead z (driver_of z) mine.at;
         })
-        | inr other ↦ (let was = inv.hands v z other.1 in record { whose = was.whose; client = was.client; number = next_rises z.call.actor z.call.number was.number; built = was.built; driven = was.driven; live = was.live; home = was.home; here = IsIn-apart m shapes then_next pending (put_who m.in_hand w o) z (driver_of z) was.here })
+        | inr other ↦ (let was = inv.hands v z other.1 in record { whose = was.whose; client = was.client; number = next_rises z.call.actor z.call.number was.number; built = was.built; driven = was.driven; live = was.live; home = was.home; here = IsIn-apart m shapes then_next pending (put_who m.in_hand w o) dead z (driver_of z) was.here })
       ]
 
       lives : LivesOn m (then_machine w pending o)
       lives = record {
-        dead = λ d dead. record {
-          begun = next_rises d.actor d.number dead.begun;
-          gone = dead.gone;
-          before = λ v z at actor enter. elim (put_who-cases m.in_hand w o v z at) [
-            | inl here ↦ begun_higher d z (own z here.1).call_is dead.begun actor
-            | inr other ↦ dead.before v z other.1 actor enter
-          ];
-        };
+        dead = dead;
         owners = λ k sh d own. ap (is_live m.cluster) (sym own.call_is) ∙ (hands_then (who own.state) own.state own.in_hand).live (ap is_enter own.driver_is);
         up = λ r there. refl;
       }
@@ -187,8 +191,10 @@ module _ (m : Machine) (shapes : ℕ → Shape) (inv : InvariantIn shapes m) (ca
       by_test true owns =
           let good : IsSpread m k (shapes k) e = subst (IsGoodIn m k (shapes k) e) none (inv.entries k e found) in
           let owner = is_owner-true call ((shapes k).owners r) owns in
-          let own = owner_in m k (shapes k) call (good.owned r call owner) (good.live refl r call owner) in
-          absurd (is_new (who own.state) own.state own.in_hand own.call_is)
+          absurd (elim (good.owned r call owner) [
+            | inl own ↦ is_new (who own.state) own.state own.in_hand own.call_is
+            | inr dead ↦ (let below : call.number < m.next call.actor = dead.0.begun in let next : call.number ≡ m.next call.actor = number in omega (arith, below, next))
+          ])
 
   all_there : (o : Option Entry) → if_declared is_all (declared_in o) ≡ true → IfSome o (λ e. is_all e.attributes ≡ true)
   all_there None all = tt
@@ -209,5 +215,4 @@ module _ (m : Machine) (shapes : ℕ → Shape) (inv : InvariantIn shapes m) (ca
     owns = λ e found r there. ap (has (slice_index e.complete r)) (slice_index-replicate 8 r) ∙ has-none (slice_index e.complete r) there
         ∙ sym (owns_nothing h.id e r found (subst (λ o. IfSome o (λ (e : Entry). e.making ≡ None)) found made.made));
     keeps = λ e found. tt;
-    some = λ none e found. tt;
   }

@@ -8,7 +8,7 @@ use Rattle.ckpt_types.specs.declared.identities.CallId.{CallId}
 use Rattle.ckpt_types.specs.Asks.{Ask, asked}
 use Rattle.ckpt_types.specs.Asks as asks
 use Rattle.node_msgs.specs.declared.requests.Request.{Request}
-use Rattle.node_msgs.specs.declared.requests.Request.TheVariants.{Stage, Commit, Mark, Element, Unmark}
+use Rattle.node_msgs.specs.declared.requests.Request.TheVariants.{Stage, Commit, Mark, Element, Unmark, Claim}
 use Rattle.node_msgs.specs.declared.next.Next.{Next}
 use Rattle.node_msgs.specs.declared.next.Next.TheVariants.{Serve, Event, End}
 use Rattle.node_msgs.specs.declared.steps.Verb.{Verb}
@@ -30,6 +30,7 @@ use Rattle.ckpt_machine.proofs.NextOf.{OfAsked, next_of}
 abbrev pub IsOwn : CallId → Request → Type 0
 IsOwn c (Stage call k t) = call ≡ c
 IsOwn c (Commit call k) = call ≡ c
+IsOwn c (Claim call k owner) = call ≡ c
 IsOwn c (Mark call k) = call ≡ c
 IsOwn c (Element call k) = call ≡ c
 IsOwn c (Unmark call k) = call ≡ c
@@ -49,7 +50,14 @@ Of c driver = Unit {0}
 
 taken_call : (d : StepDone) (u : UpdateState) (verb : Verb) (reply : StepReply) → (update_taken_by (record d { reply = reply }) u verb).call ≡ u.call
 taken_call d u verbs.Stage words.Ok = refl
+taken_call d u verbs.Stage (words.Held by) = refl
 taken_call d u verbs.Stage reply = refl
+taken_call d u verbs.Claim words.Ok = refl
+taken_call d u verbs.Claim (words.Held by) = refl
+taken_call d u verbs.Claim (words.Free count) = refl
+taken_call d u verbs.Claim reply = refl
+taken_call d u verbs.Withdraw words.Ok = refl
+taken_call d u verbs.Withdraw reply = refl
 taken_call d u verbs.Commit words.Ok = refl
 taken_call d u verbs.Commit reply = refl
 taken_call d u verb reply = refl
@@ -105,7 +113,7 @@ own_kind call k (kinds.Iterate choice) marks = tt
 own_kind call k kinds.Next marks = tt
 
 own_asked : (c : CallId) (x : Driver) → Of c x → OfAsked (Asks c) x
-own_asked c (drivers.Update u) is = (λ r t. is, λ r. is)
+own_asked c (drivers.Update u) is = (λ r t. is, λ r. is, λ r. is, λ r. tt)
 own_asked c (drivers.Active a) is = λ r. subst (λ d. IsOwn d (active_request a)) is (own_kind a.call a.ckpt a.kind a.marks)
 own_asked c (drivers.Sync u) is = (λ r. tt, λ r. tt, λ r. tt, λ r. tt)
 own_asked c x is = tt

@@ -148,6 +148,8 @@ module _ (m : Machine) (inv : Invariant m) (t : CallState) (w : Who) (s : CallSt
   changed_either verbs.Unlink k r reply = inl (at_entry reply k _ (λ k. held))
   changed_either verbs.Retain k r reply = inl (at_entry reply k _ (λ k. held))
   changed_either verbs.Stage k r reply = inl (at_one reply k r _)
+  changed_either verbs.Claim k r reply = inl (at_one reply k r _)
+  changed_either verbs.Withdraw k r reply = inl (at_one reply k r _)
   changed_either verbs.Commit k r reply = inl (at_one reply k r _)
   changed_either verbs.Apply k r reply = inl (at_one reply k r _)
   changed_either verbs.Mark k r reply = inl (at_one reply k r _)
@@ -233,9 +235,9 @@ module _ (m : Machine) (inv : Invariant m) (w : Who) (s : CallState) (held : m.i
 
   -- where a node fails
   failed_on : (r : ℕ) → GoesOn (labels.Failed r true)
-  failed_on r = by_test (is_abandoned m.cluster r s) refl
+  failed_on r = by_test (is_abandoned m.cluster r s.call s.op) refl
     where
-      by_test : (b : Bool) → is_abandoned m.cluster r s ≡ b → GoesOn (labels.Failed r true)
+      by_test : (b : Bool) → is_abandoned m.cluster r s.call s.op ≡ b → GoesOn (labels.Failed r true)
       by_test true abandoned = inr (failure abandoned)
       by_test false stays = inl (still (after m (labels.Failed r true)) (ap (unless_abandoned m.cluster r) held ∙ ap (λ b. cond b None (Some s)) stays))
 

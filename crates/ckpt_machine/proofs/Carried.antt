@@ -11,11 +11,9 @@ use Rattle.node_core.specs.Payloads.{Payload}
 use Rattle.node_core.specs.Seen.{RecordSeen}
 use Rattle.node_core.specs.Serving.{reply_at, details_at, replica_after, stage_reply, apply_reply, applied_id, told_id, mark_reply, done_or_refused, read_details, next_reply, next_details, generation_seen, install_reply, installed_of}
 
--- the request goes to a replica, and is one of a call that is built
+-- the request goes to a replica
 abbrev pub GoesToReplica : Request → Type 0
 GoesToReplica (requests.Reserve k) = ⊥
-GoesToReplica (requests.Claim call k owner) = ⊥
-GoesToReplica (requests.Withdraw call k) = ⊥
 GoesToReplica request = Unit {0}
 
 pub reserves_none : (request : Request) → GoesToReplica request → (k : ℕ) → request ≢ requests.Reserve k

@@ -71,6 +71,8 @@ module _ (P : (Who → Option CallState) → (ActorName → PendingCalls) → Ty
     changed_holds s verbs.Unlink k r reply = at_entry reply k _ (λ k. here)
     changed_holds s verbs.Retain k r reply = at_entry reply k _ (λ k. here)
     changed_holds s verbs.Stage k r reply = at_one reply k r _
+    changed_holds s verbs.Claim k r reply = at_one reply k r _
+    changed_holds s verbs.Withdraw k r reply = at_one reply k r _
     changed_holds s verbs.Commit k r reply = at_one reply k r _
     changed_holds s verbs.Apply k r reply = at_one reply k r _
     changed_holds s verbs.Mark k r reply = at_one reply k r _

@@ -19,7 +19,7 @@ use Rattle.ckpt_machine.specs.After.{with_tables}
 use Rattle.ckpt_machine.specs.Tables.{handle_asked}
 use Rattle.ckpt_machine.specs.Shape.{Shape}
 use Rattle.ckpt_machine.proofs.Actors.{same_actor-true}
-use Rattle.ckpt_machine.proofs.Lives.{LivesOn, lives_on-fewer}
+use Rattle.ckpt_machine.proofs.Lives.{LivesOn, lives_on-fewer, enters-fewer, dead_on}
 use Rattle.ckpt_machine.proofs.OtherCalls.{LooksAlike, LooksLater-refl, making_still, IsInHand-alike, IsGoodIn-alike}
 use Rattle.ckpt_machine.proofs.Whose.{stepped_as-plain}
 
@@ -57,6 +57,7 @@ module _ (m : Machine) (shapes : ℕ → Shape) (inv : InvariantIn shapes m) (a 
     later = λ k was e found. (e, found, LooksLater-refl z (shapes k).marks e);
     owners = λ k was r. refl;
     marks = λ k was. refl;
+    dead = λ k f was found. dead_on m then_machine (λ d. refl) refl (enters-fewer m then_machine (λ w z held. held));
     done = λ k was done. done;
   }
     where

@@ -25,13 +25,13 @@ use Rattle.replica.specs.declared.replica.Older.{Older}
 use Rattle.replica.specs.Replicas.{Replica, install_answer, outcome_on, pulled_unless, pulled_from}
 use Rattle.node_core.specs.Payloads.{Payload}
 use Rattle.node_core.specs.Seen.{RecordSeen}
-use Rattle.node_core.specs.Serving.{reply_of, reply_unless, done_or_refused, update_answer, commit_answer, next_reply, pull_reply, install_reply, older_reply, generation_seen, snapshot_after, snapshot_behind}
+use Rattle.node_core.specs.Serving.{reply_of, claim_reply, may_claim, reply_unless, done_or_refused, update_answer, commit_answer, next_reply, pull_reply, install_reply, older_reply, generation_seen, snapshot_after, snapshot_behind}
 use Rattle.ckpt_machine.specs.Machine.{Machine, Effect, ReplicaState, Snapshot, CallState}
 use Rattle.ckpt_machine.specs.Propagation.{copied}
 use Rattle.ckpt_machine.specs.After.{pulled_by}
 use Rattle.ckpt_machine.specs.Due.{counted_at, count_in}
 use Rattle.ckpt_machine.specs.Seen.{seen_snapshot}
-use Rattle.ckpt_machine.specs.Shown.{shown_replica, shown_copy, FitsReplica, FitsSnapshot, FitsCopy, IsRoomToCopy}
+use Rattle.ckpt_machine.specs.Shown.{shown_replica, shown_copy, FitsReplica, FitsSlot, FitsSnapshot, FitsCopy, IsRoomToCopy}
 use Rattle.ckpt_machine.proofs.Carried.{GoesToReplica}
 use Rattle.ckpt_machine.proofs.RequestRows.{effects_in}
 use Rattle.ckpt_machine.specs.Tables.{takes_copy}
@@ -81,24 +81,29 @@ none_of_install present (Some s) x = by_generation (s.generation == present) whe
   by_generation true = by_older (install_answer x s)
   by_generation false = refl
 
--- the count that a replica's answer tells is that of its updates where it was pulled, and else none
-pub counts_told : (m : Machine) (r : ℕ) (E : List Effect) (o : CallId) (x : Replica) (request : Request) (p : Payload) (seen : RecordSeen) → GoesToReplica request → m.replicas (ckpt_of request) r ≡ shown_replica E o (Some x) → length E ≡ x.count →
+-- the count that a replica's answer tells is that of its updates where it was pulled or its slot claimed, and else none
+pub counts_told : (m : Machine) (r : ℕ) (E : List Effect) (o : CallId) (x : Replica) (request : Request) (p : Payload) (seen : RecordSeen) → GoesToReplica request → m.replicas (ckpt_of request) r ≡ shown_replica E o (Some x) → length E ≡ x.count → FitsSlot x.count x.marks x.slot →
     counted_at m (verb_of request) (Some (ckpt_of request)) (Some r) (word_of (reply_of request p seen x)) ≡ count_told (reply_of request p seen x)
-counts_told m r E o x (requests.Reserve k) p seen goes is count = absurd goes
-counts_told m r E o x (requests.Claim call k owner) p seen goes is count = absurd goes
-counts_told m r E o x (requests.Withdraw call k) p seen goes is count = absurd goes
-counts_told m r E o x (requests.Pull call k) p seen goes is count = by_marks (call_of x.marks) where
+counts_told m r E o x (requests.Reserve k) p seen goes is count fits = absurd goes
+counts_told m r E o x (requests.Claim call k owner) p seen goes is count fits = by_slot x.slot fits where
+  by_slot : (q : Option Slot) → FitsSlot x.count x.marks q → counted_at m (verb_of (requests.Claim call k owner)) (Some k) (Some r) (word_of (claim_reply call owner x.count q)) ≡ count_told (claim_reply call owner x.count q)
+  by_slot None fits = refl
+  by_slot (Some slot) fits = by_test (may_claim call owner slot) where
+    by_test : (b : Bool) → counted_at m (verb_of (requests.Claim call k owner)) (Some k) (Some r) (word_of (cond b (replies.Claimed slot.count) (replies.Held slot.owner))) ≡ count_told (cond b (replies.Claimed slot.count) (replies.Held slot.owner))
+    by_test true = ap count_in is ∙ count ∙ sym fits.0
+    by_test false = refl
+counts_told m r E o x (requests.Pull call k) p seen goes is count fits = by_marks (call_of x.marks) where
   by_marks : (holder : Option CallId) → counted_at m (verb_of (requests.Pull call k)) (Some k) (Some r) (word_of (pull_reply holder x.count)) ≡ count_told (pull_reply holder x.count)
   by_marks (Some by) = refl
   by_marks None = ap count_in is ∙ count
-counts_told m r E o x (requests.Stage call k t) p seen goes is count = sym (none_unless (owner_of x.slot) (replies.Done answers.Nothing) (outcome_on x p.update t) refl)
-counts_told m r E o x (requests.Commit call k) p seen goes is count = sym (none_of_commit x.slot)
-counts_told m r E o x (requests.Apply call k) p seen goes is count = sym (none_unless (call_of x.marks) (replies.Done (update_answer p.update)) (outcome_on x p.update seen.moment) (none_of_update p.update))
-counts_told m r E o x (requests.Mark call k) p seen goes is count = sym (none_unless (call_of x.marks) (replies.Done answers.Nothing) (outcome_on x p.update seen.moment) refl)
-counts_told m r E o x (requests.Read k) p seen goes is count = sym (none_by_result (replies.Done answers.Pieces) (read p.elements seen.moment x.sections) refl)
-counts_told m r E o x (requests.Next call k) p seen goes is count = sym (none_of_next (given p.ids seen.moment x.sections))
-counts_told m r E o x (requests.Install call k) p seen goes is count = sym (none_of_install (generation_seen seen.entry) p.snapshot x)
-counts_told m r E o x request p seen goes is count = refl
+counts_told m r E o x (requests.Stage call k t) p seen goes is count fits = sym (none_unless (owner_of x.slot) (replies.Done answers.Nothing) (outcome_on x p.update t) refl)
+counts_told m r E o x (requests.Commit call k) p seen goes is count fits = sym (none_of_commit x.slot)
+counts_told m r E o x (requests.Apply call k) p seen goes is count fits = sym (none_unless (call_of x.marks) (replies.Done (update_answer p.update)) (outcome_on x p.update seen.moment) (none_of_update p.update))
+counts_told m r E o x (requests.Mark call k) p seen goes is count fits = sym (none_unless (call_of x.marks) (replies.Done answers.Nothing) (outcome_on x p.update seen.moment) refl)
+counts_told m r E o x (requests.Read k) p seen goes is count fits = sym (none_by_result (replies.Done answers.Pieces) (read p.elements seen.moment x.sections) refl)
+counts_told m r E o x (requests.Next call k) p seen goes is count fits = sym (none_of_next (given p.ids seen.moment x.sections))
+counts_told m r E o x (requests.Install call k) p seen goes is count fits = sym (none_of_install (generation_seen seen.entry) p.snapshot x)
+counts_told m r E o x request p seen goes is count fits = refl
 
 -- ---- the copy
 

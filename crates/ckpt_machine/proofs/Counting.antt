@@ -588,6 +588,8 @@ module _ (m : Machine) (n : ℕ) (rises : IdentitiesRise m.cluster.entries) (up_
   changed_counts verbs.Unlink k r reply = ok_on m n counts reply _ (some_on m n counts k _ (λ k. entry_changed k unnamed (λ e. refl) (λ e. OneMore-fewer e (unnamed e) (λ c. omega arith) refl)))
   changed_counts verbs.Retain k r reply = ok_on m n counts reply _ (some_on m n counts k _ (λ k. on_step m n counts (retained_for (asked s.op) k) (retained_for_on m.cluster rises up_to (asked s.op) k)))
   changed_counts verbs.Stage k r reply = ok_on m n counts reply _ (both_on m n counts k r _ (λ k r. replica_on m n counts k r (m.replicas k r) refl _ (λ x. omega arith)))
+  changed_counts verbs.Claim k r reply = ok_on m n counts reply _ (both_on m n counts k r _ (λ k r. replica_on m n counts k r (m.replicas k r) refl _ (λ x. omega arith)))
+  changed_counts verbs.Withdraw k r reply = ok_on m n counts reply _ (both_on m n counts k r _ (λ k r. replica_on m n counts k r (m.replicas k r) refl _ (λ x. omega arith)))
   changed_counts verbs.Commit k r reply = ok_on m n counts reply _ (both_on m n counts k r _ (λ k r. replica_on m n counts k r (m.replicas k r) refl _ (committed_few (entry_of k m.cluster.entries))))
   changed_counts verbs.Apply k r reply = ok_on m n counts reply _ (both_on m n counts k r _ (λ k r. replica_on m n counts k r (m.replicas k r) refl _ (applied_few (entry_of k m.cluster.entries) s.call (update_of s.op) m.cluster.moment)))
   changed_counts verbs.Mark k r reply = ok_on m n counts reply _ (both_on m n counts k r _ (λ k r. replica_on m n counts k r (m.replicas k r) refl (with_marks s.call (update_of s.op) m.cluster.moment) (λ x. omega arith)))
@@ -671,15 +673,15 @@ module _ (m : Machine) (n : ℕ) (inv : Invariant m) (few : Counts m n) (r : ℕ
     last_iterations = λ a. tables_count (λ t. t.last_iteration ≤ n + 1) a (omega (arith, few.last_iterations a)) (omega (arith, few.last_iterations a));
     effects = effects_count;
     snapshots = λ k s is. omega (arith, few.snapshots k s (snapshot_under-Some (entry_of k R.entries) (m.snapshots k) s is));
-    copies = λ w s x held is. omega (arith, few.copies w s x (left_was_in_hand false m inv.shapes inv.holds r w s held).0 is);
+    copies = λ w s x held is. omega (arith, few.copies w s x (left_was_in_hand m inv.shapes inv.holds r w s held).0 is);
     identity = omega (arith, few.identity);
     generations = λ k f found. (
-        let it = was_entry false m inv.shapes inv.holds r k f found in
+        let it = was_entry m inv.shapes inv.holds r k f found in
         let a = failed_at_most (λ q. count_in (m.replicas it.e.identity q)) (goes_with_node m.cluster r) r it.e f it.left in
         let b = few.generations k it.e it.was in
         omega (arith, a, b));
     references = λ k f c found. (
-        let it = was_entry false m inv.shapes inv.holds r k f found in
+        let it = was_entry m inv.shapes inv.holds r k f found in
         let a = it.left.fewer c in
         let b = few.references k it.e c it.was in
         omega (arith, a, b));

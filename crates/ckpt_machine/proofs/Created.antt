@@ -24,15 +24,16 @@ use Rattle.cluster_record.proofs.IdentityLaws.{entry_of-beyond, AllUpTo-push, Id
 use Rattle.ckpt_types.specs.Asks.{asked}
 use Rattle.ckpt_machine.specs.Drivers as drivers
 use Rattle.ckpt_machine.specs.Entries.{WasMade}
+use Rattle.ckpt_machine.specs.Dead.{IsDead}
 use Rattle.ckpt_machine.specs.InHand.{attributes_asked, IsMakingIn, IsInHand}
 use Rattle.ckpt_machine.specs.Invariant.{IsMaker, IsGoodIn, IsOfGeneration, InvariantIn}
 use Rattle.ckpt_machine.specs.Machine.{Machine, CallState, who}
 use Rattle.ckpt_machine.specs.After.{with_record, replica_under, reservation_under, opened_state}
-use Rattle.ckpt_machine.specs.Due.{driver_of}
+use Rattle.ckpt_machine.specs.Due.{IsDriven, driver_of}
 use Rattle.ckpt_machine.specs.Shape.{Shape, IsCompleteOn}
 use Rattle.ckpt_machine.proofs.EntryLists.{entry_of-given, find_key-push, AllStay-push}
 use Rattle.ckpt_machine.proofs.Handles.{IsGoodHandle-later}
-use Rattle.ckpt_machine.proofs.Lives.{LivesOn, lives_on-one}
+use Rattle.ckpt_machine.proofs.Lives.{LivesOn, lives_on-one, enters-one, dead_on}
 use Rattle.ckpt_machine.proofs.OtherCalls.{LooksAlike, LooksLater-refl, making_still, IsInHand-alike, IsGoodIn-alike}
 use Rattle.ckpt_machine.proofs.OptionLemmas.{IsSomeAnd-at, IsSomeAnd-from}
 use Rattle.ckpt_machine.proofs.OnComplete.{under_complete}
@@ -147,8 +148,8 @@ module _ (m : Machine) (shapes : ℕ → Shape) (inv : InvariantIn shapes m) (s 
         }
 
     -- all that it looks at is as it was
-    looks_then : LooksAlike m then_machine shapes shapes z
-    looks_then = record {
+    looks_then : ((d : CallId) → IsDead m d → IsDead then_machine d) → LooksAlike m then_machine shapes shapes z
+    looks_then dead = record {
       up = λ r up. up;
       lives = refl;
       home = refl;
@@ -158,6 +159,7 @@ module _ (m : Machine) (shapes : ℕ → Shape) (inv : InvariantIn shapes m) (s 
       later = λ j was e found. (e, sym (entry_other j (given_apart j was.given)) ∙ found, LooksLater-refl z (shapes j).marks e);
       owners = λ j was r. refl;
       marks = λ j was. refl;
+      dead = λ j f was found. dead;
       done = λ j was done. done;
     }
 
@@ -205,10 +207,13 @@ module _ (m : Machine) (shapes : ℕ → Shape) (inv : InvariantIn shapes m) (s 
     calls = calls_left m.in_hand m.pending m.next inv.calls s held (Some w) (same_call-Some s w call_is op_is);
   }
     where
+      dead : (d : CallId) → IsDead m d → IsDead then_machine d
+      dead = dead_on m then_machine (λ d. refl) refl (enters-one m then_machine s held (inv.hands (who s) s held).driven (Some w) (same_call-Some s w call_is op_is) (λ z is. subst IsDriven (same_Some w z is) own.driven) (λ b. refl))
+
       hands_then : (b : Who) (z : CallState) → put_who m.in_hand (who s) (Some w) b ≡ Some z → IsInHand then_machine shapes b z
       hands_then b z there = elim (put_who-cases m.in_hand (who s) (Some w) b z there) [
         | inl here ↦ subst (λ c. IsInHand then_machine shapes c z) (sym here.0) (subst (IsInHand then_machine shapes (who s)) (same_Some w z here.1) own)
-        | inr other ↦ (let was = inv.hands b z other.1 in IsInHand-alike m then_machine shapes shapes z (looks_then z) b (λ live. live) was.number was)
+        | inr other ↦ (let was = inv.hands b z other.1 in IsInHand-alike m then_machine shapes shapes z (looks_then z dead) b (λ live. live) was.number was)
       ]
 
       lives : LivesOn m then_machine

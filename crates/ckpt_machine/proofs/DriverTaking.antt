@@ -22,7 +22,7 @@ use Rattle.cluster_record.specs.declared.calls.Making.{Making}
 use Rattle.cluster_record.specs.declared.calls.MarksMade.{MarksMade}
 use Rattle.cluster_record.specs.declared.calls.PulledAt.{PulledAt}
 use Rattle.cluster_record.specs.declared.calls.UpdatePhase.{UpdatePhase}
-use Rattle.cluster_record.specs.declared.calls.UpdatePhase.TheVariants.{Staging, Committing}
+use Rattle.cluster_record.specs.declared.calls.UpdatePhase.TheVariants.{Committing}
 use Rattle.cluster_record.specs.declared.entries.Entry.{Entry}
 use Rattle.cluster_record.specs.DueActive.{ActiveState, active_end, active_next, active_on, active_request, is_update, marks_taken, on_active, starts_iteration, unless_changed, unless_on_hold}
 use Rattle.cluster_record.specs.DueOnce.{OneStep, once_next, close_of, unlink_of_making, unlink_of, retain_of}
@@ -56,7 +56,7 @@ module _ (op : Op) (d : StepDone) where
 
       by_phase : (phase : UpdatePhase) (last : Option ℕ) → option_map (index_told op) (commit_end phase answer last) ≡ commit_end phase answer last
       by_phase Committing last = by_last last
-      by_phase Staging last = refl
+      by_phase phase last = refl
 
       by_verb : (verb : Verb) → option_map (index_told op) (done_end_by d answer u verb) ≡ done_end_by d answer u verb
       by_verb verbs.Commit = by_phase u.phase (last_having 0 d.complete u.owned)

@@ -12,7 +12,7 @@ use Rattle.ckpt_machine.specs.Machine.{Machine, CallState, who}
 use Rattle.ckpt_machine.specs.Shape.{Shape, IsOwner, IsMarker, IsHolder}
 use Rattle.ckpt_machine.specs.Due.{driver_of}
 use Rattle.ckpt_machine.proofs.FewerCalls.{calls_fewer}
-use Rattle.ckpt_machine.proofs.Lives.{lives_on-fewer}
+use Rattle.ckpt_machine.proofs.Lives.{lives_on-fewer, enters-fewer, dead_on}
 use Rattle.ckpt_machine.proofs.OtherCalls.{IsIn-apart, IsGoodIn-apart}
 use Rattle.ckpt_machine.proofs.PlainCalls.{is_plain, is_plain_sync}
 
@@ -48,7 +48,7 @@ module _ (m : Machine) (shapes : ℕ → Shape) (inv : InvariantIn shapes m) whe
     maker_stays k d own = stays (who own.state) own.state own.in_hand (ap (λ d. is_plain d own.state.snapshot) own.driver_is ∙ ap (λ w. not (is_some w)) own.making_is)
 
     hands_left : (w : Who) (z : CallState) → (without_those gone m).in_hand w ≡ Some z → IsInHand (without_those gone m) shapes w z
-    hands_left w z left = let was = inv.hands w z (left_in gone m w z left).1 in record { whose = was.whose; client = was.client; number = was.number; built = was.built; driven = was.driven; live = was.live; home = was.home; here = IsIn-apart m shapes m.next m.pending (without_those gone m).in_hand z (driver_of z) was.here }
+    hands_left w z left = let was = inv.hands w z (left_in gone m w z left).1 in record { whose = was.whose; client = was.client; number = was.number; built = was.built; driven = was.driven; live = was.live; home = was.home; here = IsIn-apart m shapes m.next m.pending (without_those gone m).in_hand (dead_on m (without_those gone m) (λ d. refl) refl (enters-fewer m (without_those gone m) (λ w z left. (left_in gone m w z left).1))) z (driver_of z) was.here }
 
     pub dropped_keeps : InvariantIn shapes (without_those gone m)
     dropped_keeps = record {
@@ -72,7 +72,7 @@ module _ (m : Machine) (shapes : ℕ → Shape) (inv : InvariantIn shapes m) whe
   -- ---- others are not dispatched
 
   hands_still : (pending : ActorName → PendingCalls) (w : Who) (z : CallState) → m.in_hand w ≡ Some z → IsInHand (record m { pending = pending }) shapes w z
-  hands_still pending w z held = let was = inv.hands w z held in record { whose = was.whose; client = was.client; number = was.number; built = was.built; driven = was.driven; live = was.live; home = was.home; here = IsIn-apart m shapes m.next pending m.in_hand z (driver_of z) was.here }
+  hands_still pending w z held = let was = inv.hands w z held in record { whose = was.whose; client = was.client; number = was.number; built = was.built; driven = was.driven; live = was.live; home = was.home; here = IsIn-apart m shapes m.next pending m.in_hand (dead_on m (record m { pending = pending }) (λ d. refl) refl (enters-fewer m (record m { pending = pending }) (λ w z held. held))) z (driver_of z) was.here }
 
   pub pending_keeps : (pending : ActorName → PendingCalls) → AreCalls m.in_hand pending m.next → InvariantIn shapes (record m { pending = pending })
   pending_keeps pending calls = record {

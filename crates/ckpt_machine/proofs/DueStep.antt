@@ -23,4 +23,4 @@ pub record Moves (m : Machine) (s : CallState) (t : Told) : Type 0 where
 pub record Goes (m : Machine) (s : CallState) (d : Driver) (t : Told) : Type 0 where
   pub row : Row m s t.verb t
   pub holds : Invariant (after_step m s t)
-  pub nearer : t.end ≡ None → steps_left (after_step m s t).cluster (driver_taken (counting (counted_at m t.verb t.ckpt t.node t.reply) (done_of (after_step m s t).cluster t.verb t.ckpt t.node t.reply)) d) < steps_left m.cluster d
+  pub nearer : t.end ≡ None → let n = after_step m s t in steps_left n.cluster n.replicas (driver_taken (counting (counted_at m t.verb t.ckpt t.node t.reply) (done_of n.cluster t.verb t.ckpt t.node t.reply)) d) < steps_left m.cluster m.replicas d

@@ -17,12 +17,12 @@ use Rattle.ckpt_machine.specs.Owned.{HasEffect}
 use Rattle.ckpt_machine.specs.Propagation.{copied, replica_from}
 use Rattle.ckpt_machine.specs.Replays.{IsPrefix}
 use Rattle.ckpt_machine.specs.Shape.{IsCompleteOn}
-use Rattle.ckpt_machine.specs.After.{with_slot, with_marks, with_lead, having_taken, committed_slot, next_element_written, marks_ended, opened_state, snapshot_under, staged_moment}
+use Rattle.ckpt_machine.specs.After.{with_slot, with_marks, with_lead, having_taken, committed_slot, next_element_written, marks_ended, opened_state, snapshot_under, staged_moment, with_claim, without_slot}
 use Rattle.ckpt_machine.proofs.Copying.{IsSource, IsOfSource}
 use Rattle.ckpt_machine.proofs.EntryLists.{entry_of-given, find_key-key}
 use Rattle.ckpt_machine.proofs.Follows.{snapshot_was}
 use Rattle.ckpt_machine.proofs.Histories.{HasHistory}
-use Rattle.ckpt_machine.proofs.OneReplica.{StepsOn, DeclaresAll, IsActiveOf, CanBeMarked, IsMarkedFor}
+use Rattle.ckpt_machine.proofs.OneReplica.{StepsWhen, DeclaresAll, IsActiveOf, CanBeMarked, IsMarkedFor}
 use Rattle.ckpt_machine.proofs.OptionLemmas.{IsSomeAnd-at, IsSomeAnd-from, IfSome-from, IfSome-at}
 use Rattle.ckpt_machine.proofs.PulledInHand.{PulledInHand}
 use Rattle.ckpt_machine.proofs.ShapedReplicas.{made_where_complete}
@@ -43,6 +43,15 @@ pub record IsAhead (k : ℕ) (collocated : Bool) (g : ℕ) (replicas : ℕ → �
   pub snapshot : (s : Snapshot) → snapshots k ≡ Some s → s.generation ≡ g → IsPrefix s.effects y.effects
   pub in_hand : (s : Snapshot) → PulledInHand hands k s → s.generation ≡ g → IsPrefix s.effects y.effects
 
+-- nothing is staged on a replica that takes over what was held
+abbrev pub IsFreeFor : Option Snapshot → ReplicaState → Type 0
+IsFreeFor None x = Unit {0}
+IsFreeFor (Some s) x = x.slot ≡ None
+
+pub is_free-for : (o : Option Snapshot) (x : ReplicaState) → x.slot ≡ None → IsFreeFor o x
+is_free-for None x free = tt
+is_free-for (Some s) x free = free
+
 -- ---- what is kept
 
 module _ (Q : Option Entry → ℕ → ReplicaState → Type 0) (S : Entry → Snapshot → Type 0) where
@@ -53,22 +62,28 @@ module _ (Q : Option Entry → ℕ → ReplicaState → Type 0) (S : Entry → S
     pub in_hand : (k : ℕ) (s : Snapshot) → PulledInHand hands k s → (k ≤ last) × IfSome (entry_of k entries) (λ e. IsOfSource e s × S e s)
     pub ahead : (k r : ℕ) (e : Entry) (y : ReplicaState) → entry_of k entries ≡ Some e → is_all e.attributes ≡ false → e.active ≡ Some r → replicas k r ≡ Some y → IsAhead k (is_collocated e.attributes) e.generation replicas snapshots hands y
 
-  -- it holds of what a checkpoint's opening makes, whatever becomes of its entry, and where it holds it does behind a stage, a commit, an update in one step, and what is done for a weak write: its marks, each element and its end, or that it is cut short; and so it does of a snapshot of the active, of a replica that takes it, and of one that leads its checkpoint anew
-  pub record IsKept (log : List Label) : Type 0 where
+  -- where this holds of the state in front of a step of a call, it holds of what a checkpoint's opening makes, whatever becomes of its entry, and where it holds it does behind a stage, a claim, a withdrawal, a commit, an update in one step, and what is done for a weak write: its marks, each element and its end, or that it is cut short; and so it does of a snapshot of the active, of a replica that takes it, and of one that leads its checkpoint anew
+  pub record IsKeptWhen (When : Machine → Type 0) (log : List Label) : Type 0 where
     pub opened : (e : Entry) (r : ℕ) → Q (Some e) r (opened_state e)
     pub stays : (e f : Entry) (r : ℕ) (x : ReplicaState) → f.identity ≡ e.identity → GoesOnMade e f → e.making ≡ None → Q (Some e) r x → Q (Some f) r x
     pub stays_copied : (e f : Entry) (s : Snapshot) → f.identity ≡ e.identity → GoesOnMade e f → IsSource e → S e s → S f s
-    pub led : (e f : Entry) (r : ℕ) (o : Option Snapshot) (x : ReplicaState) → f.identity ≡ e.identity → GoesOnMade e f → e.making ≡ None → x.slot ≡ None → x.marks ≡ None → IfSome o (S e) → Q (Some e) r x → Q (Some f) r (with_lead o f.generation x)
+    pub led : (e f : Entry) (r : ℕ) (o : Option Snapshot) (x : ReplicaState) → f.identity ≡ e.identity → GoesOnMade e f → e.making ≡ None → IsFreeFor o x → x.marks ≡ None → IfSome o (S e) → Q (Some e) r x → Q (Some f) r (with_lead o f.generation x)
     pub pulled : (e : Entry) (r : ℕ) (x : ReplicaState) → IsSource e → e.active ≡ Some r → x.marks ≡ None → Q (Some e) r x → S e (copied x)
     pub put : (e : Entry) (r : ℕ) (s : Snapshot) (x : ReplicaState) → s.generation ≡ e.generation → x.slot ≡ None → x.marks ≡ None → S e s → Q (Some e) r x → Q (Some e) r (replica_from s x)
-    pub staged : (m : Machine) (s : CallState) (k r : ℕ) (x : ReplicaState) → StepsOn log m s verbs.Stage k r x → Q (entry_of k m.cluster.entries) r x → Q (entry_of k m.cluster.entries) r (with_slot s.call (update_of s.op) (staged_moment m k) x)
-    pub committed : (m : Machine) (s : CallState) (k r : ℕ) (x : ReplicaState) (e : Entry) → StepsOn log m s verbs.Commit k r x → DeclaresAll m k e → Q (Some e) r x → Q (Some e) r (committed_slot e.attributes x x.slot)
-    pub applied : (m : Machine) (s : CallState) (k r : ℕ) (x : ReplicaState) (e : Entry) → StepsOn log m s verbs.Apply k r x → IsActiveOf m k r e → x.marks ≡ None → Q (Some e) r x → Q (Some e) r (having_taken e.attributes s.call (update_of s.op) m.cluster.moment x)
-    pub marked : (m : Machine) (s : CallState) (k r : ℕ) (x : ReplicaState) (e : Entry) → StepsOn log m s verbs.Mark k r x → IsActiveOf m k r e → CanBeMarked e (update_of s.op) m.cluster.moment x → Q (Some e) r x → Q (Some e) r (with_marks s.call (update_of s.op) m.cluster.moment x)
-    pub element : (m : Machine) (s : CallState) (k r : ℕ) (x : ReplicaState) (e : Entry) (marks : Marked) → StepsOn log m s verbs.Element k r x → IsActiveOf m k r e → IsMarkedFor s.call (update_of s.op) true x marks → Q (Some e) r x → Q (Some e) r (next_element_written e.attributes x (Some marks))
+    pub staged : (m : Machine) (s : CallState) (k r : ℕ) (x : ReplicaState) → StepsWhen When log m s verbs.Stage k r x → Q (entry_of k m.cluster.entries) r x → Q (entry_of k m.cluster.entries) r (with_slot s.call (update_of s.op) (staged_moment m k) x)
+    pub claimed : (m : Machine) (s : CallState) (k r : ℕ) (x : ReplicaState) → StepsWhen When log m s verbs.Claim k r x → Q (entry_of k m.cluster.entries) r x → Q (entry_of k m.cluster.entries) r (with_claim s.call x)
+    pub withdrawn : (m : Machine) (s : CallState) (k r : ℕ) (x : ReplicaState) → StepsWhen When log m s verbs.Withdraw k r x → Q (entry_of k m.cluster.entries) r x → Q (entry_of k m.cluster.entries) r (without_slot x)
+    pub committed : (m : Machine) (s : CallState) (k r : ℕ) (x : ReplicaState) (e : Entry) → StepsWhen When log m s verbs.Commit k r x → DeclaresAll m k e → Q (Some e) r x → Q (Some e) r (committed_slot e.attributes x x.slot)
+    pub applied : (m : Machine) (s : CallState) (k r : ℕ) (x : ReplicaState) (e : Entry) → StepsWhen When log m s verbs.Apply k r x → IsActiveOf m k r e → x.marks ≡ None → Q (Some e) r x → Q (Some e) r (having_taken e.attributes s.call (update_of s.op) m.cluster.moment x)
+    pub marked : (m : Machine) (s : CallState) (k r : ℕ) (x : ReplicaState) (e : Entry) → StepsWhen When log m s verbs.Mark k r x → IsActiveOf m k r e → CanBeMarked e (update_of s.op) m.cluster.moment x → Q (Some e) r x → Q (Some e) r (with_marks s.call (update_of s.op) m.cluster.moment x)
+    pub element : (m : Machine) (s : CallState) (k r : ℕ) (x : ReplicaState) (e : Entry) (marks : Marked) → StepsWhen When log m s verbs.Element k r x → IsActiveOf m k r e → IsMarkedFor s.call (update_of s.op) true x marks → Q (Some e) r x → Q (Some e) r (next_element_written e.attributes x (Some marks))
     -- a weak write that is cut short is of a call that has no effect there
     pub broken_off : (e : Entry) (r : ℕ) (x : ReplicaState) (marks : Marked) → x.marks ≡ Some marks → x.slot ≡ None → (HasEffect marks.call x.effects → ⊥) → Q (Some e) r x → Q (Some e) r (broken marks x)
-    pub unmarked : (m : Machine) (s : CallState) (k r : ℕ) (x : ReplicaState) (e : Entry) (marks : Marked) → StepsOn log m s verbs.Unmark k r x → IsActiveOf m k r e → IsMarkedFor s.call (update_of s.op) false x marks → Q (Some e) r x → Q (Some e) r (marks_ended x (Some marks))
+    pub unmarked : (m : Machine) (s : CallState) (k r : ℕ) (x : ReplicaState) (e : Entry) (marks : Marked) → StepsWhen When log m s verbs.Unmark k r x → IsActiveOf m k r e → IsMarkedFor s.call (update_of s.op) false x marks → Q (Some e) r x → Q (Some e) r (marks_ended x (Some marks))
+
+  -- whatever holds of the state
+  abbrev pub IsKept : List Label → Type 0
+  IsKept log = IsKeptWhen (λ m. Unit {0}) log
 
 -- ---- what goes on made
 
@@ -104,7 +119,7 @@ module _ (m : Machine) (inv : Invariant m) (history : HasHistory m) where
   pub same_identity : (R : RecordState) (k : ℕ) (e f : Entry) → entry_of k m.cluster.entries ≡ Some e → entry_of k R.entries ≡ Some f → f.identity ≡ e.identity
   same_identity R k e f there found = find_key-key identity_of k R.entries f found ∙ sym (find_key-key identity_of k m.cluster.entries e there)
 
-module _ (Q : Option Entry → ℕ → ReplicaState → Type 0) (S : Entry → Snapshot → Type 0) (log : List Label) (kept : IsKept Q S log) (m : Machine) (inv : Invariant m) (history : HasHistory m) (each : EachIn Q S m.cluster.last_identity m.cluster.entries m.replicas m.snapshots m.in_hand) where
+module _ (Q : Option Entry → ℕ → ReplicaState → Type 0) (S : Entry → Snapshot → Type 0) (When : Machine → Type 0) (log : List Label) (kept : IsKeptWhen Q S When log) (m : Machine) (inv : Invariant m) (history : HasHistory m) (each : EachIn Q S m.cluster.last_identity m.cluster.entries m.replicas m.snapshots m.in_hand) where
   -- the entry of a background snapshot that is there
   pub copied_there : (k : ℕ) (s : Snapshot) → m.snapshots k ≡ Some s → (e : Entry) × (entry_of k m.cluster.entries ≡ Some e) × (IsOfSource e s × S e s)
   copied_there k s was = IsSomeAnd-at (entry_of k m.cluster.entries) (λ e. IsOfSource e s × S e s) (each.snapshot k s was)

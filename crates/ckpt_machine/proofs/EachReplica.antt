@@ -39,14 +39,14 @@ use Rattle.ckpt_machine.specs.Propagation.{copied, replica_from}
 use Rattle.ckpt_machine.specs.Replays.{IsPrefix}
 use Rattle.ckpt_machine.specs.Runs.{last, IsRun}
 use Rattle.ckpt_machine.specs.Shape.{IsApart, IsShapedBy}
-use Rattle.ckpt_machine.specs.After.{with_record, record_step, created_for, retained_for, change_replica, with_committed, with_applied, with_slot, with_marks, next_element_written, with_next_element, marks_ended, without_marks, changed, on_ok, on_look, without_making, at_some, replica_under, opened_state, pulled_by, kept_behind, step_of, call_begun, after_beginning, staged_moment, after, with_closed}
+use Rattle.ckpt_machine.specs.After.{with_record, record_step, created_for, retained_for, change_replica, with_committed, with_applied, with_slot, with_marks, next_element_written, with_next_element, marks_ended, without_marks, changed, on_ok, on_look, without_making, at_some, replica_under, opened_state, pulled_by, kept_behind, step_of, call_begun, after_beginning, staged_moment, after, with_closed, with_claim, without_slot}
 use Rattle.ckpt_machine.specs.Due.{Told, IsDone, IsDue, due}
 use Rattle.ckpt_machine.proofs.Activating.{Leads, leader, with_leader, led_by, led_goes, found_led, led_made, led_entry, leader-cases, after_activate}
 use Rattle.ckpt_machine.proofs.ActiveNode.{active_complete}
 use Rattle.ckpt_machine.specs.Acknowledged.{HasBegun}
 use Rattle.ckpt_machine.proofs.BegunBefore.{AllBegan, all_began, begun_more}
-use Rattle.ckpt_machine.proofs.EachKept.{follows_as, made_where_complete_at, entry_there, same_identity, copied_there, stayed, snapshot_goes, copy_goes, hand_goes}
-pub use Rattle.ckpt_machine.proofs.EachKept.{FollowsBy, IsAhead, EachIn, IsKept}
+use Rattle.ckpt_machine.proofs.EachKept.{is_free-for, follows_as, made_where_complete_at, entry_there, same_identity, copied_there, stayed, snapshot_goes, copy_goes, hand_goes}
+pub use Rattle.ckpt_machine.proofs.EachKept.{FollowsBy, IsAhead, EachIn, IsKeptWhen, IsKept}
 use Rattle.ckpt_machine.proofs.Copying.{IsSource, IsOfSource, IsPulledFrom, IsPutOn, TakesOver, not_active, after_pull, after_put_over, put-cases, put2-cases}
 use Rattle.ckpt_machine.proofs.Entries.{ComesOf-filter}
 use Rattle.ckpt_machine.proofs.EntryLists.{entry_of-given}
@@ -57,7 +57,7 @@ use Rattle.ckpt_machine.proofs.Generations.{generation_there}
 use Rattle.ckpt_machine.proofs.Histories.{HasHistory, shaped_there, on_replica-there, follows, run_history}
 use Rattle.ckpt_machine.proofs.Installed.{after_install}
 use Rattle.ckpt_machine.proofs.Joining.{collocated_apart, opened_with-identity}
-use Rattle.ckpt_machine.proofs.OneReplica.{IsBehindFront, StepsOn, IsActiveOf, CanBeMarked, IsMarkedFor, Grows, committed_generation, element_generation, committed_more, grows_same, update_word}
+use Rattle.ckpt_machine.proofs.OneReplica.{IsBehindFront, StepsWhen, IsActiveOf, CanBeMarked, IsMarkedFor, Grows, committed_generation, element_generation, committed_more, grows_same, update_word}
 use Rattle.ckpt_machine.proofs.OptionLemmas.{IsSomeAnd-at, IsSomeAnd-from, IfSome-from, IfSome-at}
 use Rattle.ckpt_machine.proofs.OwnMaking.{making_there}
 pub use Rattle.ckpt_machine.proofs.PulledInHand.{PulledInHand}
@@ -117,14 +117,14 @@ module _ (Q : Option Entry → ℕ → ReplicaState → Type 0) (S : Entry → S
     | false ↦ λ some. subst (λ b. cond b (Some (opened_state e)) old ≡ Some y) complete some
   ] is
 
-  module _ (log : List Label) (kept : IsKept Q S log) (m : Machine) (began : AllBegan log m) (at_front : IsBehindFront log m) (inv : Invariant m) (history : HasHistory m) (arguments : HaveGoodArguments m) (each : Each m) where
+  module _ (When : Machine → Type 0) (log : List Label) (kept : IsKeptWhen Q S When log) (m : Machine) (when : When m) (began : AllBegan log m) (at_front : IsBehindFront log m) (inv : Invariant m) (history : HasHistory m) (arguments : HaveGoodArguments m) (each : Each m) where
     -- it holds after a step, of what was in hand before it
     abbrev EachHeld : Machine → Type 0
     EachHeld n = EachIn Q S n.cluster.last_identity n.cluster.entries n.replicas n.snapshots m.in_hand
 
     -- a step of the record: a replica was there, of a checkpoint that is made, or is as its opening makes it
     record_each : (R : RecordState) → ((k : ℕ) → k ≤ m.cluster.last_identity → MadeOn k m.cluster R) → Each (with_record m R)
-    record_each R on = record { replica = replica; snapshot = snapshot_goes Q S log kept m inv history each R last comes; in_hand = hand_goes Q S log kept m inv history each R last comes; ahead = ahead }
+    record_each R on = record { replica = replica; snapshot = snapshot_goes Q S When log kept m inv history each R last comes; in_hand = hand_goes Q S When log kept m inv history each R last comes; ahead = ahead }
       where
         -- what was made stays so
         still_made : (k : ℕ) (e f : Entry) → entry_of k m.cluster.entries ≡ Some e → entry_of k R.entries ≡ Some f → StaysMade e f
@@ -147,7 +147,7 @@ module _ (Q : Option Entry → ℕ → ReplicaState → Type 0) (S : Entry → S
               | true ↦ λ none. absurd (cc none)
               | false ↦ λ some. elim (slice_index (complete_of (entry_of k m.cluster.entries)) r == 0) as (λ b. cond b (Some (opened_state f)) (m.replicas k r) ≡ Some x → Q (Some f) r x) [
                 | true ↦ λ new. subst (Q (Some f) r) (same_Some (opened_state f) x new) (kept.opened f r)
-                | false ↦ λ old. stayed Q S log kept m inv history each R last comes k r x f found old
+                | false ↦ λ old. stayed Q S When log kept m inv history each R last comes k r x f found old
               ] some
             ] here
 
@@ -168,7 +168,7 @@ module _ (Q : Option Entry → ℕ → ReplicaState → Type 0) (S : Entry → S
           ];
           snapshot = λ s at.
               let was = (IsSomeAnd-at (entry_of k R.entries) (λ e. m.snapshots k ≡ Some s) (snapshot_was (entry_of k R.entries) (m.snapshots k) s at)).2 in
-              let (e, there, is_so) = copied_there Q S log kept m inv history each k s was in
+              let (e, there, is_so) = copied_there Q S When log kept m inv history each k s was in
               (ahead_still k r e f y there is_so.0.source.made found alone active is).snapshot s was;
           in_hand = λ s has.
               let (given, so) = each.in_hand k s has in
@@ -323,7 +323,7 @@ module _ (Q : Option Entry → ℕ → ReplicaState → Type 0) (S : Entry → S
     still_may : (R : RecordState) → ((k : ℕ) → k ≤ m.cluster.last_identity → MadeOn k m.cluster R) → (k : ℕ) (s : Snapshot) → MayHave m k s → MayHave (with_record m R) k s
     still_may R on k s may = record {
       given = (let given = may.given in let later = (on k given).last in omega (arith, given, later));
-      so = copy_goes Q S log kept m inv history each R (λ k given. (on k given).last) (λ k given f found. (let (e, was, made) = (on k given).made f found in (e, was, StaysMade-goes e f made))) k s may.given may.so;
+      so = copy_goes Q S When log kept m inv history each R (λ k given. (on k given).last) (λ k given f found. (let (e, was, made) = (on k given).made f found in (e, was, StaysMade-goes e f made))) k s may.given may.so;
       behind = λ r f y found alone active at present. (
           let (e, there, stays) = (on k may.given).made f found in
           let made = (IfSome-at (entry_of k m.cluster.entries) (λ e. IsOfSource e s × S e s) may.so e there).0.source.made in
@@ -335,7 +335,7 @@ module _ (Q : Option Entry → ℕ → ReplicaState → Type 0) (S : Entry → S
 
     -- a node that leads its checkpoint anew
     leads_each : (s : CallState) (k r : ℕ) (lead : Leads m s k r) → Each (with_leader m s k r lead)
-    leads_each s k r lead = record { replica = replica; snapshot = snapshot_goes Q S log kept m inv history each n.cluster last comes; in_hand = hand_goes Q S log kept m inv history each n.cluster last comes; ahead = ahead }
+    leads_each s k r lead = record { replica = replica; snapshot = snapshot_goes Q S When log kept m inv history each n.cluster last comes; in_hand = hand_goes Q S When log kept m inv history each n.cluster last comes; ahead = ahead }
       where
         n : Machine
         n = with_leader m s k r lead
@@ -356,12 +356,12 @@ module _ (Q : Option Entry → ℕ → ReplicaState → Type 0) (S : Entry → S
         own : Q (entry_of k n.cluster.entries) r (leader m s k r lead)
         own =
             let apart = put_apart k r lead.replica (record { entry = lead.entry; found = lead.found; alone = collocated_apart lead.entry.attributes lead.collocated; other = lead.other; there = lead.there }) in
-            subst (λ o. Q o r (leader m s k r lead)) (sym lead.set) (kept.led lead.entry (led_by r lead.entry) r s.snapshot lead.replica (same_identity m inv history n.cluster k lead.entry (led_by r lead.entry) lead.found lead.set) (led_goes r lead.entry) lead.made apart.free apart.marks_are copied_so (subst (λ o. Q o r lead.replica) lead.found (each.replica k r lead.replica lead.there)))
+            subst (λ o. Q o r (leader m s k r lead)) (sym lead.set) (kept.led lead.entry (led_by r lead.entry) r s.snapshot lead.replica (same_identity m inv history n.cluster k lead.entry (led_by r lead.entry) lead.found lead.set) (led_goes r lead.entry) lead.made (is_free-for s.snapshot lead.replica apart.free) apart.marks_are copied_so (subst (λ o. Q o r lead.replica) lead.found (each.replica k r lead.replica lead.there)))
 
         replica : (j q : ℕ) (z : ReplicaState) → n.replicas j q ≡ Some z → Q (entry_of j n.cluster.entries) q z
         replica j q z is = elim (leader-cases m inv s k r lead j q z is) [
           | inl here ↦ subst (Q (entry_of j n.cluster.entries) q) here.2 (subst (λ q. Q (entry_of j n.cluster.entries) q (leader m s k r lead)) here.1 (subst (λ j. Q (entry_of j n.cluster.entries) r (leader m s k r lead)) here.0 own))
-          | inr was ↦ (let (g, found) = led_entry m inv s k r lead j q z is in subst (λ o. Q o q z) (sym found) (stayed Q S log kept m inv history each n.cluster last comes j q z g found was.0))
+          | inr was ↦ (let (g, found) = led_entry m inv s k r lead j q z is in subst (λ o. Q o q z) (sym found) (stayed Q S When log kept m inv history each n.cluster last comes j q z g found was.0))
         ]
 
         -- nothing else is of the generation of what is led
@@ -380,7 +380,7 @@ module _ (Q : Option Entry → ℕ → ReplicaState → Type 0) (S : Entry → S
           ];
           snapshot = λ z at present. (
               let (f, found, was) = IsSomeAnd-at (entry_of k n.cluster.entries) (λ e. m.snapshots k ≡ Some z) (snapshot_was (entry_of k n.cluster.entries) (m.snapshots k) z at) in
-              let (e, there, is_so) = copied_there Q S log kept m inv history each k z was in
+              let (e, there, is_so) = copied_there Q S When log kept m inv history each k z was in
               absurd (none_other z.generation (subst (λ (e : Entry). z.generation ≤ e.generation) (same_Some e lead.entry (sym there ∙ lead.found)) is_so.0.within) present));
           in_hand = λ z has present. absurd (none_other z.generation (IfSome-at (entry_of k m.cluster.entries) (λ e. IsOfSource e z × S e z) (each.in_hand k z has).1 lead.entry lead.found).0.within present);
         }
@@ -437,6 +437,8 @@ module _ (Q : Option Entry → ℕ → ReplicaState → Type 0) (S : Entry → S
     abbrev Needs : CallState → Verb → Option ℕ → Option ℕ → StepReply → Type 0
     Needs s verbs.Finish (Some j) q words.Ok = IsSomeAnd (entry_of j m.cluster.entries) (λ e. e.making ≡ Some s.call)
     Needs s verbs.Stage k r reply = Becomes k r reply (λ k. with_slot s.call (update_of s.op) (staged_moment m k))
+    Needs s verbs.Claim k r reply = Becomes k r reply (λ k. with_claim s.call)
+    Needs s verbs.Withdraw k r reply = Becomes k r reply (λ k. without_slot)
     Needs s verbs.Commit k r reply = Becomes k r reply (λ k. with_committed (entry_of k m.cluster.entries))
     Needs s verbs.Apply k r reply = Becomes k r reply (λ k. with_applied s.call (update_of s.op) m.cluster.moment (entry_of k m.cluster.entries))
     Needs s verbs.Mark k r reply = Becomes k r reply (λ k. with_marks s.call (update_of s.op) m.cluster.moment)
@@ -466,6 +468,8 @@ module _ (Q : Option Entry → ℕ → ReplicaState → Type 0) (S : Entry → S
     changed_each s verbs.Finish j q reply needs = finished_each s j q reply needs
     changed_each s verbs.Undo j q reply needs = ok_each reply _ (one_each j _ undone_each)
     changed_each s verbs.Stage j q reply needs = becomes_each j q reply _ needs
+    changed_each s verbs.Claim j q reply needs = becomes_each j q reply _ needs
+    changed_each s verbs.Withdraw j q reply needs = becomes_each j q reply _ needs
     changed_each s verbs.Commit j q reply needs = becomes_each j q reply _ needs
     changed_each s verbs.Apply j q reply needs = becomes_each j q reply _ needs
     changed_each s verbs.Mark j q reply needs = becomes_each j q reply _ needs
@@ -483,7 +487,7 @@ module _ (Q : Option Entry → ℕ → ReplicaState → Type 0) (S : Entry → S
     changed_each s verbs.Look j q reply needs = look_each reply (with_closed s m) (without_making (making_of s.call m.cluster) m) each (making_each (making_of s.call m.cluster))
     changed_each s verb j q reply needs = each
 
-    steps_on : (s : CallState) → m.in_hand (who s) ≡ Some s → (t : Told) → IsDone m s (due m s) t → (verb : Verb) → t.verb ≡ verb → (k r : ℕ) (x : ReplicaState) → m.replicas k r ≡ Some x → Some k ≡ s.kept.ckpt → (place : ℕ) (update : Update) → asked s.op ≡ asks.Change place update → StepsOn log m s verb k r x
+    steps_on : (s : CallState) → m.in_hand (who s) ≡ Some s → (t : Told) → IsDone m s (due m s) t → (verb : Verb) → t.verb ≡ verb → (k r : ℕ) (x : ReplicaState) → m.replicas k r ≡ Some x → Some k ≡ s.kept.ckpt → (place : ℕ) (update : Update) → asked s.op ≡ asks.Change place update → StepsWhen When log m s verb k r x
     steps_on s held t done verb is k r x there own place update asks_is = record {
       inv = inv;
       history = history;
@@ -494,6 +498,8 @@ module _ (Q : Option Entry → ℕ → ReplicaState → Type 0) (S : Entry → S
       verb_is = is;
       done = done;
       asked = record { op = s.op; asks = update_word s.op place update asks_is; begun = subst (HasBegun log s.call s.op) (sym own) (began s held); update_is = refl };
+      word = update_word s.op place update asks_is;
+      when = when;
     }
 
     -- what a row says of the active and its replica
@@ -515,7 +521,7 @@ module _ (Q : Option Entry → ℕ → ReplicaState → Type 0) (S : Entry → S
       grows_active : (e : Entry) (y : ReplicaState) (new : List Effect) → IsActiveOf m k r e → y.effects ≡ x.effects ++ new → y.generation ≡ x.generation → Grows m k r x y
       grows_active e y new active is generation = record { generation = generation; more = (new, is); other = λ f found alone. inl (ap (λ (e : Entry). e.active) (same_Some f e (sym found ∙ active.found)) ∙ active.active) }
 
-      committed_needs : (t : Told) → StepsOn log m s verbs.Commit k r x → OnAll m k r (λ e x. CommitOk m s.call update k r t.end t.details x) → BecomesThere k r x (with_committed (entry_of k m.cluster.entries) x)
+      committed_needs : (t : Told) → StepsWhen When log m s verbs.Commit k r x → OnAll m k r (λ e x. CommitOk m s.call update k r t.end t.details x) → BecomesThere k r x (with_committed (entry_of k m.cluster.entries) x)
       committed_needs t step on =
           let (e, y, found, at, facts) = on_replica-there m k r (λ e x. (is_all e.attributes ≡ true) × CommitOk m s.call update k r t.end t.details x) on in
           record {
@@ -527,7 +533,7 @@ module _ (Q : Option Entry → ℕ → ReplicaState → Type 0) (S : Entry → S
             };
           }
 
-      applied_needs : (t : Told) → StepsOn log m s verbs.Apply k r x → OnActive m update false k r (ApplyOk m update t) → BecomesThere k r x (with_applied s.call (update_of s.op) m.cluster.moment (entry_of k m.cluster.entries) x)
+      applied_needs : (t : Told) → StepsWhen When log m s verbs.Apply k r x → OnActive m update false k r (ApplyOk m update t) → BecomesThere k r x (with_applied s.call (update_of s.op) m.cluster.moment (entry_of k m.cluster.entries) x)
       applied_needs t step on =
           let (e, active, at_once, ok) = on_active-there update false k r (ApplyOk m update t) on x there in
           record {
@@ -535,7 +541,7 @@ module _ (Q : Option Entry → ℕ → ReplicaState → Type 0) (S : Entry → S
             grows = grows_active e _ (Applied s.call (update_of s.op) m.cluster.moment ∷ []) active (ap (λ o. (with_applied s.call (update_of s.op) m.cluster.moment o x).effects) active.found) (ap (λ o. (with_applied s.call (update_of s.op) m.cluster.moment o x).generation) active.found);
           }
 
-      marked_needs : (t : Told) → StepsOn log m s verbs.Mark k r x → OnActive m update true k r (MarkOk m update t) → BecomesThere k r x (with_marks s.call (update_of s.op) m.cluster.moment x)
+      marked_needs : (t : Told) → StepsWhen When log m s verbs.Mark k r x → OnActive m update true k r (MarkOk m update t) → BecomesThere k r x (with_marks s.call (update_of s.op) m.cluster.moment x)
       marked_needs t step on =
           let (e, active, by_element, ok) = on_active-there update true k r (MarkOk m update t) on x there in
           let good : update_is_bad update ≡ false = sym (ap has_bad_arguments asks_is) ∙ arguments s step.held in
@@ -552,7 +558,7 @@ module _ (Q : Option Entry → ℕ → ReplicaState → Type 0) (S : Entry → S
           let (marks, is, are) = IsSomeAnd-at x.marks (AreMarksOf s.call update left) stand in
           (e, marks, active, record { stand = is; are = subst (λ update. AreMarksOf s.call update left marks) own are })
 
-      element_needs : StepsOn log m s verbs.Element k r x → OnActive m update true k r (λ e x. IsSomeAnd x.marks (AreMarksOf s.call update true)) → BecomesThere k r x (with_next_element (entry_of k m.cluster.entries) x)
+      element_needs : StepsWhen When log m s verbs.Element k r x → OnActive m update true k r (λ e x. IsSomeAnd x.marks (AreMarksOf s.call update true)) → BecomesThere k r x (with_next_element (entry_of k m.cluster.entries) x)
       element_needs step on =
           let (e, marks, active, stand) = marks_there true on in
           let then = kept.element m s k r x e marks step active stand (there_by e active.found) in
@@ -561,7 +567,7 @@ module _ (Q : Option Entry → ℕ → ReplicaState → Type 0) (S : Entry → S
             grows = grows_same m k r x _ (element_effects (entry_of k m.cluster.entries) x) (element_generation (entry_of k m.cluster.entries) x);
           }
 
-      unmarked_needs : StepsOn log m s verbs.Unmark k r x → OnActive m update true k r (λ e x. IsSomeAnd x.marks (AreMarksOf s.call update false)) → BecomesThere k r x (without_marks x)
+      unmarked_needs : StepsWhen When log m s verbs.Unmark k r x → OnActive m update true k r (λ e x. IsSomeAnd x.marks (AreMarksOf s.call update false)) → BecomesThere k r x (without_marks x)
       unmarked_needs step on =
           let (e, marks, active, stand) = marks_there false on in
           let then = kept.unmarked m s k r x e marks step active stand (there_by e active.found) in
@@ -573,8 +579,10 @@ module _ (Q : Option Entry → ℕ → ReplicaState → Type 0) (S : Entry → S
     -- what it needs is in its row
     row_needs : (s : CallState) → m.in_hand (who s) ≡ Some s → (t : Told) → IsDone m s (due m s) t → (verb : Verb) (k r : Option ℕ) (reply : StepReply) → t.verb ≡ verb → IsOnOwn verb k s.kept.ckpt → Row m s verb (record t { verb = verb; ckpt = k; node = r; reply = reply }) → Needs s verb k r reply
     row_needs s held t done verbs.Finish (Some j) None words.Ok verb _ row = making_there m.cluster inv.holds.rises s.call j row.0.3.0
-    row_needs s held t done verbs.Finish (Some j) (Some q) words.Ok verb own row = absurd row.0
+    row_needs s held t done verbs.Finish (Some j) (Some q) words.Ok verb _ row = absurd row.0
     row_needs s held t done verbs.Stage (Some k) (Some r) words.Ok verb own row = λ x there. record { so = kept.staged m s k r x (steps_on s held t done verbs.Stage verb k r x there own row.0.0 row.0.1 row.0.2) (each.replica k r x there); grows = grows_same m k r x _ refl refl }
+    row_needs s held t done verbs.Claim (Some k) (Some r) words.Ok verb own row = λ x there. record { so = kept.claimed m s k r x (steps_on s held t done verbs.Claim verb k r x there own row.0.0 row.0.1 row.0.2) (each.replica k r x there); grows = grows_same m k r x _ refl refl }
+    row_needs s held t done verbs.Withdraw (Some k) (Some r) words.Ok verb own row = λ x there. record { so = kept.withdrawn m s k r x (steps_on s held t done verbs.Withdraw verb k r x there own row.0.0 row.0.1 row.0.2) (each.replica k r x there); grows = grows_same m k r x _ refl refl }
     row_needs s held t done verbs.Commit (Some k) (Some r) words.Ok verb own row = λ x there. committed_needs s k r x there row.0 row.1 row.2 t (steps_on s held t done verbs.Commit verb k r x there own row.0 row.1 row.2) row.3
     row_needs s held t done verbs.Apply (Some k) (Some r) words.Ok verb own row = λ x there. applied_needs s k r x there row.0 row.1 row.2 (record t { verb = verbs.Apply; ckpt = Some k; node = Some r; reply = words.Ok }) (steps_on s held t done verbs.Apply verb k r x there own row.0 row.1 row.2) row.3
     row_needs s held t done verbs.Mark (Some k) (Some r) words.Ok verb own row = λ x there. marked_needs s k r x there row.0 row.1 row.2 (record t { verb = verbs.Mark; ckpt = Some k; node = Some r; reply = words.Ok }) (steps_on s held t done verbs.Mark verb k r x there own row.0 row.1 row.2) row.3
@@ -645,7 +653,7 @@ module _ (Q : Option Entry → ℕ → ReplicaState → Type 0) (S : Entry → S
         begun = call_begun end call op (first_kept m call op)
 
     -- any label that is allowed and due
-    after_each : (l : Label) → Allowed m l → IsDue m l → Each (after m l)
+    pub after_each : (l : Label) → Allowed m l → IsDue m l → Each (after m l)
     after_each (labels.Began d op end details) allowed is = begun_each d op end
     after_each (labels.Stepped d op verb j q reply end details) allowed step =
         let s = step.state in
@@ -659,7 +667,7 @@ module _ (Q : Option Entry → ℕ → ReplicaState → Type 0) (S : Entry → S
     after_each (labels.Nodes n) allowed is = each
     after_each (labels.Moved t) allowed is = record_each (moved t m.cluster) (λ k given. record { last = omega arith; rises = IdentitiesRise-filter (stays t) m.cluster.entries inv.holds.rises; made = ComesOf-filter StaysMade StaysMade-same (stays t) m.cluster.entries inv.holds.rises k })
     after_each (labels.Shown j replicas) allowed is = each
-    after_each (labels.Failed r true) allowed is = failed_each Q S log kept m inv history each r is.2
+    after_each (labels.Failed r true) allowed is = failed_each Q S When log kept m inv history each r
     after_each (labels.Failed r false) allowed is = each
     after_each (labels.Pulled k reply) allowed is = after_pull Each m k reply is each (pulled_each k)
     after_each (labels.Put k r reply) allowed is = after_put_over Each m k r reply is each (λ s x at over. put_each k r s x (copied_may k s over.on.entry over.on.found at) over)
@@ -676,7 +684,7 @@ module _ (Q : Option Entry → ℕ → ReplicaState → Type 0) (S : Entry → S
           let log_is : log ≡ front ++ l ∷ rest = is ∙ append_assoc front (l ∷ []) rest in
           let (inv, history) = run_history front before in
           let began : AllBegan log (last front) = λ s held. subst (λ (log : List Label). HasBegun log s.call s.op s.kept.ckpt) (sym log_is) (begun_more front (l ∷ rest) s.call s.op s.kept.ckpt (all_began front before s held)) in
-          after_each log kept (last front) began (record { front = front; rest = l ∷ rest; log_is = log_is; state_is = refl }) inv history (good_arguments front before) (each (l ∷ rest) log_is) l allowed due
+          after_each (λ m. Unit {0}) log kept (last front) tt began (record { front = front; rest = l ∷ rest; log_is = log_is; state_is = refl }) inv history (good_arguments front before) (each (l ∷ rest) log_is) l allowed due
 
 -- where nothing is said
 kept_nothing : (log : List Label) → IsKept (λ o r x. Unit {0}) (λ e s. Unit {0}) log
@@ -688,6 +696,8 @@ kept_nothing log = record {
   pulled = λ e r x source active none is. tt;
   put = λ e r s x present free none copied is. tt;
   staged = λ m s k r x step is. tt;
+  claimed = λ m s k r x step is. tt;
+  withdrawn = λ m s k r x step is. tt;
   committed = λ m s k r x e step all is. tt;
   applied = λ m s k r x e step active none is. tt;
   marked = λ m s k r x e step active can is. tt;

@@ -13,6 +13,7 @@ use Rattle.cluster_record.specs.declared.entries.Entry.{Entry}
 use Rattle.cluster_record.specs.DueUpdate.{UpdateState, update_led, update_on, by_phase, commit_at}
 use Rattle.cluster_record.specs.RecordState.{entry_of}
 use Rattle.cluster_record.specs.StepDone.{first_lacking, last_having}
+use Rattle.ckpt_machine.proofs.EachKept.{IsFreeFor}
 use Rattle.ckpt_machine.specs.Drivers as drivers
 use Rattle.ckpt_machine.specs.Driving.{driver_next}
 use Rattle.ckpt_machine.specs.Failing.{broken}
@@ -28,7 +29,7 @@ use Rattle.ckpt_machine.specs.Due.{Told, IsDone, due, driver_of, rooms_of}
 use Rattle.ckpt_machine.proofs.EachReplica.{IsKept, run_each}
 use Rattle.ckpt_machine.proofs.Follows.{IsBare, effect_more}
 use Rattle.ckpt_machine.proofs.Histories.{IsCommittingAt, shaped_there}
-use Rattle.ckpt_machine.proofs.OneReplica.{StepsOn}
+use Rattle.ckpt_machine.proofs.OneReplica.{StepsOn, claimed_was}
 
 -- ---- effects
 
@@ -75,7 +76,7 @@ one_effect_more x y new effects free none once = record {
 }
 
 -- where nothing is staged, a replica that leads with what is in hand
-led_once : (o : Option Snapshot) (g : ℕ) (x : ReplicaState) → x.slot ≡ None → IfSome o (λ s. EachCallOnce s.effects) → IsOnce x → IsOnce (with_lead o g x)
+led_once : (o : Option Snapshot) (g : ℕ) (x : ReplicaState) → IsFreeFor o x → IfSome o (λ s. EachCallOnce s.effects) → IsOnce x → IsOnce (with_lead o g x)
 led_once None g x free none once = record { each = once.each; fresh = once.fresh }
 led_once (Some s) g x free copied once = record { each = copied; fresh = λ slot staged. absurd (let w : None ≡ Some slot = sym free ∙ staged in cc w) }
 
@@ -133,6 +134,8 @@ kept_once log = record {
         let same = same_Some (record { owner = s.call; origin = s.call; update = update_of s.op; moment = staged_moment m k }) slot is in
         none_yet log m s verbs.Stage k r x step (λ is. cc is) (λ is. cc is) (subst (λ d. HasEffect d x.effects) (sym (ap (λ (z : Staged). z.origin) same)) has);
   };
+  claimed = λ m s k r x step once. record { each = once.each; fresh = λ slot is has. (let (old, was, origin, update) = claimed_was s.call x.slot slot is in once.fresh old was (subst (λ d. HasEffect d x.effects) (sym origin) has)) };
+  withdrawn = λ m s k r x step once. record { each = once.each; fresh = λ slot none. absurd (cc none) };
   committed = λ m s k r x e step all once. committed_once e.attributes x once;
   applied = λ m s k r x e step active none once.
       let y = having_taken e.attributes s.call (update_of s.op) m.cluster.moment x in

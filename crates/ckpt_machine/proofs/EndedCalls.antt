@@ -25,12 +25,12 @@ use Rattle.ckpt_machine.proofs.Sync.{left_is}
 use Rattle.ckpt_machine.proofs.Whose.{put_who-cases}
 
 -- the call has begun, and is in hand under no name
-record IsOver (c : CallId) (m : Machine) : Type 0 where
-  below : c.number < m.next c.actor
-  none : (w : Who) (z : CallState) → m.in_hand w ≡ Some z → z.call ≡ c → ⊥
+pub record IsOver (c : CallId) (m : Machine) : Type 0 where
+  pub below : c.number < m.next c.actor
+  pub none : (w : Who) (z : CallState) → m.in_hand w ≡ Some z → z.call ≡ c → ⊥
 
 -- so it is behind each label that comes
-over_after : (m : Machine) (l : Label) → Invariant m → HasHistory m → Allowed m l → IsDue m l → (c : CallId) → IsOver c m → IsOver c (after m l)
+pub over_after : (m : Machine) (l : Label) → Invariant m → HasHistory m → Allowed m l → IsDue m l → (c : CallId) → IsOver c m → IsOver c (after m l)
 over_after m l inv history allowed due c over = record {
   below = (let a = over.below in let b = next_after m l inv history allowed due c.actor in omega (arith, a, b));
   none = none l allowed due;
@@ -63,7 +63,7 @@ over_after m l inv history allowed due c over = record {
     none l allowed due w z held same = over.none w z ((quiet m inv l tt due).held w z held) same
 
 -- so it is behind the last step of the call
-ended_over : (log : List Label) (l : Label) → IsRun (log ++ l ∷ []) → (c : CallId) → IsLastStep l c → IsOver c (last (log ++ l ∷ []))
+pub ended_over : (log : List Label) (l : Label) → IsRun (log ++ l ∷ []) → (c : CallId) → IsLastStep l c → IsOver c (last (log ++ l ∷ []))
 ended_over log (labels.Stepped call op verb k r reply (Some end) details) run c ends =
     let l : Label = labels.Stepped call op verb k r reply (Some end) details in
     let (before, allowed, due) = run_before _ log l run in

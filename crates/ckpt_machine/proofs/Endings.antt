@@ -1,6 +1,7 @@
 -- A call ends only with an answer that it may have.
 use Rattle.std.proofs.Common.{◌≡◌, ℕ, List, length, Option, Some, None, Bool, true, false, cond, refl, sym, ap, subst, ◌∙◌}
 use Rattle.std.specs.Prelude.{IfSome}
+use Rattle.ckpt_types.specs.declared.identities.CallId.{CallId}
 use Rattle.ckpt_types.specs.declared.ais_error.AisError.{AisError}
 use Rattle.ckpt_types.specs.declared.ais_error.AisError.TheVariants as errors
 use Rattle.ckpt_types.specs.declared.answers.Answer.{Answer}
@@ -23,7 +24,7 @@ use Rattle.run_labels.specs.declared.labels.Label.TheVariants as labels
 use Rattle.ckpt_types.specs.declared.words.OpWord.{OpWord}
 use Rattle.ckpt_types.specs.OpWord.{word_of_op}
 use Rattle.cluster_record.specs.Calls.{client_of}
-use Rattle.cluster_record.specs.RecordState.{entry_of}
+use Rattle.cluster_record.specs.RecordState.{entry_of, is_live}
 use Rattle.ckpt_types.specs.declared.update.Update.{Update}
 use Rattle.ckpt_types.specs.Asks.{Ask, asked}
 use Rattle.ckpt_types.specs.Asks as asks
@@ -36,7 +37,7 @@ use Rattle.ckpt_machine.specs.Guards.{AsksToOpen, Row}
 use Rattle.ckpt_machine.specs.LookGuards.{LookRow}
 use Rattle.ckpt_machine.specs.OpenGuards.{EnterRow, CreateRow, ReserveRow, FinishRow, UndoRow, OpenHeld, OpenRow, LeaveRow, CloseRow, UnlinkRow, RetainRow}
 use Rattle.ckpt_machine.specs.ActiveGuards.{HoldRow, HoldOk, HoldKeptOff, ActivateRow, ActivateOk, all_served, steps_with, PullOk, PullHeld, PullRow, InstallOk, InstallRow, ApplyOk, ApplyRow, MarkOk, MarkRow, ElementRow, UnmarkRow, ReadRow, StatusOk, StatusRow, IterOk, IterRow, NextOk, NextAnswer}
-use Rattle.ckpt_machine.specs.UpdateGuards.{StageRefused, StageHeld, StageRow, CommitOk, CommitRow, ends_update}
+use Rattle.ckpt_machine.specs.UpdateGuards.{ClaimFree, ClaimOk, ClaimRow, CommitOk, CommitRow, StageHeld, StageRefused, StageRow, WithdrawOk, WithdrawRow, ends_update}
 use Rattle.ckpt_machine.specs.Laws.{EndsAsItMay}
 use Rattle.ckpt_machine.specs.Machine.{Machine, CallState}
 use Rattle.node_core.specs.Serving.{update_answer}
@@ -123,6 +124,10 @@ module _ (m : Machine) (s : CallState) (end : Option Outcome) (amiss : EndsAmiss
   committed true answer is = done answer is
   committed false answer is = goes_on is
 
+  held_off : (b : Bool) (by : CallId) → end ≡ cond b (Some (Refused errors.TryAgain (Holder by))) None → ⊥
+  held_off true by is = refused errors.TryAgain (Holder by) is
+  held_off false by is = goes_on is
+
   enter_ends : (c r : ℕ) (reply : StepReply) → may_lack_memory (word_of_op s.op) ≡ true → EnterRow m c r reply end → ⊥
   enter_ends c r words.Ok may row = done answers.Version row.1
   enter_ends c r words.Memory may row = lacked may row.1
@@ -155,8 +160,18 @@ module _ (m : Machine) (s : CallState) (end : Option Outcome) (amiss : EndsAmiss
   stage_ends : (update : Update) (k r : ℕ) (reply : StepReply) → StageRow m s update k r reply end → ⊥
   stage_ends update k r words.Ok row = goes_on row.1
   stage_ends update k r words.Refused row = on_all m k r (StageRefused m s update k end) row (λ e x (by : StageRefused m s update k end e x). refused by.why.error (refused_cause s.op by.why.index) by.answer)
-  stage_ends update k r (words.Held by) row = on_all m k r (λ e x. StageHeld m s.call by end x) row (λ e x (held : StageHeld m s.call by end x). refused errors.TryAgain (Holder by) held.answer)
+  stage_ends update k r (words.Held by) row = on_all m k r (λ e x. StageHeld m s.call by end x) row (λ e x (held : StageHeld m s.call by end x). held_off (is_live m.cluster by) by held.answer)
   stage_ends update k r reply row = absurd row
+
+  claim_ends : (k r : ℕ) (reply : StepReply) → ClaimRow m s k r reply end → ⊥
+  claim_ends k r words.Ok row = on_all m k r (λ e x. ClaimOk m s.call end x) row (λ e x (ok : ClaimOk m s.call end x). goes_on ok.answer)
+  claim_ends k r (words.Free count) row = on_all m k r (λ e x. ClaimFree count end x) row (λ e x (free : ClaimFree count end x). goes_on free.answer)
+  claim_ends k r (words.Held by) row = on_all m k r (λ e x. StageHeld m s.call by end x) row (λ e x (held : StageHeld m s.call by end x). held_off (is_live m.cluster by) by held.answer)
+  claim_ends k r reply row = absurd row
+
+  withdraw_ends : (k r : ℕ) (reply : StepReply) → WithdrawRow m s k r reply end → ⊥
+  withdraw_ends k r words.Ok row = on_all m k r (λ e x. WithdrawOk m s.call k end x) row (λ e x (ok : WithdrawOk m s.call k end x). goes_on ok.answer)
+  withdraw_ends k r reply row = absurd row
 
   commit_ends : (update : Update) (k r : ℕ) (reply : StepReply) (details : Details) → CommitRow m s.call update k r reply end details → ⊥
   commit_ends update k r words.Ok details row = on_all m k r (λ e x. CommitOk m s.call update k r end details x) row (λ e x (ok : CommitOk m s.call update k r end details x). committed (ends_update s.call r ok.slot (complete_replicas m k)) (update_answer update) ok.answer)
@@ -238,6 +253,8 @@ module _ (m : Machine) (s : CallState) (end : Option Outcome) (amiss : EndsAmiss
   row_ends verbs.Finish k r reply details row = row_at_ckpt k r _ row.0 (λ k p. finish_ends k reply p.3)
   row_ends verbs.Undo k r reply details row = row_at_ckpt k r _ row.0 (λ k p. undo_ends k reply (open_lacks s p.0 p.1 p.2) p.3)
   row_ends verbs.Stage k r reply details row = at_node k r _ row.0 (λ k r p. stage_ends p.1 k r reply p.3)
+  row_ends verbs.Claim k r reply details row = at_node k r _ row.0 (λ k r p. claim_ends k r reply p.3)
+  row_ends verbs.Withdraw k r reply details row = at_node k r _ row.0 (λ k r p. withdraw_ends k r reply p.3)
   row_ends verbs.Commit k r reply details row = at_node k r _ row (λ k r p. commit_ends p.1 k r reply details p.3)
   row_ends verbs.Apply k r reply details row = at_node k r _ row (λ q n p. apply_ends p.1 q n (record { verb = verbs.Apply; ckpt = k; node = r; reply = reply; end = end; details = details }) reply refl p.3)
   row_ends verbs.Mark k r reply details row = at_node k r _ row (λ q n p. mark_ends p.1 q n (record { verb = verbs.Mark; ckpt = k; node = r; reply = reply; end = end; details = details }) reply refl p.3)

@@ -19,6 +19,7 @@ use Rattle.cluster_record.proofs.IdentityLaws.{KeepsIdentity, IdentitiesRise-cha
 use Rattle.cluster_record.proofs.MakingCounts.{one_if, makings_of-changed}
 use Rattle.ckpt_machine.specs.Drivers as drivers
 use Rattle.ckpt_machine.specs.Entries.{AllStay, WasMade}
+use Rattle.ckpt_machine.specs.Dead.{IsDead}
 use Rattle.ckpt_machine.specs.InHand.{attributes_asked, IsMakingIn, IsInHand}
 use Rattle.ckpt_machine.specs.Invariant.{IsMaker, IsGoodIn, IsOfGeneration, IsCompleteAt, HasPlaces, InvariantIn}
 use Rattle.ckpt_machine.specs.Machine.{Machine, ReplicaState, Snapshot, CallState, who}
@@ -29,7 +30,7 @@ use Rattle.ckpt_machine.proofs.CallsKept.{IsSameCall, same_call-None, apart_from
 use Rattle.ckpt_machine.proofs.EntryLists.{find_key-change_key, AllStay-change_key, swept-all}
 use Rattle.ckpt_machine.proofs.Handles.{IsGoodHandle-later}
 use Rattle.ckpt_machine.proofs.OptionLemmas.{IsSomeAnd-at}
-use Rattle.ckpt_machine.proofs.Lives.{LivesOn, lives_on-one}
+use Rattle.ckpt_machine.proofs.Lives.{LivesOn, lives_on-one, enters-one, dead_on}
 use Rattle.ckpt_machine.proofs.OtherCalls.{LooksAlike, LooksLater, LooksLater-refl, making_still, IsIn-apart, IsInHand-alike, IsGoodIn-alike}
 use Rattle.ckpt_machine.specs.Whose.{put_who, same_who}
 use Rattle.ckpt_machine.proofs.Whose.{put_who-cases, put_who-other, apart_states}
@@ -87,10 +88,13 @@ module _ (m : Machine) (shapes : ℕ → Shape) (inv : InvariantIn shapes m) (s 
       hands : Who → Option CallState
       hands = put_who m.in_hand (who s) None
 
+      dead : (d : CallId) → IsDead m d → IsDead (record m { in_hand = put_who m.in_hand (who s) None }) d
+      dead = dead_on m (record m { in_hand = put_who m.in_hand (who s) None }) (λ d. refl) refl (enters-one m (record m { in_hand = put_who m.in_hand (who s) None }) s held (inv.hands (who s) s held).driven None (same_call-None s) (λ z none. absurd (cc none)) (λ b. refl))
+
       hands_left : (b : Who) (z : CallState) → put_who m.in_hand (who s) None b ≡ Some z → IsInHand (record m { in_hand = put_who m.in_hand (who s) None }) shapes b z
       hands_left b z left = elim (put_who-cases m.in_hand (who s) None b z left) [
         | inl here ↦ absurd (let w : None ≡ Some z = here.1 in cc w)
-        | inr other ↦ (let was = inv.hands b z other.1 in record { whose = was.whose; client = was.client; number = was.number; built = was.built; driven = was.driven; live = was.live; home = was.home; here = IsIn-apart m shapes m.next m.pending (put_who m.in_hand (who s) None) z (driver_of z) was.here })
+        | inr other ↦ (let was = inv.hands b z other.1 in record { whose = was.whose; client = was.client; number = was.number; built = was.built; driven = was.driven; live = was.live; home = was.home; here = IsIn-apart m shapes m.next m.pending (put_who m.in_hand (who s) None) dead z (driver_of z) was.here })
       ]
 
       lives : LivesOn m (record m { in_hand = put_who m.in_hand (who s) None })
@@ -264,8 +268,8 @@ module _ (m : Machine) (shapes : ℕ → Shape) (inv : InvariantIn shapes m) (s 
                   absurd (let v : None ≡ Some z.call = sym made ∙ ap (λ (x : Entry). x.making) (sym g_is) ∙ made_by in cc v)
 
       module _ (looks : (z : CallState) → z.call ≢ s.call → LooksLater z (shapes u.ckpt).marks e f) where
-        looks_then : (z : CallState) → z.call ≢ s.call → LooksAlike m then_machine shapes shapes z
-        looks_then z other = record {
+        looks_then : ((d : CallId) → IsDead m d → IsDead then_machine d) → (z : CallState) → z.call ≢ s.call → LooksAlike m then_machine shapes shapes z
+        looks_then dead z other = record {
           up = λ r up. up;
           lives = refl;
           home = refl;
@@ -275,6 +279,7 @@ module _ (m : Machine) (shapes : ℕ → Shape) (inv : InvariantIn shapes m) (s 
           later = λ j was g there. by_test j g there (j == u.ckpt) refl;
           owners = λ j was r. refl;
           marks = λ j was. refl;
+          dead = λ j f was found. dead;
           done = λ j was done. done;
         }
           where
@@ -305,12 +310,15 @@ module _ (m : Machine) (shapes : ℕ → Shape) (inv : InvariantIn shapes m) (s 
           calls = calls_left m.in_hand m.pending m.next inv.calls s held o same_call;
         }
           where
+            dead : (d : CallId) → IsDead m d → IsDead then_machine d
+            dead = dead_on m then_machine (λ d. refl) refl (enters-one m then_machine s held (inv.hands (who s) s held).driven o same_call (λ z is. (own z is).driven) (λ b. refl))
+
             hands_then : (b : Who) (z : CallState) → put_who m.in_hand (who s) o b ≡ Some z → IsInHand then_machine shapes b z
             hands_then b z there = elim (put_who-cases m.in_hand (who s) o b z there) [
               | inl here ↦ subst (λ c. IsInHand then_machine shapes c z) (sym here.0) (own z here.1)
               | inr other ↦ (
                   let was = inv.hands b z other.1 in
-                  IsInHand-alike m then_machine shapes shapes z (looks_then z (apart_from m.in_hand m.pending m.next inv.calls s held b z other.1 other.0)) b (λ live. live) was.number was)
+                  IsInHand-alike m then_machine shapes shapes z (looks_then dead z (apart_from m.in_hand m.pending m.next inv.calls s held b z other.1 other.0)) b (λ live. live) was.number was)
             ]
 
             lives : LivesOn m then_machine

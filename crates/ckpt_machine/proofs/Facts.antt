@@ -17,7 +17,7 @@ use Rattle.node_msgs.specs.Requests.{ckpt_of}
 use Rattle.cluster_record.specs.declared.calls.ActiveKind.{ActiveKind}
 use Rattle.cluster_record.specs.declared.calls.ActiveKind.TheVariants as kinds
 use Rattle.cluster_record.specs.declared.calls.UpdatePhase.{UpdatePhase}
-use Rattle.cluster_record.specs.declared.calls.UpdatePhase.TheVariants.{Staging, Committing}
+use Rattle.cluster_record.specs.declared.calls.UpdatePhase.TheVariants.{Staging, Committing, Claiming, Claimed, Withdrawing, Resolving}
 use Rattle.cluster_record.specs.declared.entries.Entry.{Entry}
 use Rattle.cluster_record.specs.DueActive.{unless_changed, unless_on_hold, is_update, on_active, request_by, starts_iteration, active_on}
 use Rattle.cluster_record.specs.DueOnce.{OneStep, Enter, Leave, Close, Unlink, Retain, enter_next, close_of, unlink_of, unlink_of_making, retain_of, once_next}
@@ -26,7 +26,7 @@ use Rattle.cluster_record.specs.DueSync.{SyncState, first_unserved, install_next
 use Rattle.cluster_record.specs.declared.calls.SyncKind.{SyncKind}
 use Rattle.cluster_record.specs.declared.calls.SyncKind.TheVariants.{Synchronize, ActiveSet}
 use Rattle.cluster_record.specs.declared.calls.PulledAt.{PulledAt}
-use Rattle.cluster_record.specs.DueUpdate.{UpdateState, by_phase, stage_at, commit_at, commit_first, update_led, update_next, update_on}
+use Rattle.cluster_record.specs.DueUpdate.{UpdateState, by_phase, stage_at, commit_at, commit_first, update_led, update_next, update_on, claim_at}
 use Rattle.cluster_record.specs.RecordState.{entry_of, named, is_live, can_be_held, can_lead}
 use Rattle.cluster_record.specs.StepDone.{has, first_lacking, last_having}
 use Rattle.ckpt_types.specs.Asks.{asked, update_asked, update_of, IsBuiltAsk, IsBuilt}
@@ -40,7 +40,7 @@ use Rattle.ckpt_machine.specs.Due.{due, driver_of, room_in, room_at, rooms_of}
 use Rattle.ckpt_machine.specs.Seen.{seen_at, seen, seen_slot}
 use Rattle.ckpt_machine.specs.Facts.{IsActive, IsAtRest, IsLeadable, IsServable, IsEventReady, IsStarting, IsGoingOn, HasCopyRoom, HasLiveMarker, Facts}
 use Rattle.ckpt_machine.specs.InHand.{MarksFit, IsEnterAt, IsOnceAt, IsInPlace, IsActiveIn, is_held_by, IsSynchronizeIn, IsSettingIn}
-use Rattle.ckpt_machine.specs.Invariant.{InvariantIn, Invariant, IsGoodUnder}
+use Rattle.ckpt_machine.specs.Invariant.{InvariantIn, Invariant, IsGoodIn}
 use Rattle.ckpt_machine.specs.GuardTerms.{deadline_of}
 use Rattle.ckpt_machine.specs.Shape.{Shape, marks_at, IsSpread}
 use Rattle.ckpt_machine.specs.Tables.{takes_copy}
@@ -65,7 +65,7 @@ use Rattle.cluster_record.specs.declared.calls.MarksMade.{MarksMade}
 use Rattle.ckpt_machine.proofs.OpenReady.{IsReadyOpen, open_ready, open_fits}
 use Rattle.ckpt_machine.proofs.OwnMaking.{making_is}
 use Rattle.ckpt_machine.proofs.Propagated.{complete_there, target_there, target_free}
-use Rattle.ckpt_machine.proofs.UpdateReady.{HasMoment, HasOwn, IsReadyNext, update_ready}
+use Rattle.ckpt_machine.proofs.UpdateReady.{HasMoment, HasStaged, IsReadyNext, update_ready}
 use Rattle.ckpt_types.specs.declared.identities.Who.{Who}
 use Rattle.ckpt_machine.proofs.OptionLemmas.{IsSomeAnd-from, IfSome-at}
 
@@ -80,7 +80,7 @@ IsFor m s request = Unit {0}
 
 -- what the code relies on of what is due
 abbrev pub IsDueReady : Machine → CallState → Driver → Next → Type 0
-IsDueReady m s d (Serve r request) = (r < 8) × IsServable m r request × HasMoment m r request × HasOwn m s r request × IsFor m s request
+IsDueReady m s d (Serve r request) = (r < 8) × IsServable m r request × HasMoment m r request × HasStaged m s r request × IsFor m s request
 IsDueReady m s d (Event step) = IsEventReady m s d step
 IsDueReady m s d (End o) = Unit {0}
 
@@ -111,9 +111,20 @@ update_due m s u ready = by_entry (entry_of u.ckpt m.cluster.entries) ready
     by_first None last ready = by_first_commit last ready
     by_first (Some r) last ready = (ready.0, ready.1, ready.2, ready.3, tt)
 
+    by_claim : (first last : Option ℕ) → IsReadyNext m s (claim_at u first last) → IsDueReady m s (drivers.Update u) (claim_at u first last)
+    by_claim None last ready = by_first_commit last ready
+    by_claim (Some r) last ready = (ready.0, ready.1, ready.2, ready.3, tt)
+
     by_phases : (first last : Option ℕ) (ph : UpdatePhase) → IsReadyNext m s (by_phase u m.cluster.moment first last ph) → IsDueReady m s (drivers.Update u) (by_phase u m.cluster.moment first last ph)
     by_phases first last Staging ready = by_first first last ready
     by_phases first last Committing ready = by_last last ready
+    by_phases first last Claiming ready = by_claim first last ready
+    by_phases first None Claimed ready = by_first first None ready
+    by_phases first (Some p) Claimed ready = by_claim first (Some p) ready
+    by_phases first None Withdrawing ready = by_first first None ready
+    by_phases first (Some p) Withdrawing ready = (ready.0, ready.1, ready.2, ready.3, tt)
+    by_phases first None Resolving ready = by_first first None ready
+    by_phases first (Some p) Resolving ready = by_last (Some p) ready
 
     by_active : (e : Entry) (active : Option ℕ) → IsReadyNext m s (update_led u m.cluster.moment e active) → IsDueReady m s (drivers.Update u) (update_led u m.cluster.moment e active)
     by_active e None ready = tt
@@ -414,7 +425,7 @@ module _ (m : Machine) (inv : Invariant m) where
   ready_for a s next here is = subst (IsDueReady m s (driver_of s)) is (all_ready a s here)
 
 -- one in the making has no active
-unled_there : (m : Machine) (k : ℕ) (sh : Shape) (e : Entry) (by : Option CallId) → IsSome by → IsGoodUnder false m k sh e by → e.active ≡ None
+unled_there : (m : Machine) (k : ℕ) (sh : Shape) (e : Entry) (by : Option CallId) → IsSome by → IsGoodIn m k sh e by → e.active ≡ None
 unled_there m k sh e None some good = absurd (cc some)
 unled_there m k sh e (Some call) some good = good.0.unled
 

@@ -13,8 +13,8 @@ use Rattle.cluster_record.specs.RecordState.{is_live, is_live_client}
 use Rattle.ckpt_machine.specs.Dead.{IsDead, is_enter}
 use Rattle.ckpt_machine.specs.Drivers.{Driver}
 use Rattle.ckpt_machine.specs.Drivers as drivers
-use Rattle.ckpt_machine.specs.InHand.{IsInPlaceUnder}
-use Rattle.ckpt_machine.specs.Invariant.{InvariantUnder}
+use Rattle.ckpt_machine.specs.InHand.{IsInPlace}
+use Rattle.ckpt_machine.specs.Invariant.{InvariantIn}
 use Rattle.ckpt_machine.specs.Machine.{Machine, CallState}
 use Rattle.ckpt_machine.specs.Shape.{Shape}
 use Rattle.ckpt_machine.specs.Failing.{is_of_node, enters_on, is_abandoned, unless_abandoned, failed_at}
@@ -22,7 +22,7 @@ use Rattle.ckpt_machine.specs.Due.{driver_of, count_in}
 use Rattle.ckpt_machine.proofs.OpenReady.{client_live}
 use Rattle.ckpt_machine.proofs.FailedClients.{live_gone, dead_then}
 
-module _ (failures : Bool) (m : Machine) (shapes : ℕ → Shape) (inv : InvariantUnder failures shapes m) (r : ℕ) where
+module _ (m : Machine) (shapes : ℕ → Shape) (inv : InvariantIn shapes m) (r : ℕ) where
   -- the machine behind the failure
   abbrev pub n : Machine
   n = failed_at r m
@@ -34,32 +34,32 @@ module _ (failures : Bool) (m : Machine) (shapes : ℕ → Shape) (inv : Invaria
   -- ---- hands
 
   -- a call that is left was in hand, and is not abandoned
-  pub left_is : (w : Who) (z : CallState) → n.in_hand w ≡ Some z → (m.in_hand w ≡ Some z) × (is_abandoned m.cluster r z ≡ false)
+  pub left_is : (w : Who) (z : CallState) → n.in_hand w ≡ Some z → (m.in_hand w ≡ Some z) × (is_abandoned m.cluster r z.call z.op ≡ false)
   left_is w z left = go (m.in_hand w) refl left
     where
-      go : (o : Option CallState) → m.in_hand w ≡ o → unless_abandoned m.cluster r o ≡ Some z → (m.in_hand w ≡ Some z) × (is_abandoned m.cluster r z ≡ false)
+      go : (o : Option CallState) → m.in_hand w ≡ o → unless_abandoned m.cluster r o ≡ Some z → (m.in_hand w ≡ Some z) × (is_abandoned m.cluster r z.call z.op ≡ false)
       go None none left = absurd (cc left)
-      go (Some s) there left = elim (is_abandoned m.cluster r s) as (λ b. is_abandoned m.cluster r s ≡ b → cond b None (Some s) ≡ Some z → (m.in_hand w ≡ Some z) × (is_abandoned m.cluster r z ≡ false)) [
+      go (Some s) there left = elim (is_abandoned m.cluster r s.call s.op) as (λ b. is_abandoned m.cluster r s.call s.op ≡ b → cond b None (Some s) ≡ Some z → (m.in_hand w ≡ Some z) × (is_abandoned m.cluster r z.call z.op ≡ false)) [
         | true ↦ λ is gone. absurd (cc gone)
-        | false ↦ λ is stays. (there ∙ stays, ap (is_abandoned m.cluster r) (sym (same_Some s z stays)) ∙ is)
+        | false ↦ λ is stays. (there ∙ stays, ap (λ (y : CallState). is_abandoned m.cluster r y.call y.op) (sym (same_Some s z stays)) ∙ is)
       ] refl left
 
   -- one that is not abandoned is left
-  pub still : (w : Who) (z : CallState) → m.in_hand w ≡ Some z → is_abandoned m.cluster r z ≡ false → n.in_hand w ≡ Some z
+  pub still : (w : Who) (z : CallState) → m.in_hand w ≡ Some z → is_abandoned m.cluster r z.call z.op ≡ false → n.in_hand w ≡ Some z
   still w z there stays = ap (unless_abandoned m.cluster r) there ∙ ap (λ b. cond b None (Some z)) stays
 
   -- of a call that is left: its client stays
-  pub left_stays : (z : CallState) → is_abandoned m.cluster r z ≡ false → is_of_node m.cluster r z.call.actor ≡ false
+  pub left_stays : (z : CallState) → is_abandoned m.cluster r z.call z.op ≡ false → is_of_node m.cluster r z.call.actor ≡ false
   left_stays z is = (or_parts (is_of_node m.cluster r z.call.actor) (enters_on r (asked z.op)) is).0
 
   -- nor is it an Initialize that names the node
-  pub left_enters : (z : CallState) → is_abandoned m.cluster r z ≡ false → enters_on r (asked z.op) ≡ false
+  pub left_enters : (z : CallState) → is_abandoned m.cluster r z.call z.op ≡ false → enters_on r (asked z.op) ≡ false
   left_enters z is = (or_parts (is_of_node m.cluster r z.call.actor) (enters_on r (asked z.op)) is).1
 
   -- ---- who is dead
 
   -- an Initialize in hand is of a client that is not live
-  entering : (z : CallState) (d : Driver) → is_enter d ≡ true → IsInPlaceUnder failures m shapes z d → is_live_client (client_of z.call) m.cluster ≡ false
+  entering : (z : CallState) (d : Driver) → is_enter d ≡ true → IsInPlace m shapes z d → is_live_client (client_of z.call) m.cluster ≡ false
   entering z (drivers.Once (once.Enter q)) is at = at.not_live
   entering z (drivers.Once once.Leave) is at = absurd (cc is)
   entering z (drivers.Once (once.Close k)) is at = absurd (cc is)
@@ -97,7 +97,7 @@ module _ (failures : Bool) (m : Machine) (shapes : ℕ → Shape) (inv : Invaria
       }
 
   -- what asks for anything but to become live is abandoned with its client alone
-  pub by_client : (s : CallState) → enters_on r (asked s.op) ≡ false → is_abandoned m.cluster r s ≡ is_of_node m.cluster r s.call.actor
+  pub by_client : (s : CallState) → enters_on r (asked s.op) ≡ false → is_abandoned m.cluster r s.call s.op ≡ is_of_node m.cluster r s.call.actor
   by_client s no_enter = ap (λ b. is_of_node m.cluster r s.call.actor || b) no_enter ∙ or_none (is_of_node m.cluster r s.call.actor)
     where
       or_none : (b : Bool) → (b || false) ≡ b

@@ -18,7 +18,7 @@ use Rattle.ckpt_machine.specs.Machine.{Effect}
 use Rattle.ckpt_machine.specs.Nodes.{replica_in}
 use Rattle.ckpt_machine.specs.Shown.{FitsReplica, complete_replica, shown_replica}
 use Rattle.ckpt_machine.proofs.GoesAt.{zero_there, test_zero}
-use Rattle.ckpt_machine.proofs.OnceByKey.{Contains-cases}
+use Rattle.node_core.proofs.OnceByKey.{Contains-cases}
 
 -- the first of some counts
 abbrev first_of : List UpdateCount → ℕ

@@ -10,7 +10,6 @@ use Rattle.cluster_record.specs.Failing.{goes_with_node, most_updated, next_acti
 use Rattle.cluster_record.specs.Placement.{is_collocated, is_all}
 use Rattle.cluster_record.specs.RecordState.{RecordState, entry_of, identity_of, first_complete, is_active}
 use Rattle.ckpt_machine.specs.Drivers as drivers
-use Rattle.ckpt_machine.specs.Entries.{AreApart}
 use Rattle.ckpt_machine.specs.Failing.{failed_at}
 use Rattle.ckpt_machine.specs.Invariant.{Invariant}
 use Rattle.ckpt_machine.specs.Machine.{Machine, Broken, ReplicaState, Snapshot}
@@ -20,7 +19,7 @@ use Rattle.ckpt_machine.specs.Shape.{IsCompleteOn, IsMarker}
 use Rattle.ckpt_machine.specs.Due.{driver_of, count_in}
 use Rattle.ckpt_machine.proofs.ActiveNode.{active_complete}
 use Rattle.ckpt_machine.proofs.Copying.{IsOfSource}
-use Rattle.ckpt_machine.proofs.EachKept.{FollowsBy, IsAhead, EachIn, IsKept, follows_as, copied_there, snapshot_goes, hand_goes}
+use Rattle.ckpt_machine.proofs.EachKept.{FollowsBy, IsAhead, EachIn, IsKeptWhen, follows_as, copied_there, snapshot_goes, hand_goes}
 use Rattle.ckpt_machine.proofs.EntryLists.{find_key-key}
 use Rattle.ckpt_machine.proofs.FailedActive.{active_is, most-greatest}
 use Rattle.ckpt_machine.proofs.FailedCalls.{left_is}
@@ -44,7 +43,7 @@ next_most counts a cs q alone is = by_kind (is_collocated a) (sym (ap (λ b. con
     by_kind true none = absurd (cc none)
     by_kind false most = (refl, most)
 
-module _ (Q : Option Entry → ℕ → ReplicaState → Type 0) (S : Entry → Snapshot → Type 0) (log : List Label) (kept : IsKept Q S log) (m : Machine) (inv : Invariant m) (history : HasHistory m) (each : EachIn Q S m.cluster.last_identity m.cluster.entries m.replicas m.snapshots m.in_hand) (r : ℕ) (apart : AreApart m.cluster.entries) where
+module _ (Q : Option Entry → ℕ → ReplicaState → Type 0) (S : Entry → Snapshot → Type 0) (When : Machine → Type 0) (log : List Label) (kept : IsKeptWhen Q S When log) (m : Machine) (inv : Invariant m) (history : HasHistory m) (each : EachIn Q S m.cluster.last_identity m.cluster.entries m.replicas m.snapshots m.in_hand) (r : ℕ) where
   -- the machine behind the failure
   abbrev n : Machine
   n = failed_at r m
@@ -59,11 +58,11 @@ module _ (Q : Option Entry → ℕ → ReplicaState → Type 0) (S : Entry → S
 
   -- what a replica there was
   abbrev Was : ℕ → ℕ → ReplicaState → Type 0
-  Was k q y = WasReplica m inv history.bare r apart k q y
+  Was k q y = WasReplica m inv history.bare r k q y
 
   -- each that is there was one
   was : (k q : ℕ) (y : ReplicaState) → n.replicas k q ≡ Some y → Was k q y
-  was k q y there = was_replica m inv history.bare r apart k q y there
+  was k q y there = was_replica m inv history.bare r k q y there
 
   -- no identity is given
   last : (k : ℕ) → k ≤ m.cluster.last_identity → m.cluster.last_identity ≤ R.last_identity
@@ -72,7 +71,7 @@ module _ (Q : Option Entry → ℕ → ReplicaState → Type 0) (S : Entry → S
   -- a checkpoint that is there was there, and goes on made
   comes : (k : ℕ) → k ≤ m.cluster.last_identity → (f : Entry) → entry_of k R.entries ≡ Some f → (e : Entry) × (entry_of k m.cluster.entries ≡ Some e) × GoesOnMade e f
   comes k given f found =
-      let it : WasEntry false m inv.shapes inv.holds r k f = was_entry false m inv.shapes inv.holds r k f found in
+      let it : WasEntry m inv.shapes inv.holds r k f = was_entry m inv.shapes inv.holds r k f found in
       (it.e, it.was, failed_goes (counts it.e.identity) (goes_with_node m.cluster r) r it.e f it.left)
 
   -- a snapshot that is there was there
@@ -81,7 +80,7 @@ module _ (Q : Option Entry → ℕ → ReplicaState → Type 0) (S : Entry → S
 
   -- a snapshot in the hand of a call that is left was there
   hand_was : (k : ℕ) (s : Snapshot) → PulledInHand n.in_hand k s → PulledInHand m.in_hand k s
-  hand_was k s has = record { name = has.name; state = has.state; in_hand = (left_is false m inv.shapes inv.holds r has.name has.state has.in_hand).0; ckpt = has.ckpt; snapshot = has.snapshot }
+  hand_was k s has = record { name = has.name; state = has.state; in_hand = (left_is m inv.shapes inv.holds r has.name has.state has.in_hand).0; ckpt = has.ckpt; snapshot = has.snapshot }
 
   -- the call of the marks on a replica has no effect there, since it doesn't commit
   marks_fresh : (k q : ℕ) (x : ReplicaState) (marks : Marked) → m.replicas k q ≡ Some x → x.marks ≡ Some marks → HasEffect marks.call x.effects → ⊥
@@ -107,19 +106,19 @@ module _ (Q : Option Entry → ℕ → ReplicaState → Type 0) (S : Entry → S
     so_still = kept.stays it.before it.then q it.replica it.left.identity goes_made it.made so_before
 
     -- of what it becomes
-    so_then : Becomes m inv history.bare r apart it.before it.then q it.replica y → Q (Some it.then) q y
+    so_then : Becomes m inv history.bare r it.before it.then q it.replica y → Q (Some it.then) q y
     so_then (stays same) = subst (Q (Some it.then) q) (sym same) so_still
-    so_then (cut_short marks stand gone was_led led generation same) = subst (Q (Some it.then) q) (sym same) (kept.broken_off it.then q it.replica marks stand it.free (marks_fresh k q it.replica marks it.there stand) so_still)
-    so_then (leads it_was led none same) = subst (Q (Some it.then) q) (sym same) (kept.led it.before it.then q None it.replica it.left.identity goes_made it.made it.free none tt so_before)
+    so_then (cut_short marks stand gone was_led led generation same) = subst (Q (Some it.then) q) (sym same) (kept.broken_off it.then q it.replica marks stand (it.free marks stand) (marks_fresh k q it.replica marks it.there stand) so_still)
+    so_then (leads it_was led none same) = subst (Q (Some it.then) q) (sym same) (kept.led it.before it.then q None it.replica it.left.identity goes_made it.made tt none tt so_before)
 
     -- it has its effects still
-    more_then : Becomes m inv history.bare r apart it.before it.then q it.replica y → IsPrefix it.replica.effects y.effects
+    more_then : Becomes m inv history.bare r it.before it.then q it.replica y → IsPrefix it.replica.effects y.effects
     more_then (stays same) = prefix_of_same it.replica.effects y.effects (ap (λ (x : ReplicaState). x.effects) same)
     more_then (cut_short marks stand gone was_led led generation same) = (Broken marks.call marks.update marks.moment marks.done ∷ [], ap (λ (x : ReplicaState). x.effects) same)
     more_then (leads it_was led none same) = prefix_of_same it.replica.effects y.effects (ap (λ (x : ReplicaState). x.effects) same)
 
     -- and no more, where the active was on the node that failed
-    same_then : is_active it.before.active r ≡ true → Becomes m inv history.bare r apart it.before it.then q it.replica y → y.effects ≡ it.replica.effects
+    same_then : is_active it.before.active r ≡ true → Becomes m inv history.bare r it.before it.then q it.replica y → y.effects ≡ it.replica.effects
     same_then gone (stays same) = ap (λ (x : ReplicaState). x.effects) same
     same_then gone (cut_short marks stand dead was_led led generation same) = absurd (let w : true ≡ false = sym gone ∙ ap (λ o. is_active o r) was_led ∙ it.elsewhere in cc w)
     same_then gone (leads it_was led none same) = ap (λ (x : ReplicaState). x.effects) same
@@ -132,8 +131,8 @@ module _ (Q : Option Entry → ℕ → ReplicaState → Type 0) (S : Entry → S
 
   module _ (k q : ℕ) (f : Entry) (y : ReplicaState) (found : entry_of k R.entries ≡ Some f) (alone : is_all f.attributes ≡ false) (active : f.active ≡ Some q) (at : n.replicas k q ≡ Some y) where
     -- the checkpoint was there
-    it : WasEntry false m inv.shapes inv.holds r k f
-    it = was_entry false m inv.shapes inv.holds r k f found
+    it : WasEntry m inv.shapes inv.holds r k f
+    it = was_entry m inv.shapes inv.holds r k f found
 
     -- and so was the replica that is the active's then
     y_was : Was k q y
@@ -166,7 +165,7 @@ module _ (Q : Option Entry → ℕ → ReplicaState → Type 0) (S : Entry → S
       more = more_then k q y y_was y_was.becomes
 
       -- so a replica that follows it has only what it has first: a weak write that was cut short was its own
-      replica_stays : (p : ℕ) (z : ReplicaState) (there : n.replicas k p ≡ Some z) → FollowsBy (is_collocated f.attributes) f.generation z → (w : Was k p z) → Becomes m inv history.bare r apart w.before w.then p w.replica z → IsPrefix z.effects y.effects
+      replica_stays : (p : ℕ) (z : ReplicaState) (there : n.replicas k p ≡ Some z) → FollowsBy (is_collocated f.attributes) f.generation z → (w : Was k p z) → Becomes m inv history.bare r w.before w.then p w.replica z → IsPrefix z.effects y.effects
       replica_stays p z there follows w (stays same) =
           let follows_before : FollowsBy (is_collocated it.e.attributes) it.e.generation z = subst (λ (u : CreationAttributes × ℕ). FollowsBy (is_collocated u.0) u.1 z) (λ i. (it.left.attributes i, same_generation i)) follows in
           let followed = before.replica p w.replica w.there (follows_as (is_collocated it.e.attributes) it.e.generation w.replica z (ap (λ (x : ReplicaState). x.generation) (sym same)) follows_before) in
@@ -235,7 +234,7 @@ module _ (Q : Option Entry → ℕ → ReplicaState → Type 0) (S : Entry → S
             let first = prefix_longer w.replica.effects y_was.replica.effects old_there.0.effects (old_first p z w) (old_first q y y_was) (no_more p z w) in
             subst (λ xs. IsPrefix xs y.effects) (sym (effects_same p z w)) (subst (IsPrefix w.replica.effects) (sym (effects_same q y y_was)) first);
         snapshot = λ s there present.
-            let (e, was, is_so) = copied_there Q S log kept m inv history each k s (copy_was k s there) in
+            let (e, was, is_so) = copied_there Q S When log kept m inv history each k s (copy_was k s there) in
             absurd (none_risen s (subst (λ e. IsOfSource e s) (same_Some e it.e (sym was ∙ it.was)) is_so.0) present);
         in_hand = λ s has present. absurd (none_risen s (IfSome-at (entry_of k m.cluster.entries) (λ e. IsOfSource e s × S e s) (each.in_hand k s (hand_was k s has)).1 it.e it.was).0 present);
       }
@@ -252,7 +251,7 @@ module _ (Q : Option Entry → ℕ → ReplicaState → Type 0) (S : Entry → S
   pub failed_each : EachIn Q S n.cluster.last_identity n.cluster.entries n.replicas n.snapshots n.in_hand
   failed_each = record {
     replica = replica_then;
-    snapshot = snapshot_goes Q S log kept m inv history each R last comes;
-    in_hand = λ k s has. hand_goes Q S log kept m inv history each R last comes k s (hand_was k s has);
+    snapshot = snapshot_goes Q S When log kept m inv history each R last comes;
+    in_hand = λ k s has. hand_goes Q S When log kept m inv history each R last comes k s (hand_was k s has);
     ahead = ahead_then;
   }

@@ -15,7 +15,7 @@ use Rattle.cluster_record.specs.declared.calls.MarksMade.{MarksMade}
 use Rattle.cluster_record.specs.declared.calls.SyncKind.{SyncKind}
 use Rattle.cluster_record.specs.declared.calls.SyncKind.TheVariants.{Synchronize, ActiveSet}
 use Rattle.cluster_record.specs.declared.calls.UpdatePhase.{UpdatePhase}
-use Rattle.cluster_record.specs.declared.calls.UpdatePhase.TheVariants.{Staging, Committing}
+use Rattle.cluster_record.specs.declared.calls.UpdatePhase.TheVariants.{Staging, Committing, Claiming, Claimed, Withdrawing, Resolving}
 use Rattle.cluster_record.specs.declared.entries.Entry.{Entry}
 use Rattle.cluster_record.specs.Calls.{client_of, same_call}
 use Rattle.cluster_record.specs.DueActive.{ActiveState}
@@ -33,8 +33,8 @@ use Rattle.ckpt_machine.specs.Dead.{is_enter}
 use Rattle.ckpt_machine.specs.Drivers.{Driver}
 use Rattle.ckpt_machine.specs.Drivers as drivers
 use Rattle.ckpt_machine.specs.Entries.{WasMade}
-use Rattle.ckpt_machine.specs.InHand.{IsInPlaceUnder, IsOnceAt, IsOpenIn, IsMakingIn, IsUpdateUnder, PhaseKeeps, IsActiveIn, IsSyncBy, IsInHandUnder, HasServedActive, is_marked_by, are_present, is_held_by, attributes_asked}
-use Rattle.ckpt_machine.specs.Invariant.{InvariantUnder, IsGoodUnder}
+use Rattle.ckpt_machine.specs.InHand.{IsInPlace, IsOnceAt, IsOpenIn, IsMakingIn, IsUpdateIn, PhaseKeeps, IsActiveIn, IsSyncBy, IsInHand, HasServedActive, is_marked_by, are_present, is_held_by, attributes_asked}
+use Rattle.ckpt_machine.specs.Invariant.{InvariantIn, IsGoodIn}
 use Rattle.ckpt_machine.specs.Machine.{Machine, Snapshot, CallState}
 use Rattle.ckpt_machine.specs.Options.{is_weak}
 use Rattle.ckpt_machine.specs.Tables.{handle_asked}
@@ -50,11 +50,11 @@ use Rattle.ckpt_machine.proofs.FailedEntries.{IsFailedEntry, failed_rises, Faile
 use Rattle.ckpt_machine.proofs.OpenReady.{client_live}
 use Rattle.ckpt_machine.proofs.NodeGone.{no_node, complete_was, complete_still}
 use Rattle.ckpt_machine.proofs.FailedClients.{up_other, found_staying, live_staying, of_node_client, of_those, home_elsewhere}
-use Rattle.ckpt_machine.proofs.FailedCalls.{left_is, left_stays, left_enters}
+use Rattle.ckpt_machine.proofs.FailedCalls.{IsDead-then, left_is, left_stays, left_enters}
 use Rattle.ckpt_machine.proofs.FailedShape.{shape_left, shape_then, marks_left, owner_left, owner_stays}
 use Rattle.ckpt_types.proofs.Lists.{slice_index-cleared}
 
-module _ (failures : Bool) (m : Machine) (shapes : ℕ → Shape) (inv : InvariantUnder failures shapes m) (r : ℕ) where
+module _ (m : Machine) (shapes : ℕ → Shape) (inv : InvariantIn shapes m) (r : ℕ) where
   -- the machine behind the failure
   abbrev n : Machine
   n = failed_at r m
@@ -109,18 +109,18 @@ module _ (failures : Bool) (m : Machine) (shapes : ℕ → Shape) (inv : Invaria
   module _ (w : Who) (s : CallState) (hand : n.in_hand w ≡ Some s) where
     -- it was in hand
     held : m.in_hand w ≡ Some s
-    held = (left_is failures m shapes inv r w s hand).0
+    held = (left_is m shapes inv r w s hand).0
 
     -- its client stays
     stays : is_of_node m.cluster r s.call.actor ≡ false
-    stays = left_stays failures m shapes inv r s (left_is failures m shapes inv r w s hand).1
+    stays = left_stays m shapes inv r s (left_is m shapes inv r w s hand).1
 
     -- and it is no Initialize that names the node
     no_enter : enters_on r (asked s.op) ≡ false
-    no_enter = left_enters failures m shapes inv r s (left_is failures m shapes inv r w s hand).1
+    no_enter = left_enters m shapes inv r s (left_is m shapes inv r w s hand).1
 
     -- it was where its steps had led it
-    at_hand : IsInHandUnder failures m shapes w s
+    at_hand : IsInHand m shapes w s
     at_hand = inv.hands w s held
 
     -- by the number of the client
@@ -189,7 +189,7 @@ module _ (failures : Bool) (m : Machine) (shapes : ℕ → Shape) (inv : Invaria
             let it = was_entry making.ckpt f found in
             let same : it.e ≡ e = same_Some it.e e (sym it.was ∙ was) in
             let by_it : it.e.making ≡ Some s.call = ap (λ (x : Entry). x.making) same ∙ by in
-            let good : IsGoodUnder failures m making.ckpt (shapes making.ckpt) it.e (Some s.call) = subst (IsGoodUnder failures m making.ckpt (shapes making.ckpt) it.e) by_it (inv.entries making.ckpt it.e it.was) in
+            let good : IsGoodIn m making.ckpt (shapes making.ckpt) it.e (Some s.call) = subst (IsGoodIn m making.ckpt (shapes making.ckpt) it.e) by_it (inv.entries making.ckpt it.e it.was) in
             let none : f.complete ≡ slice_set no_nodes r 0 = it.left.complete ∙ ap (λ cs. slice_set cs r 0) good.0.complete in
             let still = λ (q : ℕ). reserved_then making.ckpt q f found (ap (λ cs. slice_index cs q == 0) none ∙ no_node 8 r q) in
             record {
@@ -245,9 +245,13 @@ module _ (failures : Bool) (m : Machine) (shapes : ℕ → Shape) (inv : Invaria
     keeps_then : (u : UpdateState) (active : Option ℕ) (z : Shape) (ph : UpdatePhase) → PhaseKeeps m z s u ph → PhaseKeeps n (shape_left R r active z) s u ph
     keeps_then u active z Staging at = tt
     keeps_then u active z Committing at = record { free = at.free; under = λ q d owns other. at.under q d (owner_left R r active z q d owns).1 other }
+    keeps_then u active z Claiming at = IsDead-then m shapes inv r u.owner at
+    keeps_then u active z Claimed at = IsDead-then m shapes inv r u.owner at
+    keeps_then u active z Withdrawing at = tt
+    keeps_then u active z Resolving at = tt
 
     -- an update on all replicas
-    update_then : (u : UpdateState) → IsUpdateUnder failures m shapes s u → IsUpdateUnder true n shapes_then s u
+    update_then : (u : UpdateState) → IsUpdateIn m shapes s u → IsUpdateIn n shapes_then s u
     update_then u at = record {
       call = at.call;
       place = at.place;
@@ -265,7 +269,6 @@ module _ (failures : Bool) (m : Machine) (shapes : ℕ → Shape) (inv : Invaria
           ∙ at.owns it.e it.was q before
           ∙ sym (ap (is_owner s.call) (ap (λ (z : Shape). z.owners q) it.shape ∙ owner_stays R r it.e.active (shapes u.ckpt) q other)));
       keeps = λ f found. (let it = was_entry u.ckpt f found in subst (λ z. PhaseKeeps n z s u u.phase) (sym it.shape) (keeps_then u it.e.active (shapes u.ckpt) u.phase (at.keeps it.e it.was)));
-      some = λ none. absurd (cc none);
     }
 
     -- ---- generations
@@ -400,7 +403,7 @@ module _ (failures : Bool) (m : Machine) (shapes : ℕ → Shape) (inv : Invaria
     -- ---- the whole
 
     -- by its driver
-    in_place_then : (d : Driver) → driver_of s ≡ d → IsInPlaceUnder failures m shapes s d → IsInPlaceUnder true n shapes_then s d
+    in_place_then : (d : Driver) → driver_of s ≡ d → IsInPlace m shapes s d → IsInPlace n shapes_then s d
     in_place_then (drivers.Once x) is at = once_then x at
     in_place_then (drivers.Open o) is at = open_then (ap is_enter is) o at
     in_place_then (drivers.Update u) is at = update_then u at
@@ -408,7 +411,7 @@ module _ (failures : Bool) (m : Machine) (shapes : ℕ → Shape) (inv : Invaria
     in_place_then (drivers.Sync u) is at = sync_then (ap is_enter is) u u.kind at
 
     -- a call that is left is where its steps have led it
-    pub hand_then : IsInHandUnder true n shapes_then w s
+    pub hand_then : IsInHand n shapes_then w s
     hand_then = record {
       whose = at_hand.whose;
       client = at_hand.client;

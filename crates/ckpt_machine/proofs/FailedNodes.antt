@@ -19,16 +19,17 @@ use Rattle.node_core.specs.Nodes.{is_there, replica_key}
 use Rattle.ckpt_machine.specs.Failing.{broken, broken_unless, made_present, replica_left}
 use Rattle.ckpt_machine.specs.Holding.{replicas_on, IsReservation, IsHeld, HoldsOnlyWhatStands}
 use Rattle.ckpt_machine.specs.Machine.{Effect, Broken, ReplicaState}
-use Rattle.ckpt_machine.specs.Nodes.{replica_in, left_from, nodes_left}
+use Rattle.ckpt_machine.specs.Nodes.{replica_in, left_on_node, nodes_left}
 use Rattle.ckpt_machine.specs.Shown.{FitsReplica, FitsSlot, complete_replica, reserved_in, shown_replica, shown_reservation, shown_slot, where_complete}
 use Rattle.ckpt_machine.specs.Under.{opened_state, replica_under, replicas_under, reservation_under}
+use Rattle.ckpt_machine.proofs.ByNumber.{at_number}
 use Rattle.ckpt_machine.proofs.FailedClients.{up_other}
 use Rattle.ckpt_machine.proofs.FailedEntries.{Failed, found_failed}
 use Rattle.ckpt_machine.proofs.FreedNodes.{find_key-filter}
 use Rattle.ckpt_machine.proofs.GoesAt.{zero_there, test_zero}
 use Rattle.ckpt_machine.proofs.HoldingLaws.{StandsFor, held_at, holds_by_key, standing}
 use Rattle.ckpt_machine.proofs.NodeLists.{index-other}
-use Rattle.ckpt_machine.proofs.OnceByKey.{counted, counted-cons, counted-filter}
+use Rattle.node_core.proofs.OnceByKey.{counted, counted-cons, counted-filter}
 use Rattle.ckpt_types.proofs.Lists.{slice_index-cleared}
 
 -- ---- lists
@@ -130,14 +131,6 @@ counts_left R q E x counts fits = by_entry (entry_of x.ckpt R.entries) (by_marks
 
 -- ---- the nodes
 
--- of a node that is there what is left, by its number
-slice_get-left : (R : RecordState) (r n : ℕ) (nodes : List (List Replica)) (q : ℕ) → slice_get (left_from R r n nodes) q ≡ option_map (λ xs. (node_left R r (record { number = q + n; replicas = xs })).replicas) (slice_get nodes q)
-slice_get-left R r n [] q = refl
-slice_get-left R r n (xs ∷ nodes) zero = ap (λ m. Some (node_left R r (record { number = m; replicas = xs })).replicas) (let same : n ≡ 0 + n = omega arith in same)
-slice_get-left R r n (xs ∷ nodes) (suc q) =
-    slice_get-left R r (n + 1) nodes q
-    ∙ ap (λ m. option_map (λ xs. (node_left R r (record { number = m; replicas = xs })).replicas) (slice_get nodes q)) (let moved : q + (n + 1) ≡ suc q + n = omega arith in moved)
-
 module _ (R : RecordState) (r : ℕ) (nodes : List (List Replica)) where
   -- what is left of the replicas on a node
   abbrev left_on : ℕ → List Replica → List Replica
@@ -146,8 +139,7 @@ module _ (R : RecordState) (r : ℕ) (nodes : List (List Replica)) where
   -- so it is of each
   on_left : (q : ℕ) → replicas_on (nodes_left R r nodes) q ≡ left_on q (replicas_on nodes q)
   on_left q =
-      ap list_or (slice_get-left R r 0 nodes q)
-      ∙ ap (λ n. list_or (option_map (λ xs. cond (n == r) [] (map (node.replica_left R n) (filter (is_there R.entries) xs))) (slice_get nodes q))) (let same : q + 0 ≡ q = omega arith in same)
+      ap list_or (at_number (left_on_node R r) nodes q)
       ∙ by_node (slice_get nodes q)
     where
       by_node : (o : Option (List Replica)) → list_or (option_map (left_on q) o) ≡ left_on q (list_or o)

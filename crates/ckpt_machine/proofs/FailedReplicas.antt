@@ -1,4 +1,4 @@
--- What the failure of a node leaves of a replica, where updates go to the actives alone: what it was, unless its weak write was cut short, or its node is the active by the failure.
+-- What the failure of a node leaves of a replica: what it was, unless its weak write was cut short, or its node is the active by the failure.
 use Rattle.std.proofs.Common.{◌≡◌, ℕ, Option, Some, None, Bool, true, false, cond, ◌==◌, option_map, refl, sym, ap, subst, ◌∙◌}
 use Rattle.std.specs.Prelude.{slice_index}
 use Rattle.std.proofs.lemmas.Bool.{eqb-true}
@@ -6,12 +6,12 @@ use Rattle.std.proofs.lemmas.Option.{same_Some}
 use Rattle.cluster_record.specs.declared.entries.Entry.{Entry}
 use Rattle.cluster_record.specs.Failing.{goes_with_node}
 use Rattle.cluster_record.specs.RecordState.{RecordState, entry_of, complete_of, is_active, is_live}
+use Rattle.cluster_record.specs.Placement.{is_all}
 use Rattle.weak_marks.specs.Marks.{Marked}
-use Rattle.ckpt_machine.specs.Entries.{AreApart}
 use Rattle.ckpt_machine.specs.Failing.{broken, broken_unless, failed_at, made_present, replica_left}
 use Rattle.ckpt_machine.specs.Invariant.{Invariant, IsOfGeneration}
 use Rattle.ckpt_machine.specs.Machine.{Machine, ReplicaState}
-use Rattle.ckpt_machine.specs.Shape.{IsApart, IsCompleteOn, IsShapedBy, marks_at}
+use Rattle.ckpt_machine.specs.Shape.{IsCompleteOn, IsShapedBy, marks_at}
 use Rattle.ckpt_machine.specs.Due.{count_in}
 use Rattle.ckpt_machine.specs.Under.{replica_under, replicas_under}
 use Rattle.ckpt_machine.proofs.FailedActive.{active_is}
@@ -23,7 +23,7 @@ use Rattle.ckpt_machine.proofs.NodeGone.{complete_was}
 use Rattle.ckpt_machine.proofs.OptionLemmas.{IsSomeAnd-at}
 use Rattle.ckpt_machine.proofs.ShapedReplicas.{shaped_there, made_where_complete}
 
-module _ (m : Machine) (inv : Invariant m) (bare : IsBare m) (r : ℕ) (apart : AreApart m.cluster.entries) where
+module _ (m : Machine) (inv : Invariant m) (bare : IsBare m) (r : ℕ) where
   -- the record behind the failure
   abbrev R : RecordState
   R = (failed_at r m).cluster
@@ -53,7 +53,8 @@ module _ (m : Machine) (inv : Invariant m) (bare : IsBare m) (r : ℕ) (apart : 
     pub elsewhere : (q == r) ≡ false
     pub replica : ReplicaState
     pub there : m.replicas k q ≡ Some replica
-    pub free : replica.slot ≡ None
+    -- with marks on it nothing is staged
+    pub free : (w : Marked) → replica.marks ≡ Some w → replica.slot ≡ None
     pub becomes : Becomes before then q replica y
 
   -- marks on a replica are on that of the active
@@ -65,9 +66,21 @@ module _ (m : Machine) (inv : Invariant m) (bare : IsBare m) (r : ℕ) (apart : 
   ] refl some
 
   module _ (k q : ℕ) (e f : Entry) (x : ReplicaState) (was : entry_of k m.cluster.entries ≡ Some e) (found : entry_of k R.entries ≡ Some f) (left : IsFailedEntry (counts e.identity) (goes_with_node m.cluster r) r e f) (elsewhere : (q == r) ≡ false) (there : m.replicas k q ≡ Some x) where
-    -- it has no slot, and the marks that stand there
-    is_apart : IsApart (marks_at e.active (inv.shapes k).marks q) x
-    is_apart = subst (λ all. IsShapedBy all (inv.shapes k) e.active q x) (apart k e was) (shaped_there m inv.shapes inv.holds bare k q x e there was).shaped
+    -- marks stand on the active alone
+    stands : (w : Marked) → x.marks ≡ Some w → e.active ≡ Some q
+    stands w stand = by_all (is_all e.attributes) (shaped_there m inv.shapes inv.holds bare k q x e there was).shaped
+      where
+        by_all : (all : Bool) → IsShapedBy all (inv.shapes k) e.active q x → e.active ≡ Some q
+        by_all true shaped = absurd (let v : None ≡ Some w = sym shaped.unmarked ∙ stand in cc v)
+        by_all false alone = on_active e.active (inv.shapes k).marks q w (sym alone.marks_are ∙ stand)
+
+    -- and nothing is staged there
+    free_by : (w : Marked) → x.marks ≡ Some w → x.slot ≡ None
+    free_by w stand = by_all (is_all e.attributes) (shaped_there m inv.shapes inv.holds bare k q x e there was).shaped
+      where
+        by_all : (all : Bool) → IsShapedBy all (inv.shapes k) e.active q x → x.slot ≡ None
+        by_all true shaped = absurd (let v : None ≡ Some w = sym shaped.unmarked ∙ stand in cc v)
+        by_all false alone = alone.free
 
     -- the replica on an active that stays has the generation that this has
     present : is_active e.active r ≡ false → f.active ≡ Some q → x.generation ≡ f.generation
@@ -86,7 +99,7 @@ module _ (m : Machine) (inv : Invariant m) (bare : IsBare m) (r : ℕ) (apart : 
         by_active true it = leads it (active_is f.active q led) none (sym is)
         by_active false not_it = stays (sym is ∙ ap (λ g. record x { generation = g }) (sym (present not_it (active_is f.active q led))))
     becomes_by (Some marked) stand b led y is =
-        let active : e.active ≡ Some q = on_active e.active (inv.shapes k).marks q marked (sym is_apart.marks_are ∙ stand) in
+        let active : e.active ≡ Some q = stands marked stand in
         let not_it : is_active e.active r ≡ false = ap (λ o. is_active o r) active ∙ elsewhere in
         let then_active : f.active ≡ Some q = (left.led not_it).0 ∙ active in
         by_live active then_active (left.led not_it).1 (present not_it then_active) (is_live R marked.call) refl b is
@@ -104,8 +117,8 @@ module _ (m : Machine) (inv : Invariant m) (bare : IsBare m) (r : ℕ) (apart : 
     where
       by_found : (f : Entry) → entry_of k R.entries ≡ Some f → (x : ReplicaState) → replicas_under m.cluster R m.replicas k q ≡ Some x → replica_left R k q x ≡ y → WasReplica k q y
       by_found f found x under same =
-          let it : WasEntry false m inv.shapes inv.holds r k f = was_entry false m inv.shapes inv.holds r k f found in
-          let (complete, there) = replica_was false m inv.shapes inv.holds r k q f found x under in
+          let it : WasEntry m inv.shapes inv.holds r k f = was_entry m inv.shapes inv.holds r k f found in
+          let (complete, there) = replica_was m inv.shapes inv.holds r k q f found x under in
           let elsewhere = (complete_was it.e.complete r q (ap (λ cs. slice_index cs q == 0) (sym it.left.complete) ∙ complete)).0 in
           record {
             before = it.e;
@@ -118,7 +131,7 @@ module _ (m : Machine) (inv : Invariant m) (bare : IsBare m) (r : ℕ) (apart : 
             elsewhere = elsewhere;
             replica = x;
             there = there;
-            free = (is_apart k q it.e f x it.was found it.left elsewhere there).free;
+            free = free_by k q it.e f x it.was found it.left elsewhere there;
             becomes = becomes_by k q it.e f x it.was found it.left elsewhere there x.marks refl (is_active f.active q) refl y (ap (λ o. made_present o q (broken_unless R x.marks x)) (sym found) ∙ same);
           }
 

@@ -8,18 +8,18 @@ use Rattle.ckpt_types.specs.Asks as asking
 use Rattle.ckpt_types.specs.Updates.{outcome}
 use Rattle.cluster_record.specs.declared.calls.ActiveKind.{ActiveKind}
 use Rattle.cluster_record.specs.declared.calls.UpdatePhase.{UpdatePhase}
-use Rattle.cluster_record.specs.declared.calls.UpdatePhase.TheVariants.{Staging, Committing}
+use Rattle.cluster_record.specs.declared.calls.UpdatePhase.TheVariants.{Staging, Committing, Claiming, Claimed, Withdrawing, Resolving}
 use Rattle.cluster_record.specs.declared.entries.Entry.{Entry}
 use Rattle.cluster_record.specs.Failing.{goes_with_node, is_of_those, most_updated, survives}
 use Rattle.cluster_record.specs.Placement.{is_all, is_collocated}
 use Rattle.cluster_record.specs.RecordState.{RecordState, entry_of, complete_of, first_complete, is_active, is_live}
 use Rattle.weak_marks.specs.Marks.{Marked}
 use Rattle.ckpt_machine.specs.Dead.{IsDead, is_enter}
-use Rattle.ckpt_machine.specs.InHand.{IsInPlaceUnder, IsUpdateUnder, IsActiveIn, IsSyncBy, IsSettingIn, active_kind}
-use Rattle.ckpt_machine.specs.Invariant.{InvariantUnder, IsGoodUnder, IsOfGeneration}
+use Rattle.ckpt_machine.specs.InHand.{IsInPlace, IsUpdateIn, IsActiveIn, IsSyncBy, IsSettingIn, active_kind}
+use Rattle.ckpt_machine.specs.Invariant.{InvariantIn, IsGoodIn, IsOfGeneration}
 use Rattle.ckpt_machine.specs.Machine.{Machine, ReplicaState, who}
 use Rattle.ckpt_machine.specs.Propagation.{on_node, copied}
-use Rattle.ckpt_machine.specs.Shape.{Shape, IsCompleteOn, IsShapedBy, IsOwner, IsLeft, IsMarker, IsHolder, IsOnHold, IsSpreadUnder, IsActiveBy, PhaseFits, marks_at}
+use Rattle.ckpt_machine.specs.Shape.{Shape, IsCompleteOn, IsShapedBy, IsOwner, IsLeft, IsMarker, IsHolder, IsOnHold, IsSpread, IsActiveBy, PhaseFits, marks_at}
 use Rattle.ckpt_machine.specs.Failing.{is_of_node, enters_on, failed_at, replica_left}
 use Rattle.ckpt_machine.specs.After.{replica_under, replicas_under, opened_state}
 use Rattle.ckpt_machine.specs.Due.{driver_of}
@@ -39,7 +39,7 @@ pub active_no_enter : (r : ℕ) (all weak : Bool) (ask : Ask) (kind : ActiveKind
 active_no_enter r all weak (asking.Enter q version callbacks) kind is = absurd (cc is)
 active_no_enter r all weak ask kind is = refl
 
-module _ (failures : Bool) (m : Machine) (shapes : ℕ → Shape) (inv : InvariantUnder failures shapes m) (r k : ℕ) (counts : ℕ → ℕ) (e f : Entry)
+module _ (m : Machine) (shapes : ℕ → Shape) (inv : InvariantIn shapes m) (r k : ℕ) (counts : ℕ → ℕ) (e f : Entry)
     (was : entry_of k m.cluster.entries ≡ Some e) (found : entry_of k (failed_at r m).cluster.entries ≡ Some f) (left : IsFailedEntry counts (goes_with_node m.cluster r) r e f) (kept : survives f ≡ true) (made : f.making ≡ None) where
   -- the machine behind the failure
   abbrev n : Machine
@@ -58,8 +58,8 @@ module _ (failures : Bool) (m : Machine) (shapes : ℕ → Shape) (inv : Invaria
   sh = shape_left R r e.active z
 
   -- the checkpoint is made, so it was
-  spread : IsSpreadUnder failures m k z e
-  spread = subst (IsGoodUnder failures m k z e) (sym left.making ∙ made) (inv.entries k e was)
+  spread : IsSpread m k z e
+  spread = subst (IsGoodIn m k z e) (sym left.making ∙ made) (inv.entries k e was)
 
   -- ---- its nodes and replicas
 
@@ -117,8 +117,8 @@ module _ (failures : Bool) (m : Machine) (shapes : ℕ → Shape) (inv : Invaria
       no_enter : is_enter (driver_of own.state) ≡ false
       no_enter = ap is_enter own.driver_is
 
-      at : IsUpdateUnder failures m shapes own.state own.driver
-      at = subst (IsInPlaceUnder failures m shapes own.state) own.driver_is (inv.hands (who own.state) own.state own.in_hand).here
+      at : IsUpdateIn m shapes own.state own.driver
+      at = subst (IsInPlace m shapes own.state) own.driver_is (inv.hands (who own.state) own.state own.in_hand).here
 
       alone : ((q : ℕ) (c : CallId) → z.owners q ≡ Some c → c ≡ own.state.call) → (q : ℕ) (c : CallId) → sh.owners q ≡ Some c → c ≡ own.state.call
       alone all q c owns = all q c (owner_left R r e.active z q c owns).1
@@ -126,15 +126,23 @@ module _ (failures : Bool) (m : Machine) (shapes : ℕ → Shape) (inv : Invaria
       phase_left : (ph : UpdatePhase) → PhaseFits m z own.state own.driver ph → PhaseFits n sh own.state own.driver ph
       phase_left Staging fits = record { origin = fits.origin; update = fits.update; moment = fits.moment; undone = fits.undone; alone = alone fits.alone }
       phase_left Committing fits = record { origin = fits.origin; update = fits.update; is_done = fits.is_done; alone = alone fits.alone }
+      phase_left Claiming fits = absurd fits
+      phase_left Claimed fits = record { origin = IsDead-then m shapes inv r z.origin fits.origin; count = fits.count }
+      phase_left Withdrawing fits = record { origin = IsDead-then m shapes inv r z.origin fits.origin; done_is = fits.done_is; alone = alone fits.alone }
+      phase_left Resolving fits = record { origin = IsDead-then m shapes inv r z.origin fits.origin; done_is = fits.done_is; alone = alone fits.alone }
 
       origin_dead : IsDead n own.state.call → (ph : UpdatePhase) → PhaseFits m z own.state own.driver ph → IsDead n z.origin
       origin_dead dead Staging fits = subst (IsDead n) (sym fits.origin) dead
       origin_dead dead Committing fits = subst (IsDead n) (sym fits.origin) dead
+      origin_dead dead Claiming fits = absurd fits
+      origin_dead dead Claimed fits = IsDead-then m shapes inv r z.origin fits.origin
+      origin_dead dead Withdrawing fits = IsDead-then m shapes inv r z.origin fits.origin
+      origin_dead dead Resolving fits = IsDead-then m shapes inv r z.origin fits.origin
 
       by_test : (b : Bool) → is_of_node m.cluster r own.state.call.actor ≡ b → IsOwner n k sh d ⊎ IsLeft n sh d
       by_test false stays = inl (record {
         state = own.state;
-        in_hand = still failures m shapes inv r (who own.state) own.state own.in_hand (by_client failures m shapes inv r own.state (ap (enters_on r) at.asks) ∙ stays);
+        in_hand = still m shapes inv r (who own.state) own.state own.in_hand (by_client m shapes inv r own.state (ap (enters_on r) at.asks) ∙ stays);
         call_is = own.call_is;
         driver = own.driver;
         driver_is = own.driver_is;
@@ -142,14 +150,14 @@ module _ (failures : Bool) (m : Machine) (shapes : ℕ → Shape) (inv : Invaria
         phase = phase_left own.driver.phase own.phase;
       })
       by_test true goes =
-          let dead = abandoned_dead failures m shapes inv r (who own.state) own.state own.in_hand no_enter goes in
+          let dead = abandoned_dead m shapes inv r (who own.state) own.state own.in_hand no_enter goes in
           inr (subst (IsDead n) own.call_is dead, origin_dead dead own.driver.phase own.phase)
 
   -- whoever owns a slot is in hand, or dead
   owned_then : (q : ℕ) (d : CallId) → sh.owners q ≡ Some d → IsOwner n k sh d ⊎ IsLeft n sh d
   owned_then q d owns = elim (spread.owned q d (owner_left R r e.active z q d owns).1) [
     | inl own ↦ owner_then d own
-    | inr dead ↦ inr (IsDead-then failures m shapes inv r d dead.0, IsDead-then failures m shapes inv r z.origin dead.1)
+    | inr dead ↦ inr (IsDead-then m shapes inv r d dead.0, IsDead-then m shapes inv r z.origin dead.1)
   ]
 
   -- one that is in hand was an owner in hand
@@ -157,8 +165,8 @@ module _ (failures : Bool) (m : Machine) (shapes : ℕ → Shape) (inv : Invaria
   owner_was q d owns own = elim (spread.owned q d owns) [
     | inl before ↦ before
     | inr dead ↦ absurd (
-        let held = (left_is failures m shapes inv r (who own.state) own.state own.in_hand).0 in
-        let live : is_live m.cluster d ≡ true = ap (is_live m.cluster) (sym own.call_is) ∙ in_hand_live failures m shapes inv r (who own.state) own.state held (ap is_enter own.driver_is) in
+        let held = (left_is m shapes inv r (who own.state) own.state own.in_hand).0 in
+        let live : is_live m.cluster d ≡ true = ap (is_live m.cluster) (sym own.call_is) ∙ in_hand_live m shapes inv r (who own.state) own.state held (ap is_enter own.driver_is) in
         let w : true ≡ false = sym live ∙ dead.0.gone in cc w)
   ]
 
@@ -168,11 +176,11 @@ module _ (failures : Bool) (m : Machine) (shapes : ℕ → Shape) (inv : Invaria
   marker_then : (marks : Marked) → is_live R marks.call ≡ true → IsMarker m k marks → IsMarker n k marks
   marker_then marks live own =
       let hand = inv.hands (who own.state) own.state own.in_hand in
-      let at : IsActiveIn m shapes own.state own.driver = subst (IsInPlaceUnder failures m shapes own.state) own.driver_is hand.here in
-      let stays = live_left failures m shapes inv r own.state hand.client (ap (is_live R) own.call_is ∙ live) in
+      let at : IsActiveIn m shapes own.state own.driver = subst (IsInPlace m shapes own.state) own.driver_is hand.here in
+      let stays = live_left m shapes inv r own.state hand.client (ap (is_live R) own.call_is ∙ live) in
       record {
         state = own.state;
-        in_hand = still failures m shapes inv r (who own.state) own.state own.in_hand (by_client failures m shapes inv r own.state (active_no_enter r own.state.kept.all own.state.kept.weak (asked own.state.op) own.driver.kind at.kind) ∙ stays);
+        in_hand = still m shapes inv r (who own.state) own.state own.in_hand (by_client m shapes inv r own.state (active_no_enter r own.state.kept.all own.state.kept.weak (asked own.state.op) own.driver.kind at.kind) ∙ stays);
         call_is = own.call_is;
         driver = own.driver;
         driver_is = own.driver_is;
@@ -225,7 +233,7 @@ module _ (failures : Bool) (m : Machine) (shapes : ℕ → Shape) (inv : Invaria
       let on = spread.held d held in
       let own = on.holder in
       let hand = inv.hands (who own.state) own.state own.in_hand in
-      let here : IsSyncBy m own.state own.driver own.driver.kind = subst (IsInPlaceUnder failures m shapes own.state) own.driver_is hand.here in
+      let here : IsSyncBy m own.state own.driver own.driver.kind = subst (IsInPlace m shapes own.state) own.driver_is hand.here in
       let at : IsSettingIn m own.state own.driver own.local = subst (IsSyncBy m own.state own.driver) own.kind here in
       let stays : is_of_node m.cluster r own.state.call.actor ≡ false = of_node_client m.cluster r own.state.call.actor hand.client ∙ sym (of_those (goes_with_node m.cluster r) own.state.call hand.client) ∙ ap (λ c. is_of_those (goes_with_node m.cluster r) (Some c)) own.call_is ∙ others in
       record {
@@ -233,7 +241,7 @@ module _ (failures : Bool) (m : Machine) (shapes : ℕ → Shape) (inv : Invaria
         unmarked = none_left R r e.active z on.unmarked;
         holder = record {
           state = own.state;
-          in_hand = still failures m shapes inv r (who own.state) own.state own.in_hand (by_client failures m shapes inv r own.state (ap (enters_on r) at.asks) ∙ stays);
+          in_hand = still m shapes inv r (who own.state) own.state own.in_hand (by_client m shapes inv r own.state (ap (enters_on r) at.asks) ∙ stays);
           call_is = own.call_is;
           driver = own.driver;
           driver_is = own.driver_is;
@@ -255,7 +263,7 @@ module _ (failures : Bool) (m : Machine) (shapes : ℕ → Shape) (inv : Invaria
   -- ---- the whole
 
   -- the checkpoint is spread behind the failure
-  pub spread_then : IsSpreadUnder true n k sh f
+  pub spread_then : IsSpread n k sh f
   spread_then = record {
     nodes = ap length left.complete ∙ length-slice_set e.complete r 0 ∙ spread.nodes;
     some = some_then;
@@ -273,7 +281,6 @@ module _ (failures : Bool) (m : Machine) (shapes : ℕ → Shape) (inv : Invaria
         let owns_p = (owner_left R r e.active z p d owns).1 in
         owner_stays R r e.active z q other ∙ spread.first q p d below before owns_p (owner_was p d owns_p own));
     owned = owned_then;
-    live = λ none. absurd (cc none);
     led = λ marks is. (let (stays, stood, live) = marks_were R r e.active z marks is in ap is_some (same_active stays) ∙ spread.led marks stood);
     marked = λ marks is. (let (stays, stood, live) = marks_were R r e.active z marks is in marker_then marks live (spread.marked marks stood));
     held = holder_then;

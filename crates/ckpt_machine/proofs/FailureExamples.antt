@@ -63,7 +63,7 @@ making flags =
     ∷ []
 
 -- it is made on all three, c1 opens it, and begins to write
-abbrev writing : ℕ → List Label
+abbrev pub writing : ℕ → List Label
 writing flags =
     making flags
     ++ labels.Stepped (call_numbered 2) opwords.Open verbs.Reserve (Some 1) (Some 2) words.Ok None beside.Nothing
@@ -74,26 +74,26 @@ writing flags =
     ∷ []
 
 -- a step of this write at a node, by which it goes on
-abbrev step_at : Verb → ℕ → Label
+abbrev pub step_at : Verb → ℕ → Label
 step_at verb r = labels.Stepped (other_numbered 3) opwords.Write verb (Some 1) (Some r) words.Ok None beside.Nothing
 
 -- ---- what is read of a state
 
 -- of the replica on a node: what it has taken, how its sections are, who owns its slot, and its generation
-abbrev effects_at : ℕ → Machine → Option (List Effect)
+abbrev pub effects_at : ℕ → Machine → Option (List Effect)
 effects_at r m = effects_of (m.replicas 1 r)
 
 abbrev states_at : ℕ → Machine → Option (List SectionState)
 states_at r m = option_map (λ (x : ReplicaState). map (λ (s : Section). s.state) x.sections) (m.replicas 1 r)
 
-abbrev owner_at : ℕ → Machine → Option (Option CallId)
+abbrev pub owner_at : ℕ → Machine → Option (Option CallId)
 owner_at r m = option_map (λ (x : ReplicaState). option_map (λ slot. slot.owner) x.slot) (m.replicas 1 r)
 
 abbrev generation_at : ℕ → Machine → Option ℕ
 generation_at r m = option_map (λ (x : ReplicaState). x.generation) (m.replicas 1 r)
 
 -- the active of the checkpoint, and its generation
-abbrev active_and_generation : Machine → Option (Option ℕ × ℕ)
+abbrev pub active_and_generation : Machine → Option (Option ℕ × ℕ)
 active_and_generation m = option_map (λ (e : Entry). (e.active, e.generation)) (entry_of 1 m.cluster.entries)
 
 -- ---- a weak write is under way on n0, the active

@@ -22,10 +22,10 @@ use Rattle.cluster_record.specs.Makings.{makings_of}
 use Rattle.cluster_record.specs.Placement.{is_collocated}
 use Rattle.cluster_record.specs.Places.{find_key}
 use Rattle.cluster_record.specs.RecordState.{RecordState, entry_of, complete_of, home_of, node_of_client, is_active, no_nodes, client_key}
-use Rattle.ckpt_machine.specs.InHand.{IsInPlaceUnder, IsOpenIn}
-use Rattle.ckpt_machine.specs.Invariant.{InvariantUnder, IsGoodUnder, IsMaker, IsGoodClient, IsGoodHandle, IsOfGeneration, IsCompleteAt, AreCalls, IsBegunBy, IsKeptOf, calls_of}
+use Rattle.ckpt_machine.specs.InHand.{IsInPlace, IsOpenIn}
+use Rattle.ckpt_machine.specs.Invariant.{InvariantIn, IsGoodIn, IsMaker, IsGoodClient, IsGoodHandle, IsOfGeneration, IsCompleteAt, AreCalls, IsBegunBy, IsKeptOf, calls_of}
 use Rattle.ckpt_machine.specs.Machine.{Machine, ReplicaState, who}
-use Rattle.ckpt_machine.specs.Shape.{Shape, IsCompleteOn, IsSpreadUnder}
+use Rattle.ckpt_machine.specs.Shape.{Shape, IsCompleteOn, IsSpread}
 use Rattle.ckpt_machine.specs.Failing.{is_of_node, enters_on, failed_at, replica_left}
 use Rattle.ckpt_machine.specs.Laws.{FailuresKeep}
 use Rattle.ckpt_machine.specs.After.{replica_under, replicas_under, reservation_under, opened_state}
@@ -44,7 +44,7 @@ use Rattle.ckpt_machine.proofs.FailedSpread.{spread_then}
 use Rattle.ckpt_machine.proofs.FailedHands.{shapes_then, WasEntry, was_entry, made_then, hand_then}
 use Rattle.ckpt_types.proofs.Lists.{slice_set-replicate}
 
-module _ (failures : Bool) (m : Machine) (shapes : ℕ → Shape) (inv : InvariantUnder failures shapes m) (r : ℕ) where
+module _ (m : Machine) (shapes : ℕ → Shape) (inv : InvariantIn shapes m) (r : ℕ) where
   -- the machine behind the failure
   abbrev n : Machine
   n = failed_at r m
@@ -64,17 +64,17 @@ module _ (failures : Bool) (m : Machine) (shapes : ℕ → Shape) (inv : Invaria
   -- ---- entries
 
   -- an entry is in the making by a call in hand, or made and spread
-  good_then : (k : ℕ) (f : Entry) → entry_of k R.entries ≡ Some f → IsGoodUnder true n k (shapes_then failures m shapes inv r k) f f.making
+  good_then : (k : ℕ) (f : Entry) → entry_of k R.entries ≡ Some f → IsGoodIn n k (shapes_then m shapes inv r k) f f.making
   good_then k f found = by_making f.making refl
     where
-      it : WasEntry failures m shapes inv r k f
-      it = was_entry failures m shapes inv r k f found
+      it : WasEntry m shapes inv r k f
+      it = was_entry m shapes inv r k f found
 
-      by_making : (o : Option CallId) → f.making ≡ o → IsGoodUnder true n k (shapes_then failures m shapes inv r k) f o
-      by_making None made = subst (λ z. IsSpreadUnder true n k z f) (sym it.shape) (spread_then failures m shapes inv r k (counts it.e.identity) it.e f it.was found it.left it.kept made)
+      by_making : (o : Option CallId) → f.making ≡ o → IsGoodIn n k (shapes_then m shapes inv r k) f o
+      by_making None made = subst (λ z. IsSpread n k z f) (sym it.shape) (spread_then m shapes inv r k (counts it.e.identity) it.e f it.was found it.left it.kept made)
       by_making (Some d) by =
           let by_it : it.e.making ≡ Some d = sym it.left.making ∙ by in
-          let good : IsGoodUnder failures m k (shapes k) it.e (Some d) = subst (IsGoodUnder failures m k (shapes k) it.e) by_it (inv.entries k it.e it.was) in
+          let good : IsGoodIn m k (shapes k) it.e (Some d) = subst (IsGoodIn m k (shapes k) it.e) by_it (inv.entries k it.e it.was) in
           let stays : is_active it.e.active r ≡ false = ap (λ o. is_active o r) good.0.unled in (
             record {
               complete = it.left.complete ∙ ap (λ cs. slice_set cs r 0) good.0.complete ∙ slice_set-replicate 8 r;
@@ -91,11 +91,11 @@ module _ (failures : Bool) (m : Machine) (shapes : ℕ → Shape) (inv : Invaria
           maker_then : IsMaker m k d → is_of_those goes (Some d) ≡ false → IsMaker n k d
           maker_then own others =
               let hand = inv.hands (who own.state) own.state own.in_hand in
-              let at : IsOpenIn m own.state own.driver = subst (IsInPlaceUnder failures m shapes own.state) own.driver_is hand.here in
+              let at : IsOpenIn m own.state own.driver = subst (IsInPlace m shapes own.state) own.driver_is hand.here in
               let stays : is_of_node m.cluster r own.state.call.actor ≡ false = of_node_client m.cluster r own.state.call.actor hand.client ∙ sym (of_those goes own.state.call hand.client) ∙ ap (λ c. is_of_those goes (Some c)) own.call_is ∙ others in
               record {
                 state = own.state;
-                in_hand = still failures m shapes inv r (who own.state) own.state own.in_hand (by_client failures m shapes inv r own.state (ap (enters_on r) at.asks.asks) ∙ stays);
+                in_hand = still m shapes inv r (who own.state) own.state own.in_hand (by_client m shapes inv r own.state (ap (enters_on r) at.asks.asks) ∙ stays);
                 call_is = own.call_is;
                 driver = own.driver;
                 driver_is = own.driver_is;
@@ -113,7 +113,7 @@ module _ (failures : Bool) (m : Machine) (shapes : ℕ → Shape) (inv : Invaria
       by_test : (b : Bool) → (slice_index f.complete q == 0) ≡ b → cond b None (cond (slice_index (complete_of (entry_of k m.cluster.entries)) q == 0) (Some (opened_state f)) (m.replicas k q)) ≡ Some y → (b ≡ false) × (m.replicas k q ≡ Some y)
       by_test true none gone = absurd (cc gone)
       by_test false there some =
-          let it = was_entry failures m shapes inv r k f found in
+          let it = was_entry m shapes inv r k f found in
           let before = (complete_was it.e.complete r q (ap (λ cs. slice_index cs q == 0) (sym it.left.complete) ∙ there)).1 in
           (refl, sym (ap (λ b. cond b (Some (opened_state f)) (m.replicas k q)) (ap (λ o. slice_index (complete_of o) q == 0) it.was ∙ before)) ∙ some)
 
@@ -121,7 +121,7 @@ module _ (failures : Bool) (m : Machine) (shapes : ℕ → Shape) (inv : Invaria
   complete_then : (k q : ℕ) (x : ReplicaState) → n.replicas k q ≡ Some x → IsCompleteAt R k q x.generation
   complete_then k q x is = by_under (replicas_under m.cluster R m.replicas k q) refl is
     where
-      generation_then : (f : Entry) (it : WasEntry failures m shapes inv r k f) (y : ReplicaState) → m.replicas k q ≡ Some y → (g : ℕ) → g ≡ cond (is_active f.active q) f.generation y.generation → IsOfGeneration f q g
+      generation_then : (f : Entry) (it : WasEntry m shapes inv r k f) (y : ReplicaState) → m.replicas k q ≡ Some y → (g : ℕ) → g ≡ cond (is_active f.active q) f.generation y.generation → IsOfGeneration f q g
       generation_then f it y y_is g g_is =
           let at : IsOfGeneration it.e q y.generation = (subst (λ o. IsSomeAnd o (λ (e : Entry). IsCompleteOn e q × IsOfGeneration e q y.generation)) it.was (inv.replicas k q y y_is)).1 in
           let older : y.generation ≤ it.e.generation = at.within in
@@ -139,7 +139,7 @@ module _ (failures : Bool) (m : Machine) (shapes : ℕ → Shape) (inv : Invaria
       by_entry None none y under same = absurd (let w : None ≡ Some y = sym (ap (λ o. replica_under o (slice_index (complete_of (entry_of k m.cluster.entries)) q) q (m.replicas k q)) none) ∙ under in cc w)
       by_entry (Some f) found y under same =
           let (there, y_is) = replica_was k q f found y under in
-          let it = was_entry failures m shapes inv r k f found in
+          let it = was_entry m shapes inv r k f found in
           IsSomeAnd-from (entry_of k R.entries) (λ (e : Entry). IsCompleteOn e q × IsOfGeneration e q x.generation) f found
           (there, generation_then f it y y_is x.generation (ap (λ (v : ReplicaState). v.generation) (sym same) ∙ generation_led R k q f y found))
 
@@ -157,7 +157,7 @@ module _ (failures : Bool) (m : Machine) (shapes : ℕ → Shape) (inv : Invaria
       by_entry : (o : Option Entry) → entry_of k R.entries ≡ o → reservation_under o q (m.reserved k q) ≡ Some i → IsSomeAnd o (λ e. IsSome e.making)
       by_entry None none some = absurd (cc some)
       by_entry (Some f) found some =
-          let it = was_entry failures m shapes inv r k f found in
+          let it = was_entry m shapes inv r k f found in
           ap is_some it.left.making ∙ subst (λ o. IsSomeAnd o (λ (e : Entry). IsSome e.making)) it.was (inv.reserves k q i (by_complete (slice_index f.complete q == 0) some))
         where
           by_complete : (b : Bool) → cond b (m.reserved k q) None ≡ Some i → m.reserved k q ≡ Some i
@@ -202,14 +202,14 @@ module _ (failures : Bool) (m : Machine) (shapes : ℕ → Shape) (inv : Invaria
           record {
             client = was.client;
             live = ap is_some same ∙ was.live;
-            made = made_then failures m shapes inv r h.id was.made;
+            made = made_then m shapes inv r h.id was.made;
             placed = IfSome-from (entry_of h.id R.entries) (λ e. is_collocated e.attributes ≡ true → IsCompleteOn e (home_of (number_of a) R)) (λ f found collocated.
-                let it = was_entry failures m shapes inv r h.id f found in
+                let it = was_entry m shapes inv r h.id f found in
                 let before : IsCompleteOn it.e (home_of (number_of a) m.cluster) = IfSome-at (entry_of h.id m.cluster.entries) (λ (e : Entry). is_collocated e.attributes ≡ true → IsCompleteOn e (home_of (number_of a) m.cluster)) was.placed it.e it.was (ap is_collocated (sym it.left.attributes) ∙ collocated) in
                 subst (IsCompleteOn f) (ap node_of_client (sym same))
                 (ap (λ cs. slice_index cs (home_of (number_of a) m.cluster) == 0) it.left.complete ∙ complete_still it.e.complete r (home_of (number_of a) m.cluster) (home_elsewhere m.cluster r (number_of a) was.live client_stays) before));
             flags = IfSome-from (entry_of h.id R.entries) (λ e. h.creation_flags ≡ e.attributes.creation_flags) (λ f found.
-                let it = was_entry failures m shapes inv r h.id f found in
+                let it = was_entry m shapes inv r h.id f found in
                 IfSome-at (entry_of h.id m.cluster.entries) (λ (e : Entry). h.creation_flags ≡ e.attributes.creation_flags) was.flags it.e it.was ∙ ap (λ (x : CreationAttributes). x.creation_flags) (sym it.left.attributes));
           }
 
@@ -226,7 +226,7 @@ module _ (failures : Bool) (m : Machine) (shapes : ℕ → Shape) (inv : Invaria
   places_then c =
       let few : length (m.tables (Client c)).handles + makings_of c m.cluster.entries ≤ handles_max = inv.places c in
       let fewer_handles : length (n.tables (Client c)).handles ≤ length (m.tables (Client c)).handles = by_node (is_of_node m.cluster r (Client c)) in
-      omega (arith, few, fewer_handles, fewer_makings c m.cluster.entries R.entries inv.rises (then_rises counts r m.cluster inv.rises) (λ k f found. let it = was_entry failures m shapes inv r k f found in (it.e, it.was, it.left.making)))
+      omega (arith, few, fewer_handles, fewer_makings c m.cluster.entries R.entries inv.rises (then_rises counts r m.cluster inv.rises) (λ k f found. let it = was_entry m shapes inv r k f found in (it.e, it.was, it.left.making)))
     where
       by_node : (b : Bool) → length (cond b (emptied (m.tables (Client c))) (m.tables (Client c))).handles ≤ length (m.tables (Client c)).handles
       by_node true = omega arith
@@ -237,11 +237,11 @@ module _ (failures : Bool) (m : Machine) (shapes : ℕ → Shape) (inv : Invaria
   -- the calls in hand, and those that are not dispatched, are as they were
   calls_then : AreCalls n.in_hand n.pending n.next
   calls_then = record {
-    one_name = λ w v s t at there same. inv.calls.one_name w v s t (left_is failures m shapes inv r w s at).0 (left_is failures m shapes inv r v t there).0 same;
+    one_name = λ w v s t at there same. inv.calls.one_name w v s t (left_is m shapes inv r w s at).0 (left_is m shapes inv r v t there).0 same;
     begun = λ a c among. by_node a c (is_of_node m.cluster r a) among;
     kept = λ w s at async. (
-        let (held, others) = left_is failures m shapes inv r w s at in
-        subst (λ (p : PendingCalls). IsSomeAnd (find_async s.call p.unfinished) (IsKeptOf s)) (sym (ap (λ b. cond b no_pending (m.pending s.call.actor)) (left_stays failures m shapes inv r s others))) (inv.calls.kept w s held async));
+        let (held, others) = left_is m shapes inv r w s at in
+        subst (λ (p : PendingCalls). IsSomeAnd (find_async s.call p.unfinished) (IsKeptOf s)) (sym (ap (λ b. cond b no_pending (m.pending s.call.actor)) (left_stays m shapes inv r s others))) (inv.calls.kept w s held async));
   }
     where
       by_node : (a : ActorName) (c : AsyncCall) (b : Bool) → Contains (calls_of (cond b no_pending (m.pending a))) c → IsBegunBy m.next a c
@@ -251,7 +251,7 @@ module _ (failures : Bool) (m : Machine) (shapes : ℕ → Shape) (inv : Invaria
   -- ---- the whole
 
   -- all of the invariant, by its fields
-  pub failure_keeps : InvariantUnder true (shapes_then failures m shapes inv r) n
+  pub failure_keeps : InvariantIn (shapes_then m shapes inv r) n
   failure_keeps = record {
     up = length-slice_set m.cluster.up r 0 ∙ inv.up;
     first_up = λ none. ap (λ up. slice_set up r 0) (inv.first_up none) ∙ slice_set-replicate 8 r;
@@ -266,10 +266,10 @@ module _ (failures : Bool) (m : Machine) (shapes : ℕ → Shape) (inv : Invaria
     rest = rest_then;
     clients = client_then;
     places = places_then;
-    hands = λ w s at. hand_then failures m shapes inv r w s at;
+    hands = λ w s at. hand_then m shapes inv r w s at;
     calls = calls_then;
   }
 
 -- THE LAW OF A FAILURE
 pub failures_keep : FailuresKeep
-failures_keep failures shapes m r inv up = record { shapes = shapes_then failures m shapes inv r; holds = failure_keeps failures m shapes inv r }
+failures_keep m r inv up = record { shapes = shapes_then m inv.shapes inv.holds r; holds = failure_keeps m inv.shapes inv.holds r }

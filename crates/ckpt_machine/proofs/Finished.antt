@@ -25,7 +25,7 @@ use Rattle.ckpt_machine.specs.Due.{driver_of}
 use Rattle.ckpt_machine.specs.Shape.{Shape, IsCompleteOn, IsShapedBy, is_owner, IsOwner, IsMarker, IsActiveBy, IsHolder, IsSpread}
 use Rattle.ckpt_machine.proofs.Handles.{IsGoodHandle-later}
 use Rattle.ckpt_machine.proofs.ActiveBy.{lowest_complete}
-use Rattle.ckpt_machine.proofs.Lives.{LivesOn, lives_on-one}
+use Rattle.ckpt_machine.proofs.Lives.{LivesOn, lives_on-one, enters-one, dead_on}
 use Rattle.ckpt_machine.proofs.OtherCalls.{LooksAlike, LooksLater-refl, making_still, IsInHand-alike, IsGoodIn-alike}
 use Rattle.ckpt_machine.proofs.OptionLemmas.{IsSomeAnd-at, IsSomeAnd-from}
 use Rattle.ckpt_machine.proofs.MarksAt.{none_marked}
@@ -164,7 +164,6 @@ module _ (m : Machine) (shapes : ℕ → Shape) (inv : InvariantIn shapes m) (s 
     lowest = λ q r d below there none. absurd (cc none);
     first = λ q r d below there none own. absurd (cc none);
     owned = λ r d none. absurd (cc none);
-    live = λ unfailed r d none. absurd (cc none);
     led = λ marks none. absurd (cc none);
     marked = λ marks none. absurd (cc none);
     held = λ d is. absurd (let w : Some d ≡ None = sym is ∙ none_held in cc w);
@@ -216,6 +215,7 @@ module _ (m : Machine) (shapes : ℕ → Shape) (inv : InvariantIn shapes m) (s 
       later = λ j was g found. (g, sym (entry_other j (not_made j was)) ∙ found, LooksLater-refl z (shapes j).marks g);
       owners = λ j was r. ap (λ (sh : Shape). is_owner z.call (sh.owners r)) (ap (λ b. cond b opened_shape (shapes j)) (not_made j was));
       marks = λ j was. ap (λ (sh : Shape). is_marked_by z.call sh.marks) (ap (λ b. cond b opened_shape (shapes j)) (not_made j was));
+      dead = λ j g was found. dead_on m then_machine (λ d. refl) refl (enters-one m then_machine s held (inv.hands (who s) s held).driven None (same_call-None s) (λ z none. absurd (cc none)) (λ a. refl));
       done = λ j was. subst (λ sh. IsDoneIn sh z) (sym (ap (λ b. cond b opened_shape (shapes j)) (not_made j was)));
     }
 

@@ -22,7 +22,7 @@ use Rattle.ckpt_types.specs.Asks.{asked, update_of}
 use Rattle.ckpt_machine.specs.Machine.{Machine, Effect, Applied, ReplicaState, Snapshot, Staged, CallState}
 use Rattle.ckpt_machine.specs.Owned.{IsEffectOf, HasEffect}
 use Rattle.ckpt_machine.specs.Shape.{IsCompleteOn}
-use Rattle.ckpt_machine.specs.After.{with_record, record_step, created_for, retained_for, change_replica, with_slot, staged_moment, with_committed, committed_slot, with_applied, with_marks, with_next_element, next_element_written, without_marks, marks_ended, with_installed, with_lead, led_from, effect_of, changed, on_ok, on_look, without_making, at_some, replica_under, reservation_under, snapshot_under, opened_state, with_closed, goes_with}
+use Rattle.ckpt_machine.specs.After.{with_record, record_step, created_for, retained_for, change_replica, with_slot, with_claim, without_slot, staged_moment, with_committed, committed_slot, with_applied, with_marks, with_next_element, next_element_written, without_marks, marks_ended, with_installed, with_lead, led_from, effect_of, changed, on_ok, on_look, without_making, at_some, replica_under, reservation_under, snapshot_under, opened_state, with_closed, goes_with}
 use Rattle.ckpt_machine.specs.Tables.{handle_closed}
 use Rattle.ckpt_machine.specs.Whose.{is_of}
 use Rattle.ckpt_machine.proofs.Dropped.{left_was}
@@ -342,6 +342,8 @@ module _ (m : Machine) (bare : IsBare m) (IsNew : ℕ → CallId → Type 0) whe
   changed_follows s verbs.Finish k r reply new = ok_follows reply _ (one_follows k _ (λ k. step_follows (finished k (client_of s.call))))
   changed_follows s verbs.Undo k r reply new = ok_follows reply _ (one_follows k _ (λ k. step_follows (undone k)))
   changed_follows s verbs.Stage k r reply new = ok_follows reply _ (both_follow k r _ (λ k r. changed_replica k r (m.replicas k r) refl (with_slot s.call (update_of s.op) (staged_moment m k)) (λ x d there has. inl has)))
+  changed_follows s verbs.Claim k r reply new = ok_follows reply _ (both_follow k r _ (λ k r. changed_replica k r (m.replicas k r) refl (with_claim s.call) (λ x d there has. inl has)))
+  changed_follows s verbs.Withdraw k r reply new = ok_follows reply _ (both_follow k r _ (λ k r. changed_replica k r (m.replicas k r) refl without_slot (λ x d there has. inl has)))
   changed_follows s verbs.Commit k r reply new = commit_follows s k r reply new
   changed_follows s verbs.Apply k r reply new = apply_follows s (update_of s.op) m.cluster.moment k r reply new
   changed_follows s verbs.Mark k r reply new = ok_follows reply _ (both_follow k r _ (λ k r. changed_replica k r (m.replicas k r) refl (with_marks s.call (update_of s.op) m.cluster.moment) (λ x d there has. inl has)))

@@ -14,7 +14,7 @@ use Rattle.ckpt_machine.specs.Holding.{replicas_on, IsReservation, IsHeld, Holds
 use Rattle.ckpt_machine.specs.Shown.{shown_reservation, where_complete, complete_replica, reserved_in}
 use Rattle.ckpt_machine.specs.After.{reservation_under}
 use Rattle.ckpt_machine.proofs.HoldingLaws.{StandsFor, held_at, holds_by_key, standing}
-use Rattle.ckpt_machine.proofs.OnceByKey.{counted, counted-filter}
+use Rattle.node_core.proofs.OnceByKey.{counted, counted-filter}
 use Rattle.ckpt_machine.proofs.GoesAt.{GoesAt, NodeGoes, zero_there}
 
 -- ---- found by a key among those of some keys

@@ -35,7 +35,7 @@ use Rattle.cluster_record.proofs.Places.{find_changed}
 use Rattle.ckpt_machine.specs.Driving.{event_refusal, refusal_in}
 use Rattle.ckpt_machine.proofs.Joining.{opened_with-identity}
 use Rattle.ckpt_machine.proofs.OptionLemmas.{IsSomeAnd-at}
-use Rattle.ckpt_machine.proofs.OnceByKey.{counted}
+use Rattle.node_core.proofs.OnceByKey.{counted}
 use Rattle.node_core.specs.Nodes.{replica_key}
 use Rattle.cluster_record.proofs.NameLaws.{named-entry}
 use Rattle.ckpt_machine.proofs.Adding.{added_replica, added_here, added_once, opened_none, opened_adds}

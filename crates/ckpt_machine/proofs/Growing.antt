@@ -31,7 +31,7 @@ use Rattle.ckpt_machine.specs.Machine.{Machine, Applied, Broken, ReplicaState, S
 use Rattle.ckpt_machine.specs.Propagation.{is_behind, replica_from}
 use Rattle.ckpt_machine.specs.Replays.{IsPrefix}
 use Rattle.ckpt_machine.specs.Shape.{IsCompleteOn}
-use Rattle.ckpt_machine.specs.After.{with_record, record_step, created_for, retained_for, change_replica, with_committed, with_applied, with_slot, with_marks, with_next_element, without_marks, marks_ended, changed, on_ok, on_look, without_making, at_some, replica_under, opened_state, step_of, staged_moment, after}
+use Rattle.ckpt_machine.specs.After.{with_record, record_step, created_for, retained_for, change_replica, with_committed, with_applied, with_slot, with_claim, without_slot, with_marks, with_next_element, without_marks, marks_ended, changed, on_ok, on_look, without_making, at_some, replica_under, opened_state, step_of, staged_moment, after}
 use Rattle.ckpt_machine.specs.Due.{Told, count_in}
 use Rattle.ckpt_machine.specs.Under.{replicas_under}
 use Rattle.ckpt_machine.proofs.Activating.{Leads, with_leader, made_where_complete, found_led, led_made, others_stay, after_activate}
@@ -322,6 +322,8 @@ module _ (m : Machine) (inv : Invariant m) (bare : IsBare m) (each : Each (λ o 
     steps_go s verbs.Finish j q reply needs done = finished_goes s j q reply needs
     steps_go s verbs.Undo j q reply needs done = ok_goes reply _ (one_goes j _ undone_goes)
     steps_go s verbs.Stage j q reply needs done = changed_goes j q reply (λ j. with_slot s.call (update_of s.op) (staged_moment m j)) (λ j x. grows_to_same x)
+    steps_go s verbs.Claim j q reply needs done = changed_goes j q reply (λ j. with_claim s.call) (λ j x. grows_to_same x)
+    steps_go s verbs.Withdraw j q reply needs done = changed_goes j q reply (λ j. without_slot) (λ j x. grows_to_same x)
     steps_go s verbs.Commit j q reply needs done = changed_goes j q reply (λ j. with_committed (entry_of j m.cluster.entries)) (λ j x. committed_grows (entry_of j m.cluster.entries) x)
     steps_go s verbs.Apply j q reply needs done = changed_goes j q reply (λ j. with_applied s.call (update_of s.op) m.cluster.moment (entry_of j m.cluster.entries)) (λ j x. applied_grows (entry_of j m.cluster.entries) s.call (update_of s.op) m.cluster.moment x)
     steps_go s verbs.Mark j q reply needs done = changed_goes j q reply (λ j. with_marks s.call (update_of s.op) m.cluster.moment) (λ j x. grows_to_same x)
@@ -356,7 +358,7 @@ module _ (m : Machine) (inv : Invariant m) (bare : IsBare m) (each : Each (λ o 
 
         made : (f : Entry) → entry_of k R.entries ≡ Some f → (e : Entry) × (entry_of k m.cluster.entries ≡ Some e) × GoesOnMade e f
         made f found =
-            let it : WasEntry false m inv.shapes inv.holds r k f = was_entry false m inv.shapes inv.holds r k f found in
+            let it : WasEntry m inv.shapes inv.holds r k f = was_entry m inv.shapes inv.holds r k f found in
             (it.e, it.was, failed_goes (counts it.e.identity) (goes_with_node m.cluster r) r it.e f it.left)
 
         -- a node that is up is another
@@ -371,7 +373,7 @@ module _ (m : Machine) (inv : Invariant m) (bare : IsBare m) (each : Each (λ o 
 
         replica : (q : ℕ) (x : ReplicaState) (e f : Entry) → is_up q R ≡ true → entry_of k m.cluster.entries ≡ Some e → entry_of k R.entries ≡ Some f → f.generation ≡ e.generation → m.replicas k q ≡ Some x → x.generation ≡ e.generation → IsSomeAnd ((failed_at r m).replicas k q) (GrowsTo x)
         replica q x e f is_there was found still at present =
-            let it : WasEntry false m inv.shapes inv.holds r k f = was_entry false m inv.shapes inv.holds r k f found in
+            let it : WasEntry m inv.shapes inv.holds r k f = was_entry m inv.shapes inv.holds r k f found in
             let (g, is, complete_at) = IsSomeAnd-at (entry_of k m.cluster.entries) (λ e. IsCompleteOn e q) (bare.complete k q x at) in
             let complete : IsCompleteOn it.e q = subst (λ e. IsCompleteOn e q) (same_Some g it.e (sym is ∙ it.was)) complete_at in
             let complete_then : (slice_index f.complete q == 0) ≡ false = ap (λ cs. slice_index cs q == 0) it.left.complete ∙ complete_still it.e.complete r q (elsewhere q is_there) complete in

@@ -20,10 +20,11 @@ use Rattle.node_msgs.specs.declared.steps.StepReply.{StepReply}
 use Rattle.node_msgs.specs.declared.steps.StepReply.TheVariants as words
 use Rattle.run_labels.specs.declared.labels.Label.{Label}
 use Rattle.run_labels.specs.declared.labels.Label.TheVariants as labels
-use Rattle.cluster_record.specs.declared.calls.UpdatePhase.TheVariants.{Committing}
+use Rattle.cluster_record.specs.declared.calls.UpdatePhase.{UpdatePhase}
+use Rattle.cluster_record.specs.declared.calls.UpdatePhase.TheVariants.{Staging, Committing, Claiming, Claimed, Withdrawing, Resolving}
 use Rattle.cluster_record.specs.declared.entries.Entry.{Entry}
 use Rattle.cluster_record.specs.Calls.{same_actor, put_actor, left}
-use Rattle.cluster_record.specs.DueUpdate.{UpdateState, update_led, update_on, by_phase, commit_at, update_taken, update_taken_by, commit_taken}
+use Rattle.cluster_record.specs.DueUpdate.{UpdateState, update_led, update_on, by_phase, commit_at, committing, update_taken, update_taken_by, commit_taken}
 use Rattle.cluster_record.specs.Places.{put, put2}
 use Rattle.cluster_record.specs.RecordState.{entry_of, is_live, moved}
 use Rattle.cluster_record.specs.StepDone.{StepDone, done_of, counting, first_lacking, last_having}
@@ -38,15 +39,15 @@ use Rattle.ckpt_machine.specs.UpdateGuards.{CommitOk}
 use Rattle.ckpt_machine.specs.GuardTerms.{OnReplica, OnAll, OnActive}
 use Rattle.ckpt_machine.specs.InHand.{IsInPlace, IsUpdateIn}
 use Rattle.ckpt_machine.specs.Invariant.{Invariant}
-use Rattle.ckpt_machine.specs.Dead.{is_enter}
-use Rattle.ckpt_machine.specs.Entries.{AreApart}
+use Rattle.ckpt_machine.specs.Dead.{IsDead, is_enter}
 use Rattle.ckpt_machine.specs.Failing.{failed_at}
+use Rattle.ckpt_types.specs.Asks.{update_of}
 use Rattle.ckpt_machine.specs.Machine.{Machine, Broken, Staged, ReplicaState, Snapshot, CallState, empty_cluster, who}
 use Rattle.ckpt_machine.specs.Options.{is_weak, is_by_element}
 use Rattle.cluster_record.specs.Placement.{is_all}
 use Rattle.ckpt_machine.specs.Owned.{HasEffect}
 use Rattle.ckpt_machine.specs.Propagation.{copied, replica_from}
-use Rattle.ckpt_machine.specs.Shape.{IsCompleteOn, IsMarker, IsOwner}
+use Rattle.ckpt_machine.specs.Shape.{IsCompleteOn, IsMarker, IsOwner, PhaseFits}
 use Rattle.ckpt_machine.specs.After.{after_beginning, reservation_under, with_record, call_begun, changed, kept_behind, pulled_by, stepped, step_of, after}
 use Rattle.ckpt_machine.specs.Due.{Told, IsDone, IsDue, driver_of, due, rooms_of, count_in, counted_at}
 use Rattle.ckpt_machine.proofs.Runs.{along}
@@ -62,12 +63,13 @@ use Rattle.ckpt_machine.proofs.Lawful.{lawful}
 use Rattle.ckpt_machine.proofs.Start.{invariant_empty}
 use Rattle.ckpt_machine.proofs.Starting.{first_kept, begun_as}
 use Rattle.ckpt_machine.proofs.Actors.{same_actor-true}
-pub use Rattle.ckpt_machine.proofs.ShapedReplicas.{shaped_there, slot_owned, marks_owned}
+pub use Rattle.ckpt_machine.proofs.ShapedReplicas.{IsUpdater, shaped_there, slot_owned, slot_calls, marks_owned}
 use Rattle.ckpt_machine.proofs.ShapedReplicas.{maker_incomplete}
 use Rattle.ckpt_machine.specs.Whose.{same_who}
 use Rattle.ckpt_types.specs.OpWord.{stepped_as, word_of_op}
 use Rattle.ckpt_machine.proofs.Dropped.{held_as}
 use Rattle.ckpt_machine.proofs.Whose.{same_who-refl, put_who-cases, one_call}
+use Rattle.ckpt_machine.proofs.Lives.{held_not_dead}
 use Rattle.ckpt_machine.proofs.OptionLemmas.{IsSomeAnd-at, IsSomeAnd-from}
 
 -- what drives the call commits an update of this checkpoint
@@ -112,13 +114,13 @@ pub data CommitsBy (m : Machine) (u : UpdateState) (t : Told) : Type 0 where
   commit : t.verb ≡ verbs.Commit → CommitsBy m u t
   gone : entry_of u.ckpt m.cluster.entries ≡ None → t.end ≡ Some (Refused NotExist Plain) → CommitsBy m u t
   unled : (e : Entry) → entry_of u.ckpt m.cluster.entries ≡ Some e → e.active ≡ None → t.end ≡ Some (Refused NotExist Plain) → CommitsBy m u t
-  nothing_left : t.end ≡ Some (Done answers.Nothing) → CommitsBy m u t
+  nothing_left : (answer : Answer) → t.end ≡ Some (Done answer) → CommitsBy m u t
 
 pub commits_by : (m : Machine) (s : CallState) (u : UpdateState) (t : Told) → driver_of s ≡ drivers.Update u → u.phase ≡ Committing → IsDone m s (due m s) t → CommitsBy m u t
 commits_by m s u t is phase done = by_entry (entry_of u.ckpt m.cluster.entries) refl (subst (λ d. IsDone m s (driver_next m.cluster (rooms_of m s) d) t) is done)
   where
     at : (last : Option ℕ) → IsDone m s (commit_at u last) t → CommitsBy m u t
-    at None looked = nothing_left (ap (λ (t : Told). t.end) looked)
+    at None looked = nothing_left (update_answer (update_of s.op)) (ap (λ (t : Told). t.end) looked)
     at (Some r) served = commit served.verb
 
     by_active : (e : Entry) → entry_of u.ckpt m.cluster.entries ≡ Some e → (active : Option ℕ) → e.active ≡ active → IsDone m s (update_led u m.cluster.moment e active) t → CommitsBy m u t
@@ -131,12 +133,12 @@ commits_by m s u t is phase done = by_entry (entry_of u.ckpt m.cluster.entries) 
     by_entry None none looked = gone none (ap (λ (t : Told). t.end) looked)
     by_entry (Some e) found step = by_active e found e.active refl step
 
--- a commit leaves its call committing
+-- a commit of its own update leaves its call committing
 committed_phase : (d : StepDone) (u : UpdateState) (reply : StepReply) → u.phase ≡ Committing → ((commit_taken d u reply).phase ≡ Committing) × ((commit_taken d u reply).ckpt ≡ u.ckpt)
-committed_phase d u words.Ok is = (refl, refl)
+committed_phase d u words.Ok is = (ap committing is, refl)
 committed_phase d u reply is = (is, refl)
 
-taken_commit : (d : StepDone) (u : UpdateState) (k : ℕ) → d.verb ≡ verbs.Commit → u.ckpt ≡ k → (u.phase ≡ Committing) ⊎ (d.reply ≡ words.Ok) → IsCommittingAt k (drivers.Update (update_taken d u))
+taken_commit : (d : StepDone) (u : UpdateState) (k : ℕ) → d.verb ≡ verbs.Commit → u.ckpt ≡ k → (u.phase ≡ Committing) ⊎ ((d.reply ≡ words.Ok) × (committing u.phase ≡ Committing)) → IsCommittingAt k (drivers.Update (update_taken d u))
 taken_commit d u k is ckpt phase = subst (λ verb. IsCommittingAt k (drivers.Update (update_taken_by d u verb))) (sym is) (record {
   update = commit_taken d u d.reply;
   driver_is = refl;
@@ -144,9 +146,9 @@ taken_commit d u k is ckpt phase = subst (λ verb. IsCommittingAt k (drivers.Upd
   phase = (by_reply phase).0;
 })
   where
-    by_reply : (u.phase ≡ Committing) ⊎ (d.reply ≡ words.Ok) → ((commit_taken d u d.reply).phase ≡ Committing) × ((commit_taken d u d.reply).ckpt ≡ u.ckpt)
+    by_reply : (u.phase ≡ Committing) ⊎ ((d.reply ≡ words.Ok) × (committing u.phase ≡ Committing)) → ((commit_taken d u d.reply).phase ≡ Committing) × ((commit_taken d u d.reply).ckpt ≡ u.ckpt)
     by_reply (inl is) = committed_phase d u d.reply is
-    by_reply (inr ok) = subst (λ reply. ((commit_taken d u reply).phase ≡ Committing) × ((commit_taken d u reply).ckpt ≡ u.ckpt)) (sym ok) (refl, refl)
+    by_reply (inr ok) = subst (λ reply. ((commit_taken d u reply).phase ≡ Committing) × ((commit_taken d u reply).ckpt ≡ u.ckpt)) (sym ok.0) (ok.1, refl)
 
 -- where it goes on it commits still
 commits_still : (m : Machine) (s : CallState) (t : Told) (d : StepDone) (k : ℕ) → d.verb ≡ t.verb → IsDone m s (due m s) t → t.end ≡ None → IsCommittingAt k (driver_of s) → IsCommittingAt k (driver_taken d (driver_of s))
@@ -155,7 +157,7 @@ commits_still m s t d k verb done goes_on at =
       | commit is ↦ subst (λ x. IsCommittingAt k (driver_taken d x)) (sym at.driver_is) (taken_commit d at.update k (verb ∙ is) at.ckpt (inl at.phase))
       | gone none ends ↦ absurd (let w : None ≡ Some (Refused NotExist Plain) = sym goes_on ∙ ends in cc w)
       | unled e found none ends ↦ absurd (let w : None ≡ Some (Refused NotExist Plain) = sym goes_on ∙ ends in cc w)
-      | nothing_left ends ↦ absurd (let w : None ≡ Some (Done answers.Nothing) = sym goes_on ∙ ends in cc w)
+      | nothing_left answer ends ↦ absurd (let w : None ≡ Some (Done answer) = sym goes_on ∙ ends in cc w)
     ]
 
 -- ---- a step
@@ -174,12 +176,13 @@ on_active-there m update by_element k r P on =
     (e, x, found, there, row_of.0, row_of.1, row_of.4)
 
 module _ (m : Machine) (inv : Invariant m) (history : HasHistory m) (s : CallState) (held : m.in_hand (who s) ≡ Some s) (t : Told) (row : Row m s t.verb t) where
-  -- the step commits at this checkpoint
+  -- the step commits its own update at this checkpoint
   pub record Commits (k : ℕ) : Type 0 where
     pub verb : t.verb ≡ verbs.Commit
     pub update : UpdateState
     pub driver_is : driver_of s ≡ drivers.Update update
     pub ckpt : update.ckpt ≡ k
+    pub own : committing update.phase ≡ Committing
 
   -- or it is the one step of an update, or the last of a weak write, which is answered OK
   pub record Applies : Type 0 where
@@ -193,24 +196,37 @@ module _ (m : Machine) (inv : Invariant m) (history : HasHistory m) (s : CallSta
     pub reply : t.reply ≡ words.Ok
     pub by : Commits k ⊎ Applies
 
-  -- or one of the snapshot in its hand
+  -- or one of the snapshot in its hand, or of a dead call
   abbrev IsNewEffect : ℕ → CallId → Type 0
-  IsNewEffect k d = IsOwnEffect k d ⊎ HasInHand m d
+  IsNewEffect k d = IsOwnEffect k d ⊎ (HasInHand m d ⊎ IsDead m d)
 
   abbrev n : Machine
   n = changed m s t.verb t.ckpt t.node t.reply
 
-  own_commit : (update : Update) (k r : ℕ) → t.verb ≡ verbs.Commit → t.reply ≡ words.Ok → OnAll m k r (λ e x. CommitOk m s.call update k r t.end t.details x) → (x : ReplicaState) (slot : Staged) → m.replicas k r ≡ Some x → x.slot ≡ Some slot → IsOwnEffect k slot.origin
+  -- what an owner commits is its own update, or that of a dead call
+  own_commit : (update : Update) (k r : ℕ) → t.verb ≡ verbs.Commit → t.reply ≡ words.Ok → OnAll m k r (λ e x. CommitOk m s.call update k r t.end t.details x) → (x : ReplicaState) (slot : Staged) → m.replicas k r ≡ Some x → x.slot ≡ Some slot → IsNewEffect k slot.origin
   own_commit update k r verb reply on x slot at staged =
       let (e, y, found, is, row_of) = on_replica-there m k r (λ e x. (is_all e.attributes ≡ true) × CommitOk m s.call update k r t.end t.details x) on in
       let ok : CommitOk m s.call update k r t.end t.details y = row_of.1 in
       let same : y ≡ x = same_Some y x (sym is ∙ at) in
       let slots : ok.slot ≡ slot = same_Some ok.slot slot (sym ok.staged ∙ ap (λ (z : ReplicaState). z.slot) same ∙ staged) in
-      let (by, origin, same_update) = slot_owned m inv.shapes inv.holds history.bare k r x slot at staged in
+      let (by, origin, same_update, owns) = slot_owned m inv.shapes inv.holds history.bare k r x slot at staged in
       let owner : slot.owner ≡ s.call = ap (λ (z : Staged). z.owner) (sym slots) ∙ ok.owner in
-      let own : IsOwner m k (inv.shapes k) s.call = subst (IsOwner m k (inv.shapes k)) owner by in
-      let state : own.state ≡ s = one_call m.in_hand m.pending m.next inv.holds.calls (who own.state) (who s) own.state s own.in_hand held own.call_is in
-      record { own = origin ∙ owner; reply = reply; by = inl (record { verb = verb; update = own.driver; driver_is = ap driver_of (sym state) ∙ own.driver_is; ckpt = own.ckpt }) }
+      elim by [
+        | inl it ↦ (
+            let own : IsOwner m k (inv.shapes k) s.call = subst (IsOwner m k (inv.shapes k)) owner it in
+            let state : own.state ≡ s = one_call m.in_hand m.pending m.next inv.holds.calls (who own.state) (who s) own.state s own.in_hand held own.call_is in
+            by_phase_of own state origin own.driver.phase refl own.phase)
+        | inr left ↦ absurd (held_not_dead m inv.shapes inv.holds s held (subst (IsDead m) owner left.0))
+      ]
+    where
+      by_phase_of : (own : IsOwner m k (inv.shapes k) s.call) → own.state ≡ s → slot.origin ≡ (inv.shapes k).origin → (ph : UpdatePhase) → own.driver.phase ≡ ph → PhaseFits m (inv.shapes k) own.state own.driver ph → IsNewEffect k slot.origin
+      by_phase_of own state origin Staging is fits = inl (record { own = origin ∙ fits.origin ∙ own.call_is; reply = reply; by = inl (record { verb = verb; update = own.driver; driver_is = ap driver_of (sym state) ∙ own.driver_is; ckpt = own.ckpt; own = ap committing is }) })
+      by_phase_of own state origin Committing is fits = inl (record { own = origin ∙ fits.origin ∙ own.call_is; reply = reply; by = inl (record { verb = verb; update = own.driver; driver_is = ap driver_of (sym state) ∙ own.driver_is; ckpt = own.ckpt; own = ap committing is }) })
+      by_phase_of own state origin Claiming is fits = absurd fits
+      by_phase_of own state origin Claimed is fits = inr (inr (subst (IsDead m) (sym origin) fits.origin))
+      by_phase_of own state origin Withdrawing is fits = inr (inr (subst (IsDead m) (sym origin) fits.origin))
+      by_phase_of own state origin Resolving is fits = inr (inr (subst (IsDead m) (sym origin) fits.origin))
 
   own_apply : (update : Update) (k r : ℕ) (u : Told) → u.end ≡ t.end → t.verb ≡ verbs.Apply → t.reply ≡ words.Ok → OnActive m update false k r (ApplyOk m update u) → IsOwnEffect k s.call
   own_apply update k r u end verb reply on =
@@ -229,11 +245,11 @@ module _ (m : Machine) (inv : Invariant m) (history : HasHistory m) (s : CallSta
   follows = changed_follows m history.bare IsNewEffect s t.verb t.ckpt t.node t.reply (news t.verb t.ckpt t.node t.reply refl refl row)
     where
       news : (verb : Verb) (k r : Option ℕ) (reply : StepReply) → t.verb ≡ verb → t.reply ≡ reply → Row m s verb (record t { verb = verb; ckpt = k; node = r; reply = reply }) → StepNeeds m history.bare IsNewEffect s verb k r reply
-      news verbs.Commit (Some k) (Some r) words.Ok verb reply row = λ x slot there staged. inl (own_commit row.1 k r verb reply row.3 x slot there staged)
+      news verbs.Commit (Some k) (Some r) words.Ok verb reply row = λ x slot there staged. own_commit row.1 k r verb reply row.3 x slot there staged
       news verbs.Apply (Some k) (Some r) words.Ok verb reply row = inl (own_apply row.1 k r (record t { verb = verbs.Apply; ckpt = Some k; node = Some r; reply = words.Ok }) refl verb reply row.3)
       news verbs.Unmark (Some k) (Some r) words.Ok verb reply row = λ x marks there marked. inl (own_unmark row.1 k r (record t { verb = verbs.Unmark; ckpt = Some k; node = Some r; reply = words.Ok }) refl verb reply row.3 x marks there marked)
-      news verbs.Install (Some k) (Some r) words.Ok verb reply row = λ pulled d there has. inr (record { name = (who s); state = s; held = held; snapshot = pulled; there = there; effect = has })
-      news verbs.Activate (Some k) (Some r) words.Ok verb reply row = λ copy d there has. inr (record { name = (who s); state = s; held = held; snapshot = copy; there = there; effect = has })
+      news verbs.Install (Some k) (Some r) words.Ok verb reply row = λ pulled d there has. inr (inl (record { name = (who s); state = s; held = held; snapshot = pulled; there = there; effect = has }))
+      news verbs.Activate (Some k) (Some r) words.Ok verb reply row = λ copy d there has. inr (inl (record { name = (who s); state = s; held = held; snapshot = copy; there = there; effect = has }))
       news verbs.Reserve (Some k) (Some r) words.Ok verb reply row = making_incomplete m inv s.call k r row.0.3.1
       news verb k r reply verb_is reply_is row = tt
 
@@ -298,11 +314,12 @@ module _ (m : Machine) (inv : Invariant m) (history : HasHistory m) (s : CallSta
         elim (had k r s.call (record { replica = has.replica; there = has.there; effect = has.effect })) [
           | inl was ↦ commits_still m s t told k refl done (ends ∙ none) (history.commits k r s held was)
           | inr (inl new) ↦ by_new new.reply new.by
-          | inr (inr pulled) ↦ absurd (history.ended_pulled s held pulled)
+          | inr (inr (inl pulled)) ↦ absurd (history.ended_pulled s held pulled)
+          | inr (inr (inr dead)) ↦ absurd (held_not_dead m inv.shapes inv.holds s held dead)
         ]
       where
         by_new : t.reply ≡ words.Ok → Commits k ⊎ Applies → IsCommittingAt k (driver_of then_state)
-        by_new reply (inl commits) = subst (λ x. IsCommittingAt k (driver_taken told x)) (sym commits.driver_is) (taken_commit told commits.update k commits.verb commits.ckpt (inr reply))
+        by_new reply (inl commits) = subst (λ x. IsCommittingAt k (driver_taken told x)) (sym commits.driver_is) (taken_commit told commits.update k commits.verb commits.ckpt (inr (reply, commits.own)))
         by_new reply (inr applies) = absurd (let w : None ≡ Some (Done applies.answer) = sym (ends ∙ none) ∙ applies.ends in cc w)
 
     other_commits : (k r : ℕ) (z : CallState) → same_who (who z) (who s) ≡ false → n.in_hand (who z) ≡ Some z → Has then_machine k r z.call → IsCommittingAt k (driver_of z)
@@ -310,7 +327,8 @@ module _ (m : Machine) (inv : Invariant m) (history : HasHistory m) (s : CallSta
         elim (had k r z.call (record { replica = has.replica; there = has.there; effect = has.effect })) [
           | inl was ↦ history.commits k r z (follows.in_hand (who z) z in_hand) was
           | inr (inl new) ↦ absurd (let name : who z ≡ who s = inv.holds.calls.one_name (who z) (who s) z s (follows.in_hand (who z) z in_hand) held new.own in let w : true ≡ false = sym (ap (λ w. same_who w (who s)) name ∙ same_who-refl (who s)) ∙ other in cc w)
-          | inr (inr pulled) ↦ absurd (history.ended_pulled z (follows.in_hand (who z) z in_hand) pulled)
+          | inr (inr (inl pulled)) ↦ absurd (history.ended_pulled z (follows.in_hand (who z) z in_hand) pulled)
+          | inr (inr (inr dead)) ↦ absurd (held_not_dead m inv.shapes inv.holds z (follows.in_hand (who z) z in_hand) dead)
         ]
 
     left_state : (o : Option Outcome) (z : CallState) → left o then_state ≡ Some z → (o ≡ None) × (then_state ≡ z)
@@ -336,7 +354,8 @@ module _ (m : Machine) (inv : Invariant m) (history : HasHistory m) (s : CallSta
       given = λ k r d has. elim (had k r d (record { replica = has.replica; there = has.there; effect = has.effect })) [
         | inl was ↦ subst (λ next. d.number < next) (sym (follows.next d.actor)) (history.given k r d was)
         | inr (inl new) ↦ subst (λ next. d.number < next) (sym (follows.next d.actor)) (subst (λ (d : CallId). d.number < m.next d.actor) (sym new.own) (inv.holds.hands (who s) s held).number)
-        | inr (inr pulled) ↦ subst (λ next. d.number < next) (sym (follows.next d.actor)) (history.given_pulled d pulled)
+        | inr (inr (inl pulled)) ↦ subst (λ next. d.number < next) (sym (follows.next d.actor)) (history.given_pulled d pulled)
+        | inr (inr (inr dead)) ↦ subst (λ next. d.number < next) (sym (follows.next d.actor)) dead.begun
       ];
       commits = λ k r z in_hand has. elim (put_who-cases n.in_hand (who s) (left end then_state) (who z) z in_hand) [
         | inl own ↦ (
@@ -475,7 +494,7 @@ put_history m history k r s x is there = record {
 
 -- ---- the failure of a node
 
-module _ (m : Machine) (inv : Invariant m) (history : HasHistory m) (r : ℕ) (apart : AreApart m.cluster.entries) where
+module _ (m : Machine) (inv : Invariant m) (history : HasHistory m) (r : ℕ) where
   -- the machine behind it
   abbrev behind : Machine
   behind = failed_at r m
@@ -492,10 +511,10 @@ module _ (m : Machine) (inv : Invariant m) (history : HasHistory m) (r : ℕ) (a
   had_then : (k q : ℕ) (d : CallId) → Has behind k q d → Has m k q d ⊎ IsCutShort d
   had_then k q d has = by_what it.becomes
     where
-      it : WasReplica m inv history.bare r apart k q has.replica
-      it = was_replica m inv history.bare r apart k q has.replica has.there
+      it : WasReplica m inv history.bare r k q has.replica
+      it = was_replica m inv history.bare r k q has.replica has.there
 
-      by_what : Becomes m inv history.bare r apart it.before it.then q it.replica has.replica → Has m k q d ⊎ IsCutShort d
+      by_what : Becomes m inv history.bare r it.before it.then q it.replica has.replica → Has m k q d ⊎ IsCutShort d
       by_what (stays same) = inl (record { replica = it.replica; there = it.there; effect = subst (λ (x : ReplicaState). HasEffect d x.effects) same has.effect })
       by_what (leads it_was led none same) = inl (record { replica = it.replica; there = it.there; effect = subst (λ (x : ReplicaState). HasEffect d x.effects) same has.effect })
       by_what (cut_short marks stand dead was_led led generation same) = elim (effect_more d it.replica.effects (Broken marks.call marks.update marks.moment marks.done) (subst (λ (x : ReplicaState). HasEffect d x.effects) same has.effect)) [
@@ -512,12 +531,12 @@ module _ (m : Machine) (inv : Invariant m) (history : HasHistory m) (r : ℕ) (a
   -- and is in hand no more
   cut_short_ended : (s : CallState) → behind.in_hand (who s) ≡ Some s → IsCutShort s.call → ⊥
   cut_short_ended s left cut =
-      let (held, others) = left_is false m inv.shapes inv.holds r (who s) s left in
+      let (held, others) = left_is m inv.shapes inv.holds r (who s) s left in
       let hand = inv.holds.hands (who s) s held in
       let by = cut.marker in
       let same : s ≡ by.state = one_call m.in_hand m.pending m.next inv.holds.calls (who s) (who by.state) s by.state held by.in_hand (sym (by.call_is ∙ cut.call)) in
       let live_was : is_live m.cluster s.call ≡ true = hand.live (ap (λ (z : CallState). is_enter (driver_of z)) same ∙ ap is_enter by.driver_is) in
-      let live : is_live behind.cluster s.call ≡ true = live_staying (λ k q. count_in (m.replicas k q)) r m.cluster s.call hand.client (left_stays false m inv.shapes inv.holds r s others) ∙ live_was in
+      let live : is_live behind.cluster s.call ≡ true = live_staying (λ k q. count_in (m.replicas k q)) r m.cluster s.call hand.client (left_stays m inv.shapes inv.holds r s others) ∙ live_was in
       let w : true ≡ false = sym live ∙ cut.gone in cc w
 
   -- a snapshot is of a checkpoint that is there still, and was there
@@ -526,7 +545,7 @@ module _ (m : Machine) (inv : Invariant m) (history : HasHistory m) (r : ℕ) (a
 
   -- a call that is left was in hand
   held_then : (w : Who) (s : CallState) → behind.in_hand w ≡ Some s → m.in_hand w ≡ Some s
-  held_then w s left = (left_is false m inv.shapes inv.holds r w s left).0
+  held_then w s left = (left_is m inv.shapes inv.holds r w s left).0
 
   pulled_then : (d : CallId) → HasInHand behind d → HasInHand m d
   pulled_then d has = record { name = has.name; state = has.state; held = held_then has.name has.state has.held; snapshot = has.snapshot; there = has.there; effect = has.effect }
@@ -534,7 +553,7 @@ module _ (m : Machine) (inv : Invariant m) (history : HasHistory m) (r : ℕ) (a
   -- it has its replicas and reservations where they may be
   bare_then : IsBare behind
   bare_then = record {
-    complete = λ k q y there. (let it = was_replica m inv history.bare r apart k q y there in IsSomeAnd-from (entry_of k behind.cluster.entries) (λ e. IsCompleteOn e q) it.then it.found it.complete);
+    complete = λ k q y there. (let it = was_replica m inv history.bare r k q y there in IsSomeAnd-from (entry_of k behind.cluster.entries) (λ e. IsCompleteOn e q) it.then it.found it.complete);
     reserves = λ k q i is. elim (q == r) as (λ b. cond b None (reservation_under (entry_of k behind.cluster.entries) q (m.reserved k q)) ≡ Some i → IsSomeAnd (entry_of k behind.cluster.entries) (λ e. IsIncomplete e q)) [
       | true ↦ λ gone. absurd (cc gone)
       | false ↦ λ some. reserved_under (entry_of k behind.cluster.entries) q (m.reserved k q) i some
@@ -571,7 +590,7 @@ keeps_history m (labels.Nodes n) inv history allowed is = record {
   ended_pulled = λ s held has. history.ended_pulled s held (record { name = has.name; state = has.state; held = has.held; snapshot = has.snapshot; there = has.there; effect = has.effect });
 }
 keeps_history m (labels.Moved t) inv history allowed is = moved_history m history t
-keeps_history m (labels.Failed r true) inv history allowed is = failed_history m inv history r is.2
+keeps_history m (labels.Failed r true) inv history allowed is = failed_history m inv history r
 keeps_history m (labels.Failed r false) inv history allowed is = history
 keeps_history m (labels.Shown k replicas) inv history allowed is = history
 keeps_history m (labels.Pulled k reply) inv history allowed is = after_pull HasHistory m k reply is history (λ x from none. pulled_history m history k x from)

@@ -26,7 +26,7 @@ use Rattle.weak_marks.specs.Marks.{Marked}
 use Rattle.ckpt_types.specs.Sections.{Section}
 use Rattle.ckpt_types.specs.Updates.{Refusal}
 use Rattle.cluster_record.proofs.Places.{find_changed, find_pushed, get_set, not_changed, there_is}
-use Rattle.ckpt_machine.proofs.OnceByKey.{counted, counted-change_key, counted-push, found_in, found_once}
+use Rattle.node_core.proofs.OnceByKey.{counted, counted-change_key, counted-push, found_in, found_once}
 use Rattle.ckpt_machine.proofs.NodeLists.{slice_get-replicate}
 
 -- under an entry a replica stands: the node is complete in its present incarnation, or has reserved in it

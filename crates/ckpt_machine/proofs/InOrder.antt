@@ -7,6 +7,7 @@ use Rattle.ckpt_types.specs.Asks.{update_of}
 use Rattle.node_msgs.specs.declared.steps.Verb.{Verb}
 use Rattle.run_labels.specs.declared.labels.Label.{Label}
 use Rattle.weak_marks.specs.Marks.{Marked, is_left, with_next_done}
+use Rattle.ckpt_machine.proofs.EachKept.{IsFreeFor}
 use Rattle.ckpt_machine.specs.After.{having_taken, committed_slot, next_element_written, marks_ended, with_lead, effect_of, staged_moment}
 use Rattle.ckpt_machine.specs.Failing.{broken}
 use Rattle.ckpt_machine.specs.InOrder.{EndsBefore, StandsBefore, KeepOrder, EffectsKeepOrder}
@@ -20,7 +21,7 @@ use Rattle.ckpt_machine.proofs.EachReplica.{IsKept, run_each}
 use Rattle.ckpt_machine.proofs.EffectsOnce.{effect_own, alone_free}
 use Rattle.ckpt_machine.proofs.EndedCalls.{not_ended_before}
 use Rattle.ckpt_machine.proofs.Follows.{effect_more}
-use Rattle.ckpt_machine.proofs.OneReplica.{StepsOn}
+use Rattle.ckpt_machine.proofs.OneReplica.{StepsOn, claimed_was}
 use Rattle.ckpt_machine.proofs.Replaying.{all_unmarked}
 use Rattle.ckpt_machine.proofs.Runs.{run_front}
 
@@ -73,8 +74,8 @@ committed_ordered log a x none was = by_slot x.slot refl
     by_slot (Some slot) is = ordered_more log x (committed_slot a x (Some slot)) (effect_of slot) refl refl none (was.staged slot is) was
 
 -- one that leads with what is in hand
-led_ordered : (log : List Label) (o : Option Snapshot) (g : ℕ) (x : ReplicaState) → x.slot ≡ None → x.marks ≡ None → IfSome o (λ s. KeepOrder log s.effects) → IsOrdered log x → IsOrdered log (with_lead o g x)
-led_ordered log None g x free none copied was = ordered_alone log (with_lead None g x) free none was.order
+led_ordered : (log : List Label) (o : Option Snapshot) (g : ℕ) (x : ReplicaState) → IsFreeFor o x → x.marks ≡ None → IfSome o (λ s. KeepOrder log s.effects) → IsOrdered log x → IsOrdered log (with_lead o g x)
+led_ordered log None g x free none copied was = record { order = was.order; staged = was.staged; marked = was.marked }
 led_ordered log (Some s) g x free none copied was = ordered_alone log (with_lead (Some s) g x) free none copied
 
 -- behind the next element of a weak write
@@ -110,6 +111,8 @@ kept_order log run = record {
         subst (λ c. IsBehindAll log c x.effects) (ap (λ (z : Staged). z.origin) same) (in_hand_behind log run m s _ k r x step);
     marked = was.marked;
   };
+  claimed = λ m s k r x step was. record { order = was.order; staged = λ slot is. (let (old, old_is, origin, update) = claimed_was s.call x.slot slot is in subst (λ c. IsBehindAll log c x.effects) origin (was.staged old old_is)); marked = was.marked };
+  withdrawn = λ m s k r x step was. record { order = was.order; staged = λ slot none. absurd (cc none); marked = was.marked };
   committed = λ m s k r x e step all was. committed_ordered log e.attributes x (all_unmarked m step.inv step.history.bare k r x e step.there all.found all.all) was;
   applied = λ m s k r x e step active none was.
       ordered_more log x (having_taken e.attributes s.call (update_of s.op) m.cluster.moment x) (Applied s.call (update_of s.op) m.cluster.moment) refl (alone_free m step.inv step.history.bare k r x e step.there active.found active.alone) none (in_hand_behind log run m s _ k r x step) was;

@@ -201,13 +201,13 @@ module _ (m : Machine) (shapes : ℕ → Shape) (inv : InvariantIn shapes m) (s 
           ∙ ends_alike (install_done word ∷ s.steps) (length has.pulled.effects) 0 at.entry.complete served_then (tells_all (install_done word ∷ s.steps) at.entry.complete served_then its_spread.nodes tells)
 
       -- it comes nearer to its end
-      install_nearer : steps_left m.cluster (driver_taken (install_done word) (driver_of s)) < steps_left m.cluster (driver_of s)
-      install_nearer =
+      install_nearer : (f : ℕ → ℕ → Option ReplicaState) → steps_left m.cluster f (driver_taken (install_done word) (driver_of s)) < steps_left m.cluster m.replicas (driver_of s)
+      install_nearer f =
           let cs : List ℕ = complete_of (entry_of k m.cluster.entries) in
           let cs_is : cs ≡ at.entry.complete = ap complete_of at.found in
           let less : unserved cs served_then + 1 ≡ unserved cs u.served = subst (λ cs. unserved cs served_then + 1 ≡ unserved cs u.served) (sym cs_is) (unserved-set at.entry.complete u.served r complete free) in
-          subst (λ d. steps_left m.cluster (driver_taken (install_done word) d) < steps_left m.cluster d) (sym is)
-          (subst (λ d. steps_left m.cluster d < steps_left m.cluster (drivers.Sync u)) (sym takes)
+          subst (λ d. steps_left m.cluster f (driver_taken (install_done word) d) < steps_left m.cluster m.replicas d) (sym is)
+          (subst (λ d. steps_left m.cluster f d < steps_left m.cluster m.replicas (drivers.Sync u)) (sym takes)
           (subst (λ kind. kind_left (entry_of k m.cluster.entries) (record u { served = served_then }) kind < kind_left (entry_of k m.cluster.entries) u kind) (sym sync.1)
           (subst (λ o. sync_left cs (record u { served = served_then }) o < sync_left cs u o) (sym keeps) (omega (arith, less)))))
 
@@ -247,8 +247,8 @@ module _ (m : Machine) (shapes : ℕ → Shape) (inv : InvariantIn shapes m) (s 
         );
         holds = subst (λ (z : Option ReplicaState × Option Snapshot). let n = change_replica m k r z.0 (with_installed z.1) in Invariant (left_in_hand n (kept_behind m s n.cluster verbs.Install (Some k) (Some r) words.Ok) install_end)) (λ i. (sym on_node.there i, sym has.in_hand i))
             (install_keeps words.Ok tells_ok refl (put2 m.replicas k r (Some (replica_from has.pulled x))) install_end installed_keeps);
-        nearer = λ goes_on. subst (λ o. let R = (change_replica m k r o (with_installed s.snapshot)).cluster in
-            steps_left R (driver_taken (counting 0 (done_of R verbs.Install (Some k) (Some r) words.Ok)) (driver_of s)) < steps_left m.cluster (driver_of s)) (sym on_node.there) (install_nearer words.Ok tells_ok refl);
+        nearer = λ goes_on. subst (λ o. let n = change_replica m k r o (with_installed s.snapshot) in
+            steps_left n.cluster n.replicas (driver_taken (counting 0 (done_of n.cluster verbs.Install (Some k) (Some r) words.Ok)) (driver_of s)) < steps_left m.cluster m.replicas (driver_of s)) (sym on_node.there) (install_nearer words.Ok tells_ok refl (put2 m.replicas k r (Some (with_installed s.snapshot x))));
       })
       install_by t served false not_behind = subst (Goes m s (driver_of s)) (sym (IsServed-told m s r request t (drivers.Sync u) (replies.Older x.generation (length x.effects)) served is (answered t served false not_behind))) (record {
         row = (
@@ -256,7 +256,7 @@ module _ (m : Machine) (shapes : ℕ → Shape) (inv : InvariantIn shapes m) (s 
           ended_nothing install_end _ nothing_told,
         );
         holds = install_keeps words.Older tells_older refl m.replicas install_end inv;
-        nearer = λ goes_on. install_nearer words.Older tells_older refl;
+        nearer = λ goes_on. install_nearer words.Older tells_older refl m.replicas;
       })
 
       pub install_goes : (t : Told) → IsServed m s r request t → Goes m s (driver_of s) t

@@ -3,7 +3,7 @@ use Rattle.std.proofs.Common.{◌≡◌, ℕ, zero, suc, inl, inr, arith, List, 
 use Rattle.std.specs.Prelude.{Contains, find}
 use Rattle.std.proofs.lemmas.List.Elements.{Contains-append_right}
 use Rattle.std.proofs.lemmas.Option.{same_Some}
-use Rattle.ckpt_machine.proofs.OnceByKey.{Contains-cases}
+use Rattle.node_core.proofs.OnceByKey.{Contains-cases}
 
 -- ---- what is among them
 

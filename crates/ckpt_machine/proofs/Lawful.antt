@@ -20,7 +20,7 @@ use Rattle.ckpt_machine.proofs.OneStepCalls.{once_goes}
 use Rattle.ckpt_machine.proofs.Propagated.{pull_keeps, put_keeps}
 use Rattle.ckpt_machine.proofs.Update.{update_goes}
 use Rattle.ckpt_machine.proofs.DueStep.{Goes}
-use Rattle.ckpt_machine.proofs.FailureApart.{failures_keep_apart}
+use Rattle.ckpt_machine.proofs.FailureLaw.{failures_keep}
 use Rattle.ckpt_machine.proofs.Dropped.{held_as}
 use Rattle.ckpt_machine.proofs.EndedAsync.{told_keeps}
 use Rattle.ckpt_machine.proofs.OwnCheckpoint.{own_step}
@@ -53,7 +53,7 @@ lawful m (labels.Stepped call op verb k r reply end details) inv step =
 lawful m (labels.Word who word said) inv is = (word_row m who word said is, inv)
 lawful m (labels.Nodes n) inv is = (is, record { shapes = inv.shapes; holds = nodes_keep m inv.shapes inv.holds n (inv.holds.first_up is.2) })
 lawful m (labels.Moved t) inv is = (is, moved_keeps m t inv)
-lawful m (labels.Failed r true) inv is = (is, (failures_keep_apart m r inv is.2 is.1).0)
+lawful m (labels.Failed r true) inv is = (is, failures_keep m r inv is.1)
 lawful m (labels.Failed r false) inv is = (is, inv)
 lawful m (labels.Shown k replicas) inv is = (is, inv)
 lawful m (labels.Pulled k reply) inv is = (is, record { shapes = inv.shapes; holds = pull_keeps m inv.shapes inv.holds k reply (source_at m k) })

@@ -1,8 +1,10 @@
 pub mod ActiveBy
 pub mod AsyncNames
 pub mod ByActor
+pub mod ByNumber
 mod FewSteps
 pub mod HeldIdentity
+pub mod MostSteps
 pub mod PendingNames
 pub mod OnComplete
 pub mod Handles
@@ -10,7 +12,6 @@ pub mod Served
 pub mod Sync
 pub mod Installing
 pub mod Propagated
-pub mod OnceByKey
 pub mod Deadlines
 pub mod NextOf
 pub mod Calls
@@ -26,7 +27,6 @@ pub mod Finished
 pub mod StepsLeft
 pub mod Moment
 pub mod Replaying
-pub mod ReplicaSteps
 pub mod NodeLists
 pub mod Owning
 pub mod Joining
@@ -38,6 +38,7 @@ pub mod FewerCalls
 pub mod FewerMakings
 pub mod KeptLists
 pub mod RecordSteps
+pub mod SixFacts
 pub mod Stage
 pub mod StagedMoment
 pub mod StaysMade
@@ -102,7 +103,6 @@ pub mod Reserved
 pub mod Undone
 pub mod Created
 pub mod OpenThere
-mod OpensApart
 pub mod OpenAsking
 pub mod OpenMaking
 pub mod OpenSteps
@@ -145,8 +145,10 @@ pub mod FailedActive
 pub mod FailedShape
 pub mod FailedSpread
 pub mod FailedHands
-pub mod FailureApart
 pub mod FailureLaw
+pub mod SettleExamples
+pub mod DueRuns
+pub mod CutRuns
 pub mod FailureExamples
 pub mod Asking
 pub mod GoingOn
@@ -184,5 +186,13 @@ mod CorruptedSections
 pub mod FailedCounts
 pub mod FailedNodes
 mod EndedCalls
+mod EndedSlots
 mod InOrder
 mod CallsEnd
+pub mod Claim
+pub mod Frame
+pub mod LetGo
+pub mod Resolve
+pub mod Turns
+pub mod UpdateMoves
+pub mod UpdateNearer

@@ -1,5 +1,5 @@
 -- Who is dead and live behind a step, and which nodes are up.
-use Rattle.std.proofs.Common.{◌≡◌, ◌⊎◌, ℕ, ◌<◌, inl, inr, List, [], ◌∷◌, Option, Some, None, Bool, true, false, ◌==◌, refl, sym, ap, subst, ◌∙◌}
+use Rattle.std.proofs.Common.{◌≡◌, ℕ, ◌<◌, inl, inr, List, [], ◌∷◌, Option, Some, None, Bool, true, false, ◌==◌, refl, sym, ap, subst, ◌∙◌, arith}
 use Rattle.std.specs.Prelude.{IfSome, slice_index}
 use Rattle.ckpt_types.specs.declared.identities.ActorName.{ActorName}
 use Rattle.ckpt_types.specs.declared.identities.CallId.{CallId}
@@ -15,11 +15,11 @@ use Rattle.ckpt_machine.specs.Driving.{Kept, on_kept, driver_start, driver_state
 use Rattle.ckpt_machine.specs.InHand.{IsInHand}
 use Rattle.ckpt_machine.specs.Invariant.{InvariantIn}
 use Rattle.ckpt_machine.specs.Machine.{Machine, CallState, who}
-use Rattle.ckpt_machine.specs.Shape.{Shape, IsOwner, IsLeft}
+use Rattle.ckpt_machine.specs.Shape.{Shape, IsOwner}
 use Rattle.ckpt_machine.specs.Due.{IsDriven, driver_of}
 use Rattle.ckpt_machine.specs.Whose.{put_who}
 use Rattle.ckpt_machine.proofs.CallsKept.{IsSameCall}
-use Rattle.ckpt_machine.proofs.Whose.{put_who-cases}
+use Rattle.ckpt_machine.proofs.Whose.{put_who-cases, put_who-here}
 
 -- n follows on m: a dead call is dead still, whoever owns a slot is live, and a node that was up is up
 pub record LivesOn (m n : Machine) : Type 0 where
@@ -27,17 +27,10 @@ pub record LivesOn (m n : Machine) : Type 0 where
   pub owners : (k : ℕ) (sh : Shape) (d : CallId) → IsOwner n k sh d → is_live n.cluster d ≡ true
   pub up : (r : ℕ) → (slice_index m.cluster.up r == 0) ≡ false → slice_index n.cluster.up r ≡ slice_index m.cluster.up r
 
--- ---- owners
-
--- a slot whose owner is live is of a call in hand
-pub owner_in : (m : Machine) (k : ℕ) (sh : Shape) (d : CallId) → IsOwner m k sh d ⊎ IsLeft m sh d → is_live m.cluster d ≡ true → IsOwner m k sh d
-owner_in m k sh d (inl own) live = own
-owner_in m k sh d (inr dead) live = absurd (let w : true ≡ false = sym live ∙ dead.0.gone in cc w)
-
 -- ---- what drives an Initialize
 
 -- it is asked for
-abbrev asks_enter : Ask → Bool
+abbrev pub asks_enter : Ask → Bool
 asks_enter (asks.Enter r version callbacks) = true
 asks_enter ask = false
 
@@ -76,38 +69,58 @@ steps_enter : (begun : Driver) (steps : List StepDone) → is_enter (driver_stat
 steps_enter begun [] = refl
 steps_enter begun (d ∷ steps) = taken_enters d (driver_state begun steps) ∙ steps_enter begun steps
 
-state_enters : (s : CallState) → IsDriven s → is_enter (driver_of s) ≡ asks_enter (asked s.op)
+pub state_enters : (s : CallState) → IsDriven s → is_enter (driver_of s) ≡ asks_enter (asked s.op)
 state_enters s driven = steps_enter s.begun s.steps ∙ subst (λ o. IfSome o (λ d. is_enter d ≡ asks_enter (asked s.op))) driven (start_enters s.call (asked s.op) s.kept)
 
 -- ---- steps that leave who is live, the nodes and the numbers as they are
 
-module _ (m n : Machine) (shapes then_shapes : ℕ → Shape) (inv : InvariantIn shapes m) (live : (d : CallId) → is_live n.cluster d ≡ is_live m.cluster d) (up : n.cluster.up ≡ m.cluster.up) (next : n.next ≡ m.next) (hands : (w : Who) (z : CallState) → n.in_hand w ≡ Some z → IsInHand n then_shapes w z) where
-  -- each Initialize that is in hand was so
-  abbrev EntersWere : Type 0
-  EntersWere = (w : Who) (z : CallState) → n.in_hand w ≡ Some z → is_enter (driver_of z) ≡ true → (y : CallState) × (m.in_hand w ≡ Some y) × (is_enter (driver_of y) ≡ true) × (z.call ≡ y.call)
+-- each Initialize that is in hand was so
+abbrev pub EntersWere : Machine → Machine → Type 0
+EntersWere m n = (w : Who) (z : CallState) → n.in_hand w ≡ Some z → is_enter (driver_of z) ≡ true → (y : CallState) × (m.in_hand w ≡ Some y) × (is_enter (driver_of y) ≡ true) × (z.call ≡ y.call)
 
-  lives_on : EntersWere → LivesOn m n
+-- so it was where all that is in hand was
+pub enters-fewer : (m n : Machine) → ((w : Who) (z : CallState) → n.in_hand w ≡ Some z → m.in_hand w ≡ Some z) → EntersWere m n
+enters-fewer m n was w z at enter = (z, was w z at, enter, refl)
+
+-- or where another state of one call is left, or none
+pub enters-one : (m n : Machine) (s : CallState) → m.in_hand (who s) ≡ Some s → IsDriven s → (o : Option CallState) → IsSameCall s o → ((z : CallState) → o ≡ Some z → IsDriven z) → ((w : Who) → n.in_hand w ≡ put_who m.in_hand (who s) o w) → EntersWere m n
+enters-one m n s held driven o same drives one w z at enter = elim (put_who-cases m.in_hand (who s) o w z (sym (one w) ∙ at)) [
+  | inl here ↦ (
+      let entered : is_enter (driver_of s) ≡ true = state_enters s driven ∙ ap (λ op. asks_enter (asked op)) (sym (same z here.1).1) ∙ sym (state_enters z (drives z here.1)) ∙ enter in
+      (s, ap m.in_hand here.0 ∙ held, entered, (same z here.1).0))
+  | inr other ↦ (z, other.1, enter, refl)
+]
+
+-- a dead call is dead still
+pub dead_on : (m n : Machine) → ((d : CallId) → is_live n.cluster d ≡ is_live m.cluster d) → n.next ≡ m.next → EntersWere m n → (d : CallId) → IsDead m d → IsDead n d
+dead_on m n live next were d dead = record {
+  begun = subst (λ (f : ActorName → ℕ). d.number < f d.actor) (sym next) dead.begun;
+  gone = live d ∙ dead.gone;
+  before = λ w z at actor enter.
+      let (y, was, entered, same) = were w z at enter in
+      subst (λ (c : CallId). d.number < c.number) (sym same) (dead.before w y was (ap (λ (c : CallId). c.actor) (sym same) ∙ actor) entered);
+}
+
+module _ (m n : Machine) (shapes then_shapes : ℕ → Shape) (inv : InvariantIn shapes m) (live : (d : CallId) → is_live n.cluster d ≡ is_live m.cluster d) (up : n.cluster.up ≡ m.cluster.up) (next : n.next ≡ m.next) (hands : (w : Who) (z : CallState) → n.in_hand w ≡ Some z → IsInHand n then_shapes w z) where
+  lives_on : EntersWere m n → LivesOn m n
   lives_on were = record {
-    dead = λ d dead. record {
-      begun = subst (λ (f : ActorName → ℕ). d.number < f d.actor) (sym next) dead.begun;
-      gone = live d ∙ dead.gone;
-      before = λ w z at actor enter.
-          let (y, was, entered, same) = were w z at enter in
-          subst (λ (c : CallId). d.number < c.number) (sym same) (dead.before w y was (ap (λ (c : CallId). c.actor) (sym same) ∙ actor) entered);
-    };
+    dead = dead_on m n live next were;
     owners = λ k sh d own. ap (is_live n.cluster) (sym own.call_is) ∙ (hands (who own.state) own.state own.in_hand).live (ap is_enter own.driver_is);
     up = λ r there. ap (λ nodes. slice_index nodes r) up;
   }
 
   -- where all that is in hand was
   pub lives_on-fewer : ((w : Who) (z : CallState) → n.in_hand w ≡ Some z → m.in_hand w ≡ Some z) → LivesOn m n
-  lives_on-fewer was = lives_on (λ w z at enter. (z, was w z at, enter, refl))
+  lives_on-fewer was = lives_on (enters-fewer m n was)
 
   -- where another state of one call is left, or none
   pub lives_on-one : (s : CallState) → m.in_hand (who s) ≡ Some s → (o : Option CallState) → IsSameCall s o → ((w : Who) → n.in_hand w ≡ put_who m.in_hand (who s) o w) → LivesOn m n
-  lives_on-one s held o same one = lives_on (λ w z at enter. elim (put_who-cases m.in_hand (who s) o w z (sym (one w) ∙ at)) [
-    | inl here ↦ (
-        let entered : is_enter (driver_of s) ≡ true = state_enters s (inv.hands (who s) s held).driven ∙ ap (λ op. asks_enter (asked op)) (sym (same z here.1).1) ∙ sym (state_enters z (hands w z at).driven) ∙ enter in
-        (s, ap m.in_hand here.0 ∙ held, entered, (same z here.1).0))
-    | inr other ↦ (z, other.1, enter, refl)
-  ])
+  lives_on-one s held o same one = lives_on (enters-one m n s held (inv.hands (who s) s held).driven o same (λ z is. (hands (who s) z (one (who s) ∙ put_who-here m.in_hand (who s) o ∙ is)).driven) one)
+
+-- a call in hand is not dead
+pub held_not_dead : (m : Machine) (shapes : ℕ → Shape) → InvariantIn shapes m → (z : CallState) → m.in_hand (who z) ≡ Some z → IsDead m z.call → ⊥
+held_not_dead m shapes inv z at dead = by_enter (is_enter (driver_of z)) refl
+  where
+    by_enter : (b : Bool) → is_enter (driver_of z) ≡ b → ⊥
+    by_enter true enters = let below : z.call.number < z.call.number = dead.before (who z) z at refl enters in omega (arith, below)
+    by_enter false other = let w : true ≡ false = sym ((inv.hands (who z) z at).live other) ∙ dead.gone in cc w

@@ -16,6 +16,6 @@ pub step_nearer : BringsNearer
 step_nearer m call op verb k r reply details s inv step here =
     let same : step.state ≡ s = same_Some step.state s (sym step.in_hand ∙ here) in
     let held : m.in_hand (who step.state) ≡ Some step.state = held_as m call op step.state step.in_hand step.call_is step.word in
-    let Falls : CallState → Type 0 = λ z. let R = (step_of m (Some z) verb k r reply None).cluster in steps_left R (driver_taken (counting (counted_at m verb k r reply) (done_of R verb k r reply)) (driver_of z)) < steps_left m.cluster (driver_of z) in
+    let Falls : CallState → Type 0 = λ z. let n = step_of m (Some z) verb k r reply None in steps_left n.cluster n.replicas (driver_taken (counting (counted_at m verb k r reply) (done_of n.cluster verb k r reply)) (driver_of z)) < steps_left m.cluster m.replicas (driver_of z) in
     let falls : Falls step.state = (driver_goes m inv step.state held (record { verb = verb; ckpt = k; node = r; reply = reply; end = None; details = details }) (driver_of step.state) refl step.done).nearer refl in
-    subst (λ (o : Option CallState). let R = (step_of m o verb k r reply None).cluster in steps_left R (driver_taken (counting (counted_at m verb k r reply) (done_of R verb k r reply)) (driver_of s)) < steps_left m.cluster (driver_of s)) (sym here) (subst Falls same falls)
+    subst (λ (o : Option CallState). let n = step_of m o verb k r reply None in steps_left n.cluster n.replicas (driver_taken (counting (counted_at m verb k r reply) (done_of n.cluster verb k r reply)) (driver_of s)) < steps_left m.cluster m.replicas (driver_of s)) (sym here) (subst Falls same falls)

@@ -5,7 +5,7 @@ use Rattle.std.specs.Prelude.{Option, Some, None, is_some, not, ◌&&◌, nat_le
 use Rattle.ckpt_types.specs.declared.answers.Outcome.{Outcome}
 use Rattle.ckpt_types.specs.declared.attributes.CreationAttributes.{CreationAttributes}
 use Rattle.ckpt_types.specs.declared.identities.CallId.{CallId}
-use Rattle.node_msgs.specs.declared.requests.Request.TheVariants.{Reserve, Stage, Commit, Pull, Install}
+use Rattle.node_msgs.specs.declared.requests.Request.TheVariants.{Reserve, Stage, Claim, Commit, Withdraw, Pull, Install}
 use Rattle.node_msgs.specs.declared.next.RecordStep.{RecordStep}
 use Rattle.node_msgs.specs.declared.next.RecordStep.TheVariants.{Enter, Leave, Open, Create, Finish, Undo, Close, Unlink, Retain, Hold, Activate}
 use Rattle.node_msgs.specs.declared.next.Next.{Next}
@@ -21,9 +21,9 @@ use Rattle.cluster_record.specs.DueSync.{SyncState, first_unserved, install_next
 use Rattle.cluster_record.specs.DueOpen.{OpenState, accepts, create_next, entry_by, entry_next, on_named, reserve_or_finish, targets_of, on_making, by_making}
 use Rattle.cluster_record.specs.DueActive.{ActiveState, unless_changed, unless_on_hold, is_update, on_active, active_on, active_request, starts_iteration}
 use Rattle.cluster_record.specs.declared.entries.Entry.{Entry}
-use Rattle.cluster_record.specs.DueUpdate.{UpdateState, commit_at, commit_first, stage_at, by_phase, update_led, update_on}
+use Rattle.cluster_record.specs.DueUpdate.{UpdateState, claim_at, commit_at, commit_first, stage_at, by_phase, update_led, update_on}
 use Rattle.cluster_record.specs.declared.calls.UpdatePhase.{UpdatePhase}
-use Rattle.cluster_record.specs.declared.calls.UpdatePhase.TheVariants.{Staging, Committing}
+use Rattle.cluster_record.specs.declared.calls.UpdatePhase.TheVariants.{Staging, Committing, Claiming, Claimed, Withdrawing, Resolving}
 use Rattle.cluster_record.specs.RecordState.{RecordState, entry_of, named}
 use Rattle.cluster_record.specs.StepDone.{first_lacking, last_having}
 use Rattle.ckpt_machine.specs.Driving.{driver_next}
@@ -34,7 +34,7 @@ use Rattle.ckpt_machine.proofs.Deadlines.{in_time-either}
 
 -- what a driver asks of a replica has it, and the steps of the setting of an active
 abbrev pub OfAsked : (Next → Type 0) → Driver → Type 0
-OfAsked P (drivers.Update u) = ((r : ℕ) (t : ℤ) → P (Serve r (Stage u.call u.ckpt t))) × ((r : ℕ) → P (Serve r (Commit u.call u.ckpt)))
+OfAsked P (drivers.Update u) = ((r : ℕ) (t : ℤ) → P (Serve r (Stage u.call u.ckpt t))) × ((r : ℕ) → P (Serve r (Commit u.call u.ckpt))) × ((r : ℕ) → P (Serve r (Claim u.call u.ckpt u.owner))) × ((r : ℕ) → P (Serve r (Withdraw u.call u.ckpt)))
 OfAsked P (drivers.Active a) = (r : ℕ) → P (Serve r (active_request a))
 OfAsked P (drivers.Sync u) = ((r : ℕ) → P (Serve r (Pull u.call u.ckpt))) × ((r : ℕ) → P (Serve r (Install u.call u.ckpt))) × ((r : ℕ) → P (Event (Hold r))) × ((r : ℕ) → P (Event (Activate r)))
 OfAsked P driver = Unit {0}
@@ -82,7 +82,7 @@ module _ (P : Next → Type 0) (ends : (o : Outcome) → P (End o)) (steps : (st
 
   -- ---- an update
 
-  module _ (u : UpdateState) (stages : (r : ℕ) (t : ℤ) → P (Serve r (Stage u.call u.ckpt t))) (commits : (r : ℕ) → P (Serve r (Commit u.call u.ckpt))) where
+  module _ (u : UpdateState) (stages : (r : ℕ) (t : ℤ) → P (Serve r (Stage u.call u.ckpt t))) (commits : (r : ℕ) → P (Serve r (Commit u.call u.ckpt))) (claims : (r : ℕ) → P (Serve r (Claim u.call u.ckpt u.owner))) (withdraws : (r : ℕ) → P (Serve r (Withdraw u.call u.ckpt))) where
     of_commit : (last : Option ℕ) → P (commit_at u last)
     of_commit None = ends _
     of_commit (Some r) = commits r
@@ -95,9 +95,20 @@ module _ (P : Next → Type 0) (ends : (o : Outcome) → P (End o)) (steps : (st
     of_stage moment (Some r) last = stages r _
     of_stage moment None last = of_first last
 
+    of_claim : (first last : Option ℕ) → P (claim_at u first last)
+    of_claim None last = of_first last
+    of_claim (Some r) last = claims r
+
     of_phase : (moment : ℤ) (first last : Option ℕ) (phase : UpdatePhase) → P (by_phase u moment first last phase)
     of_phase moment first last Staging = of_stage moment first last
     of_phase moment first last Committing = of_commit last
+    of_phase moment first last Claiming = of_claim first last
+    of_phase moment first None Claimed = of_stage moment first None
+    of_phase moment first (Some r) Claimed = of_claim first (Some r)
+    of_phase moment first None Withdrawing = of_stage moment first None
+    of_phase moment first (Some r) Withdrawing = withdraws r
+    of_phase moment first None Resolving = of_stage moment first None
+    of_phase moment first (Some r) Resolving = of_commit (Some r)
 
     of_led : (moment : ℤ) (e : Entry) (active : Option ℕ) → P (update_led u moment e active)
     of_led moment e None = ends _
@@ -211,6 +222,6 @@ module _ (P : Next → Type 0) (ends : (o : Outcome) → P (End o)) (steps : (st
   pub next_of : (R : RecordState) (room : Rooms) (x : Driver) → OfAsked P x → P (driver_next R room x)
   next_of R room (drivers.Once x) asks = of_once R x
   next_of R room (drivers.Open o) asks = of_open R room.handles o o.making
-  next_of R room (drivers.Update u) asks = of_update u asks.0 asks.1 R.moment (entry_of u.ckpt R.entries)
+  next_of R room (drivers.Update u) asks = of_update u asks.0 asks.1 asks.2 asks.3 R.moment (entry_of u.ckpt R.entries)
   next_of R room (drivers.Active a) asks = of_active room.iterations a (entry_of a.ckpt R.entries) asks
   next_of R room (drivers.Sync u) asks = of_sync R u asks.0 asks.1 asks.2 asks.3 (entry_of u.ckpt R.entries)

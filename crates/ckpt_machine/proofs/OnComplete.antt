@@ -1,16 +1,19 @@
--- Replicas are on complete nodes still, after a step of the record and where one of them is changed.
+-- Replicas are on complete nodes still, after a step of the record and where one of them is changed; and what holds of each complete one.
 use Rattle.std.proofs.Common.{◌≡◌, ℕ, ◌≤◌, arith, List, Option, Some, None, Bool, true, false, cond, ◌&&◌, ◌==◌, refl, sym, ap, subst, ◌∙◌}
-use Rattle.std.specs.Prelude.{IsSomeAnd, slice_index}
+use Rattle.std.specs.Prelude.{IfSome, IsSomeAnd, slice_index}
 use Rattle.std.proofs.lemmas.Bool.{eqb-true, and_parts}
 use Rattle.std.proofs.lemmas.Option.{same_Some}
 use Rattle.cluster_record.specs.declared.entries.Entry.{Entry}
 use Rattle.cluster_record.specs.Places.{put2}
-use Rattle.cluster_record.specs.RecordState.{RecordState}
+use Rattle.cluster_record.specs.RecordState.{RecordState, entry_of, complete_of}
 use Rattle.ckpt_machine.specs.Invariant.{IsOfGeneration, IsCompleteAt}
 use Rattle.ckpt_machine.specs.Later.{IsLaterEntry}
-use Rattle.ckpt_machine.specs.Machine.{ReplicaState}
+use Rattle.ckpt_machine.specs.Complete.{complete_replicas, replicas_from}
+use Rattle.ckpt_machine.specs.GuardTerms.{OnEach}
+use Rattle.ckpt_machine.specs.Machine.{Machine, ReplicaState}
 use Rattle.ckpt_machine.specs.Shape.{IsCompleteOn}
 use Rattle.ckpt_machine.specs.After.{opened_state, replica_under}
+use Rattle.ckpt_machine.proofs.NodeLists.{OnEach-from}
 
 -- the generation of its checkpoint is one that each replica may have
 pub present_generation : (e : Entry) (r generation : ℕ) → generation ≡ e.generation → IsOfGeneration e r generation
@@ -42,3 +45,12 @@ put_complete R replicas k r y here others j q x is = elim ((j == k) && (q == r))
       subst (λ j. IsCompleteAt R j q x.generation) (sym (eqb-true j k ckpt)) (subst (λ q. IsCompleteAt R k q x.generation) (sym (eqb-true q r node)) (subst (λ (z : ReplicaState). IsCompleteAt R k r z.generation) (same_Some y x some) here))
   | false ↦ λ at was. others j q x was
 ] refl is
+
+pub IfSome-more : {X : Type 0} (o : Option X) (P Q : X → Type 0) → ((x : X) → P x → Q x) → IsSomeAnd o P → IfSome o Q
+IfSome-more None P Q more p = tt
+IfSome-more (Some x) P Q more p = more x p
+
+-- what holds of each complete replica
+pub on_complete : (m : Machine) (k : ℕ) (e : Entry) → entry_of k m.cluster.entries ≡ Some e → (P : ReplicaState → Type 0) → ((q : ℕ) → IsCompleteOn e q → IfSome (m.replicas k q) P) → OnEach P (complete_replicas m k)
+on_complete m k e found P each =
+    subst (λ o. OnEach P (replicas_from (m.replicas k) 0 (complete_of o))) (sym found) (OnEach-from P (m.replicas k) 0 e.complete (λ d there. subst (λ (j : ℕ). IfSome (m.replicas k j) P) (omega arith) (each d there)))

@@ -1,5 +1,5 @@
 -- A step on one replica: what its row says of the replica and of the entry, and that the replica has its generation and its effects still.
-use Rattle.std.proofs.Common.{◌≡◌, ◌⊎◌, ℕ, inr, [], ◌∷◌, ◌++◌, Option, Some, None, Bool, true, false, ℤ, List, refl}
+use Rattle.std.proofs.Common.{◌≡◌, ◌⊎◌, ℕ, inr, [], ◌∷◌, ◌++◌, Option, Some, None, Bool, true, false, ℤ, List, refl, ap}
 use Rattle.std.specs.Prelude.{IsOk}
 use Rattle.ckpt_types.specs.declared.identities.CallId.{CallId}
 use Rattle.ckpt_types.specs.declared.update.Update.{Update}
@@ -11,6 +11,7 @@ use Rattle.ckpt_types.specs.declared.operation.Op.TheVariants as ops
 use Rattle.ckpt_types.specs.Asks.{asked, update_of}
 use Rattle.ckpt_types.specs.Asks as asks
 use Rattle.ckpt_types.specs.OpWord.{word_of_op}
+use Rattle.std.proofs.lemmas.Option.{same_Some}
 use Rattle.ckpt_machine.specs.Acknowledged.{IsUpdateWord}
 use Rattle.run_labels.specs.declared.labels.Label.{Label}
 use Rattle.ckpt_machine.specs.WasAsked.{WasAsked}
@@ -24,7 +25,7 @@ use Rattle.ckpt_machine.specs.Options.{is_weak, is_by_element}
 use Rattle.cluster_record.specs.Placement.{is_all}
 use Rattle.ckpt_machine.specs.Replays.{IsPrefix}
 use Rattle.ckpt_machine.specs.Runs.{last}
-use Rattle.ckpt_machine.specs.After.{committed_slot, with_committed, next_element_written, with_next_element, effect_of}
+use Rattle.ckpt_machine.specs.After.{committed_slot, with_committed, next_element_written, with_next_element, effect_of, slot_claimed}
 use Rattle.ckpt_machine.specs.Due.{Told, IsDone, due}
 use Rattle.ckpt_machine.proofs.Histories.{HasHistory}
 use Rattle.ckpt_machine.proofs.Prefixes.{prefix_same, prefix_of_same}
@@ -45,8 +46,8 @@ pub record IsBehindFront (log : List Label) (m : Machine) : Type 0 where
   pub log_is : log ≡ front ++ rest
   pub state_is : m ≡ last front
 
--- a call in hand takes this step, which is due, behind a front of the log, on a replica that is there; it began in the log with this very update, of this checkpoint
-pub record StepsOn (log : List Label) (m : Machine) (s : CallState) (verb : Verb) (k r : ℕ) (x : ReplicaState) : Type 0 where
+-- a call in hand takes this step, which is due, behind a front of the log where this holds, on a replica that is there; it began in the log with this very update, of this checkpoint
+pub record StepsWhen (When : Machine → Type 0) (log : List Label) (m : Machine) (s : CallState) (verb : Verb) (k r : ℕ) (x : ReplicaState) : Type 0 where
   pub inv : Invariant m
   pub history : HasHistory m
   pub at : IsBehindFront log m
@@ -56,6 +57,12 @@ pub record StepsOn (log : List Label) (m : Machine) (s : CallState) (verb : Verb
   pub verb_is : told.verb ≡ verb
   pub done : IsDone m s (due m s) told
   pub asked : WasAsked log k s.call (update_of s.op)
+  pub word : IsUpdateWord (word_of_op s.op)
+  pub when : When m
+
+-- behind any front
+abbrev pub StepsOn : List Label → Machine → CallState → Verb → ℕ → ℕ → ReplicaState → Type 0
+StepsOn log m s verb k r x = StepsWhen (λ m. Unit {0}) log m s verb k r x
 
 -- the checkpoint has this entry, and its updates are on all replicas
 pub record DeclaresAll (m : Machine) (k : ℕ) (e : Entry) : Type 0 where
@@ -116,3 +123,8 @@ committed_more (Some e) x = by_slot x.slot
 -- where its effects and its generation stay
 pub grows_same : (m : Machine) (k r : ℕ) (x y : ReplicaState) → y.effects ≡ x.effects → y.generation ≡ x.generation → Grows m k r x y
 grows_same m k r x y same generation = record { generation = generation; more = prefix_of_same x.effects y.effects same; other = λ e found alone. inr same }
+
+-- a slot that a call has claimed stood there, with the same update of the same call
+pub claimed_was : (call : CallId) (o : Option Staged) (slot : Staged) → slot_claimed call o ≡ Some slot → (old : Staged) × (o ≡ Some old) × (old.origin ≡ slot.origin) × (old.update ≡ slot.update)
+claimed_was call None slot is = absurd (cc is)
+claimed_was call (Some old) slot is = let same = same_Some (record old { owner = call }) slot is in (old, refl, ap (λ (z : Staged). z.origin) same, ap (λ (z : Staged). z.update) same)

@@ -19,12 +19,13 @@ use Rattle.cluster_record.specs.LookUps.{identity_in}
 use Rattle.cluster_record.specs.RecordState.{entry_of, named, is_live, unreferred, closed, unnamed, retaining}
 use Rattle.cluster_record.proofs.IdentityLaws.{entry_of-find}
 use Rattle.node_msgs.specs.declared.details.Details.TheVariants as beside
-use Rattle.ckpt_types.specs.Asks.{asked, is_async_ask}
+use Rattle.ckpt_types.specs.Asks.{asked, update_asked, is_async_ask}
 use Rattle.ckpt_types.specs.Asks as asks
 use Rattle.ckpt_machine.specs.Drivers as drivers
 use Rattle.ckpt_machine.specs.InHand.{IsCloseAt, IsRetainAt, is_enter, IsInPlace}
 use Rattle.ckpt_machine.specs.Invariant.{IsMaker, IsGoodIn, InvariantIn, Invariant}
 use Rattle.ckpt_machine.specs.Machine.{Machine, CallState, who}
+use Rattle.node_core.specs.Serving.{update_answer}
 use Rattle.ckpt_machine.specs.After.{with_closed, record_step, retained_for}
 use Rattle.ckpt_machine.specs.Due.{Told, IsDone, IsEvent, driver_of}
 use Rattle.ckpt_machine.specs.LookGuards.{LookRefused, LookDone, UnlinkLook, RetainLook}
@@ -104,7 +105,7 @@ module _ (m : Machine) (shapes : ℕ → Shape) (inv : InvariantIn shapes m) (s 
   -- with nothing left to do it ends the handle
   close_look : (t : Told) → entry_of k m.cluster.entries ≡ None → IsDone m s (End (Done answers.Nothing)) t → Goes m s (driver_of s) t
   close_look t gone done = subst (Goes m s (driver_of s)) (sym done) (record {
-    row = (refl, refl, subst (λ ask. LookDone m s ask answers.Nothing) (sym at_close.asks) (IsSomeAnd-from s.kept.ckpt (λ k. entry_of k m.cluster.entries ≡ None) k at_close.kept gone), refl);
+    row = (refl, refl, subst (λ ask. LookDone m s ask (update_answer (update_asked ask))) (sym at_close.asks) (IsSomeAnd-from s.kept.ckpt (λ k. entry_of k m.cluster.entries ≡ None) k at_close.kept gone), refl);
     holds = gone_ends;
     nearer = λ none. absurd (cc none);
   })

@@ -8,6 +8,9 @@ use Rattle.run_labels.specs.declared.labels.Label.{Label}
 use Rattle.weak_marks.specs.Marks.{Marked, is_left}
 use Rattle.cluster_record.specs.declared.entries.Entry.{Entry}
 use Rattle.cluster_record.specs.RecordState.{entry_of, identity_of}
+use Rattle.ckpt_types.specs.declared.identities.CallId.{CallId}
+use Rattle.ckpt_types.specs.declared.update.Update.{Update}
+use Rattle.ckpt_machine.proofs.OneReplica.{claimed_was}
 use Rattle.ckpt_machine.specs.Laws.{OfEachRun}
 use Rattle.ckpt_machine.specs.Failing.{broken}
 use Rattle.ckpt_machine.specs.Machine.{Machine, Effect, Applied, Broken, Staged, ReplicaState, Snapshot}
@@ -89,6 +92,14 @@ module _ (log : List Label) where
               subst (λ (z : Staged). WasAsked log e.identity z.origin z.update) (same_Some new slot is) (subst (λ k. WasAsked log k s.call (update_of s.op)) (its_own m k e found) step.asked));
           marked = it.marked;
         });
+    claimed = λ m s k r x step was e found. (
+        let it = was e found in
+        record {
+          effects = it.effects;
+          staged = λ slot is. (let (old, old_is, origin, update) = claimed_was s.call x.slot slot is in subst (λ (z : CallId × Update). WasAsked log e.identity z.0 z.1) (λ i. (origin i, update i)) (it.staged old old_is));
+          marked = it.marked;
+        });
+    withdrawn = λ m s k r x step was e found. (let it = was e found in record { effects = it.effects; staged = λ slot none. absurd (cc none); marked = it.marked });
     committed = λ m s k r x e step all was. asked_as e (committed_slot e.attributes x x.slot) (committed_asked e.attributes e.identity x (was e refl));
     applied = λ m s k r x e step active none was. asked_as e (having_taken e.attributes s.call (update_of s.op) m.cluster.moment x) (
         let it = was e refl in

@@ -40,7 +40,7 @@ use Rattle.ckpt_machine.specs.GuardTerms.{IsInTime}
 use Rattle.ckpt_machine.specs.InHand.{attributes_asked, AreGoodAttributes, is_enter, IsInPlace, IsInHand, IsOpenIn}
 use Rattle.ckpt_machine.specs.Invariant.{IsMaker, IsGoodIn, InvariantIn, Invariant}
 use Rattle.ckpt_machine.specs.Left.{steps_left}
-use Rattle.ckpt_machine.specs.Machine.{Machine, CallState, who}
+use Rattle.ckpt_machine.specs.Machine.{Machine, ReplicaState, CallState, who}
 use Rattle.ckpt_machine.specs.After.{reservation_under, with_record, created_for}
 use Rattle.ckpt_machine.specs.Due.{Told, IsDone, IsEvent, IsRecordAnswer, IsEventAnswer, driver_of, rooms_of}
 use Rattle.ckpt_machine.specs.Shape.{Shape}
@@ -195,8 +195,8 @@ module _ (m : Machine) (shapes : ℕ → Shape) (inv : InvariantIn shapes m) (s 
     }
 
     -- its reservations and its finish are left
-    create_nearer : steps_left after_it (drivers.Open at_making) < steps_left m.cluster (drivers.Open asking)
-    create_nearer = let few = lacking-few m.cluster.up no_nodes in let nodes : length m.cluster.up ≡ 8 = inv.up in omega (arith, few, nodes)
+    create_nearer : (f : ℕ → ℕ → Option ReplicaState) → steps_left after_it f (drivers.Open at_making) < steps_left m.cluster m.replicas (drivers.Open asking)
+    create_nearer f = let few = lacking-few m.cluster.up no_nodes in let nodes : length m.cluster.up ≡ 8 = inv.up in omega (arith, few, nodes)
 
     -- it may be created
     may_create : (rooms_of m s).handles ≡ true → length m.cluster.entries < 16 → MayCreate m s ask.name ask.attrs next
@@ -208,7 +208,7 @@ module _ (m : Machine) (shapes : ℕ → Shape) (inv : InvariantIn shapes m) (s 
       | inl ok ↦ subst (Goes m s (drivers.Open asking)) (sym ok) (record {
         row = ((ask.name, ask.attrs, at_open.asks, (may_create room few, refl)), refl);
         holds = subst (λ R. Invariant (record (with_record m R) { in_hand = put_who m.in_hand (who s) (Some (record s { steps = done_of R verbs.Create (Some next) None words.Ok ∷ s.steps })) })) (sym created_is) (create_keeps room);
-        nearer = λ none. subst (λ R. steps_left R (driver_taken (done_of R verbs.Create (Some next) None words.Ok) (drivers.Open asking)) < steps_left m.cluster (drivers.Open asking)) (sym created_is) create_nearer;
+        nearer = λ none. subst (λ R. steps_left R (with_record m R).replicas (driver_taken (done_of R verbs.Create (Some next) None words.Ok) (drivers.Open asking)) < steps_left m.cluster m.replicas (drivers.Open asking)) (sym created_is) (create_nearer (with_record m after_it).replicas);
       })
       | inr memory ↦ subst (Goes m s (drivers.Open asking)) (sym memory.1) (record {
         row = ((ask.name, ask.attrs, at_open.asks, (may_create room few, refl)), refl);

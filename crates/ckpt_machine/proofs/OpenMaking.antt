@@ -367,7 +367,7 @@ module _ (m : Machine) (shapes : ℕ → Shape) (inv : InvariantIn shapes m) (s 
     -- ---- nearer to its end
 
     -- the steps that are left of a making that was not refused
-    left_is : (w : Making) → w.refused ≡ false → steps_left m.cluster (drivers.Open (with_making w)) ≡ lacking m.cluster.up w.reserved + 1
+    left_is : (w : Making) → w.refused ≡ false → steps_left m.cluster m.replicas (drivers.Open (with_making w)) ≡ lacking m.cluster.up w.reserved + 1
     left_is w given = ap (λ b. cond b 1 (lacking m.cluster.up w.reserved + 1)) given
 
     -- a node fewer is lacked
@@ -375,17 +375,17 @@ module _ (m : Machine) (shapes : ℕ → Shape) (inv : InvariantIn shapes m) (s 
     one_fewer = lacking-set m.cluster.up making.reserved r same_length lacked
 
     -- so a reservation brings the call nearer to its end
-    reserved_nearer : steps_left m.cluster (drivers.Open (with_making reserved)) < steps_left m.cluster (drivers.Open at_making)
+    reserved_nearer : steps_left m.cluster m.replicas (drivers.Open (with_making reserved)) < steps_left m.cluster m.replicas (drivers.Open at_making)
     reserved_nearer =
-        let a : steps_left m.cluster (drivers.Open (with_making reserved)) ≡ lacking m.cluster.up (slice_set making.reserved r (slice_index m.cluster.up r)) + 1 = left_is reserved was_given in
-        let b : steps_left m.cluster (drivers.Open at_making) ≡ lacking m.cluster.up making.reserved + 1 = left_is making was_given in
+        let a : steps_left m.cluster m.replicas (drivers.Open (with_making reserved)) ≡ lacking m.cluster.up (slice_set making.reserved r (slice_index m.cluster.up r)) + 1 = left_is reserved was_given in
+        let b : steps_left m.cluster m.replicas (drivers.Open at_making) ≡ lacking m.cluster.up making.reserved + 1 = left_is making was_given in
         let c = one_fewer in
-        subst (λ (n : ℕ). n < steps_left m.cluster (drivers.Open at_making)) (sym a) (subst (λ (n : ℕ). lacking m.cluster.up (slice_set making.reserved r (slice_index m.cluster.up r)) + 1 < n) (sym b) (omega (arith, c)))
+        subst (λ (n : ℕ). n < steps_left m.cluster m.replicas (drivers.Open at_making)) (sym a) (subst (λ (n : ℕ). lacking m.cluster.up (slice_set making.reserved r (slice_index m.cluster.up r)) + 1 < n) (sym b) (omega (arith, c)))
 
     -- and its refusal does
-    refused_nearer : steps_left m.cluster (drivers.Open (with_making refused)) < steps_left m.cluster (drivers.Open at_making)
+    refused_nearer : steps_left m.cluster m.replicas (drivers.Open (with_making refused)) < steps_left m.cluster m.replicas (drivers.Open at_making)
     refused_nearer =
-        let b : steps_left m.cluster (drivers.Open at_making) ≡ lacking m.cluster.up making.reserved + 1 = left_is making was_given in
+        let b : steps_left m.cluster m.replicas (drivers.Open at_making) ≡ lacking m.cluster.up making.reserved + 1 = left_is making was_given in
         let c = one_fewer in
         subst (λ (n : ℕ). 1 < n) (sym b) (omega (arith, c))
 

@@ -115,7 +115,7 @@ open_place_of R room x asks = next_of (HasPlaceFor room.iterations) (λ o. tt) (
 place_next : (R : RecordState) (room : Rooms) (x : Driver) → HasPlaceFor room.iterations (driver_next R room x)
 place_next R room (drivers.Once x) = open_place_of R room (drivers.Once x) tt
 place_next R room (drivers.Open o) = open_place_of R room (drivers.Open o) tt
-place_next R room (drivers.Update u) = open_place_of R room (drivers.Update u) (λ r t. tt, λ r. tt)
+place_next R room (drivers.Update u) = open_place_of R room (drivers.Update u) (λ r t. tt, λ r. tt, λ r. tt, λ r. tt)
 place_next R room (drivers.Active a) = place_active room.iterations a (entry_of a.ckpt R.entries)
 place_next R room (drivers.Sync u) = open_place_of R room (drivers.Sync u) (λ r. tt, λ r. tt, λ r. tt, λ r. tt)
 

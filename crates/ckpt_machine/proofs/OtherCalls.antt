@@ -15,7 +15,7 @@ use Rattle.cluster_record.specs.declared.calls.MarksMade.{MarksMade}
 use Rattle.cluster_record.specs.declared.calls.SyncKind.{SyncKind}
 use Rattle.cluster_record.specs.declared.calls.SyncKind.TheVariants.{Synchronize, ActiveSet}
 use Rattle.cluster_record.specs.declared.calls.UpdatePhase.{UpdatePhase}
-use Rattle.cluster_record.specs.declared.calls.UpdatePhase.TheVariants.{Staging, Committing}
+use Rattle.cluster_record.specs.declared.calls.UpdatePhase.TheVariants.{Staging, Committing, Claiming, Claimed, Withdrawing, Resolving}
 use Rattle.cluster_record.specs.declared.entries.Entry.{Entry}
 use Rattle.cluster_record.specs.Calls.{client_of}
 use Rattle.cluster_record.specs.DueOnce.{OneStep}
@@ -25,7 +25,7 @@ use Rattle.cluster_record.specs.DueSync.{SyncState}
 use Rattle.cluster_record.specs.DueUpdate.{UpdateState}
 use Rattle.cluster_record.specs.Placement.{is_collocated, is_all}
 use Rattle.cluster_record.specs.RecordState.{entry_of, home_of, is_live, is_live_client, is_up}
-use Rattle.cluster_record.specs.StepDone.{has, last_having}
+use Rattle.cluster_record.specs.StepDone.{has}
 use Rattle.ckpt_types.specs.Asks.{asked}
 use Rattle.ckpt_types.specs.OpWord.{is_async, word_of_op}
 use Rattle.ckpt_types.specs.declared.operation.Op.{Op}
@@ -43,13 +43,14 @@ use Rattle.weak_marks.specs.Marks.{Marked}
 use Rattle.ckpt_machine.specs.Shape.{Shape, IsCompleteOn, marks_at, IsShapedBy, is_owner, PhaseFits, IsOwner, IsLeft, IsMarker, IsActiveBy, IsHolder}
 use Rattle.ckpt_machine.specs.After.{opened_state}
 use Rattle.ckpt_machine.specs.Due.{driver_of, asked_handle}
-use Rattle.ckpt_machine.specs.InHand.{active_kind, is_marked_by, are_present, is_held_by, IsMakingIn, IsOpenIn, IsUpdateIn, IsDoneIn, PhaseKeeps, HasSome, HasServedActive, IsSettingIn, IsSyncBy, IsOnceAt, IsInPlace, IsInHand}
+use Rattle.ckpt_machine.specs.InHand.{active_kind, is_marked_by, are_present, is_held_by, IsMakingIn, IsOpenIn, IsUpdateIn, IsDoneIn, PhaseKeeps, HasServedActive, IsSettingIn, IsSyncBy, IsOnceAt, IsInPlace, IsInHand}
 use Rattle.ckpt_machine.specs.Invariant.{IsMaker, IsGoodIn}
 use Rattle.ckpt_machine.specs.Later.{IsLaterEntry}
 pub use Rattle.ckpt_machine.proofs.Joining.{IsLaterEntry-refl}
 use Rattle.ckpt_machine.proofs.Joining.{all_apart, collocated_apart}
 use Rattle.ckpt_machine.proofs.ActiveBy.{active_by-complete, active_by-grows}
-use Rattle.ckpt_machine.proofs.Lives.{LivesOn, owner_in}
+use Rattle.ckpt_machine.specs.Dead.{IsDead}
+use Rattle.ckpt_machine.proofs.Lives.{LivesOn}
 use Rattle.ckpt_machine.proofs.MarksAt.{marks_at-apart}
 use Rattle.ckpt_machine.proofs.NodeLists.{first_complete-some, first_complete-there}
 use Rattle.ckpt_machine.proofs.OptionLemmas.{IsSomeAnd-from, IfSome-from}
@@ -112,6 +113,8 @@ pub record LooksAlike (m n : Machine) (shapes then_shapes : ℕ → Shape) (z : 
   pub later : (k : ℕ) → WasMade m.cluster k → (f : Entry) → entry_of k n.cluster.entries ≡ Some f → (e : Entry) × (entry_of k m.cluster.entries ≡ Some e) × LooksLater z (shapes k).marks e f
   pub owners : (k : ℕ) → WasMade m.cluster k → (r : ℕ) → is_owner z.call ((then_shapes k).owners r) ≡ is_owner z.call ((shapes k).owners r)
   pub marks : (k : ℕ) → WasMade m.cluster k → is_marked_by z.call (then_shapes k).marks ≡ is_marked_by z.call (shapes k).marks
+  -- a call that is dead is so still, where such a checkpoint is left
+  pub dead : (k : ℕ) (f : Entry) → WasMade m.cluster k → entry_of k n.cluster.entries ≡ Some f → (d : CallId) → IsDead m d → IsDead n d
   -- an update that it has done is so still
   pub done : (k : ℕ) → WasMade m.cluster k → IsDoneIn (shapes k) z → IsDoneIn (then_shapes k) z
 
@@ -136,13 +139,13 @@ module _ (m n : Machine) (shapes then_shapes : ℕ → Shape) (z : CallState) (a
   all_at : (u : UpdateState) → IsUpdateIn m shapes z u → (e : Entry) → entry_of u.ckpt m.cluster.entries ≡ Some e → is_all e.attributes ≡ true
   all_at u at e was = subst (λ o. IfSome o (λ (e : Entry). is_all e.attributes ≡ true)) was at.all
 
-  PhaseKeeps-alike : (u : UpdateState) (ph : UpdatePhase) → WasMade m.cluster u.ckpt → PhaseKeeps m (shapes u.ckpt) z u ph → PhaseKeeps n (then_shapes u.ckpt) z u ph
-  PhaseKeeps-alike u Staging was keeps = tt
-  PhaseKeeps-alike u Committing was keeps = alike.done u.ckpt was keeps
-
-  HasSome-alike : (u : UpdateState) (e f : Entry) → f.complete ≡ e.complete → (ph : UpdatePhase) → HasSome u e ph → HasSome u f ph
-  HasSome-alike u e f same Staging some = tt
-  HasSome-alike u e f same Committing some = subst (λ cs. IsSome (last_having 0 cs u.owned)) (sym same) some
+  PhaseKeeps-alike : (u : UpdateState) (ph : UpdatePhase) → WasMade m.cluster u.ckpt → (f : Entry) → entry_of u.ckpt n.cluster.entries ≡ Some f → PhaseKeeps m (shapes u.ckpt) z u ph → PhaseKeeps n (then_shapes u.ckpt) z u ph
+  PhaseKeeps-alike u Staging was f is keeps = tt
+  PhaseKeeps-alike u Committing was f is keeps = alike.done u.ckpt was keeps
+  PhaseKeeps-alike u Claiming was f is keeps = alike.dead u.ckpt f was is u.owner keeps
+  PhaseKeeps-alike u Claimed was f is keeps = alike.dead u.ckpt f was is u.owner keeps
+  PhaseKeeps-alike u Withdrawing was f is keeps = tt
+  PhaseKeeps-alike u Resolving was f is keeps = tt
 
   -- what a synchronisation has pulled is of no later generation
   older_alike : (u : SyncState) → WasMade m.cluster u.ckpt → (o : Option Snapshot) → IfSome o (λ p. IfSome (entry_of u.ckpt m.cluster.entries) (λ e. p.generation ≤ e.generation)) → IfSome o (λ p. IfSome (entry_of u.ckpt n.cluster.entries) (λ e. p.generation ≤ e.generation))
@@ -240,8 +243,7 @@ module _ (m n : Machine) (shapes then_shapes : ℕ → Shape) (z : CallState) (a
         let (e, was, look) = alike.later u.ckpt at.made f is in
         subst (λ (cs : List ℕ). (slice_index cs r == 0) ≡ false → has (slice_index cs r) (slice_index u.owned r) ≡ is_owner z.call ((shapes u.ckpt).owners r)) (sym (look.complete (all_at u at e was))) (at.owns e was r) full
         ∙ sym (alike.owners u.ckpt at.made r);
-    keeps = λ f is. let (e, was, look) = alike.later u.ckpt at.made f is in PhaseKeeps-alike u u.phase at.made (at.keeps e was);
-    some = λ none f is. let (e, was, look) = alike.later u.ckpt at.made f is in HasSome-alike u e f (look.complete (all_at u at e was)) u.phase (at.some none e was);
+    keeps = λ f is. let (e, was, look) = alike.later u.ckpt at.made f is in PhaseKeeps-alike u u.phase at.made f is (at.keeps e was);
   }
   IsIn-alike (drivers.Active a) at = record {
     call = at.call;
@@ -291,6 +293,10 @@ module _ (m n : Machine) (shapes then_shapes : ℕ → Shape) (z : CallState) (a
 pub PhaseFits-alike : (m n : Machine) → LivesOn m n → (sh : Shape) (z : CallState) (u : UpdateState) (ph : UpdatePhase) → PhaseFits m sh z u ph → PhaseFits n sh z u ph
 PhaseFits-alike m n lives sh z u Staging fits = fits
 PhaseFits-alike m n lives sh z u Committing fits = fits
+PhaseFits-alike m n lives sh z u Claiming fits = absurd fits
+PhaseFits-alike m n lives sh z u Claimed fits = record { origin = lives.dead sh.origin fits.origin; count = fits.count }
+PhaseFits-alike m n lives sh z u Withdrawing fits = record { origin = lives.dead sh.origin fits.origin; done_is = fits.done_is; alone = fits.alone }
+PhaseFits-alike m n lives sh z u Resolving fits = record { origin = lives.dead sh.origin fits.origin; done_is = fits.done_is; alone = fits.alone }
 
 module _ (m n : Machine) (k : ℕ) where
   -- who owns a slot has the same in hand
@@ -356,7 +362,6 @@ module _ (m n : Machine) (k : ℕ) where
     lowest = λ q r d below there owns. was.lowest q r d below (was_there r d owns q there) owns;
     first = λ q r d below there owns own. was.first q r d below (was_there r d owns q there) owns (owner_before lives sh d (was.owned r d owns) own);
     owned = λ r d owns. owned_alike lives sh d (owners d) (was.owned r d owns);
-    live = λ none r d owns. let own = owner_in m k sh d (was.owned r d owns) (was.live none r d owns) in lives.owners k sh d (IsOwner-alike lives sh d own (owners d own));
     led = λ marks is. ap is_some later.active ∙ was.led marks is;
     marked = λ marks is. let own = was.marked marks is in IsMarker-alike marks own (markers marks is own);
     held = λ d is. (
@@ -409,8 +414,8 @@ module _ (m : Machine) (shapes : ℕ → Shape) (next : ActorName → ℕ) (pend
   abbrev with_hands : Machine
   with_hands = record m { next = next; pending = pending; in_hand = f }
 
-  looks_apart : (z : CallState) → LooksAlike m with_hands shapes shapes z
-  looks_apart z = record {
+  looks_apart : ((d : CallId) → IsDead m d → IsDead with_hands d) → (z : CallState) → LooksAlike m with_hands shapes shapes z
+  looks_apart dead z = record {
     up = λ r up. up;
     lives = refl;
     home = refl;
@@ -420,12 +425,13 @@ module _ (m : Machine) (shapes : ℕ → Shape) (next : ActorName → ℕ) (pend
     later = λ k was e found. (e, found, LooksLater-refl z (shapes k).marks e);
     owners = λ k was r. refl;
     marks = λ k was. refl;
+    dead = λ k f was found. dead;
     done = λ k was done. done;
   }
 
   -- a call is where it was
-  pub IsIn-apart : (z : CallState) (d : Driver) → IsInPlace m shapes z d → IsInPlace with_hands shapes z d
-  IsIn-apart z d at = IsIn-alike m with_hands shapes shapes z (looks_apart z) d at
+  pub IsIn-apart : ((d : CallId) → IsDead m d → IsDead with_hands d) → (z : CallState) (d : Driver) → IsInPlace m shapes z d → IsInPlace with_hands shapes z d
+  IsIn-apart dead z d at = IsIn-alike m with_hands shapes shapes z (looks_apart dead z) d at
 
   -- a checkpoint is as it was, where those who own its slots, have marks on it, hold it or are making it stay
   pub IsGoodIn-apart : LivesOn m with_hands → ((k : ℕ) (sh : Shape) → OwnersStay m with_hands k sh) → ((k : ℕ) (sh : Shape) → MarkersStay m with_hands k sh) → ((k : ℕ) → HoldersStay m with_hands k) → ((k : ℕ) → MakersStay m with_hands k)

@@ -78,7 +78,7 @@ sync_kept m s u (ActiveSet local) at = at.kept
 
 -- an update, a call to the active and what brings its sections to others are of the checkpoint that their call keeps
 asks_own : (m : Machine) (shapes : ℕ → Shape) (s : CallState) (d : Driver) → IsInPlace m shapes s d → OfAsked (IsAskedOf m.cluster d s.kept.ckpt) d
-asks_own m shapes s (drivers.Update u) at = (λ r t. sym at.kept, λ r. sym at.kept)
+asks_own m shapes s (drivers.Update u) at = (λ r t. sym at.kept, λ r. sym at.kept, λ r. sym at.kept, λ r. sym at.kept)
 asks_own m shapes s (drivers.Active a) at = λ r. subst (λ own. IsAskedOf m.cluster (drivers.Active a) own (Serve r (active_request a))) (sym at.kept) (kind_asks m.cluster (drivers.Active a) a.call a.ckpt r a.kind a.marks)
 asks_own m shapes s (drivers.Sync u) at = let kept = sync_kept m s u u.kind at in (λ r. sym kept, λ r. sym kept, λ r. sym kept, λ r. sym kept)
 asks_own m shapes s (drivers.Once x) at = tt

@@ -1,27 +1,41 @@
 -- Each slot, each mark, each making and each hold is of a call in hand.
-use Rattle.std.proofs.Common.{◌≡◌, ℕ, Option, Some, None, refl, sym, subst, ◌∙◌}
+use Rattle.std.proofs.Common.{◌≡◌, ◌⊎◌, inl, inr, ℕ, List, Option, Some, None, refl, sym, ap, subst, ◌∙◌}
 use Rattle.std.specs.Prelude.{IsSome, IsSomeAnd, Contains}
 use Rattle.ckpt_types.specs.declared.identities.ActorName.{ActorName}
 use Rattle.ckpt_types.specs.declared.identities.CallId.{CallId}
+use Rattle.run_labels.specs.declared.labels.Label.{Label}
 use Rattle.call_dispatch.specs.declared.async_call.AsyncCall.{AsyncCall}
 use Rattle.cluster_record.specs.declared.entries.Entry.{Entry}
 use Rattle.cluster_record.specs.RecordState.{entry_of}
+use Rattle.ckpt_machine.proofs.Lives.{held_not_dead}
+use Rattle.ckpt_machine.specs.Dead.{IsDead}
 use Rattle.ckpt_machine.specs.Invariant.{IsMaker, IsGoodIn, Invariant}
 use Rattle.ckpt_machine.specs.Laws.{OfEachRun}
 use Rattle.ckpt_machine.specs.Machine.{Machine, who}
-use Rattle.ckpt_machine.specs.Owners.{IsCallInHand, OwnersInHand, OwnersInHandThroughout}
-use Rattle.ckpt_machine.specs.Runs.{last}
-use Rattle.ckpt_machine.specs.Shape.{Shape, IsOwner, IsMarker, IsHolder}
-use Rattle.ckpt_machine.proofs.Histories.{HasHistory, slot_owned, marks_owned, run_history}
+use Rattle.ckpt_machine.specs.Owners.{IsCallInHand, HasBegunIn, WasAbandoned, OwnersInHand, OwnersInHandThroughout}
+use Rattle.ckpt_machine.specs.Runs.{last, IsRun}
+use Rattle.ckpt_machine.specs.Shape.{IsMarker, IsHolder}
+use Rattle.ckpt_machine.proofs.EndedSlots.{IsThrough, slots_begun, through_then}
+use Rattle.ckpt_machine.proofs.Histories.{HasHistory, IsUpdater, slot_calls, marks_owned, run_history}
 use Rattle.ckpt_machine.proofs.OptionLemmas.{IsSomeAnd-at, IsSomeAnd-from}
 use Rattle.ckpt_machine.proofs.Runs.{run_front}
 use Rattle.ckpt_machine.proofs.UnderWay.{under_way_held}
 
-module _ (m : Machine) (inv : Invariant m) (history : HasHistory m) (under_way : (a : ActorName) (c : AsyncCall) → Contains (m.pending a).unfinished c → IsCallInHand m c.call) where
-  -- each of them has its call in hand
-  owner_held : (k : ℕ) (sh : Shape) (call : CallId) → IsOwner m k sh call → IsCallInHand m call
-  owner_held k sh call by = record { name = who by.state; state = by.state; in_hand = by.in_hand; call_is = by.call_is }
+module _ (log : List Label) (run : IsRun log) (inv : Invariant (last log)) (history : HasHistory (last log)) (under_way : (a : ActorName) (c : AsyncCall) → Contains ((last log).pending a).unfinished c → IsCallInHand (last log) c.call) where
+  abbrev m : Machine
+  m = last log
 
+  -- a dead call was abandoned, where it has begun and has not ended
+  or_abandoned : (call : CallId) → HasBegunIn log call → (IsThrough call m → ⊥) → IsUpdater m call ⊎ IsDead m call → IsCallInHand m call ⊎ WasAbandoned log call
+  or_abandoned call began unended (inl by) = inl (record { name = who by.state; state = by.state; in_hand = by.in_hand; call_is = by.call_is })
+  or_abandoned call began unended (inr dead) = inr (record {
+    began = began;
+    unended = λ before behind l is ends. unended (through_then log run before behind l is call ends);
+    gone = λ held. held_not_dead m inv.shapes inv.holds held.state (ap m.in_hand (inv.holds.hands held.name held.state held.in_hand).whose ∙ held.in_hand) (subst (IsDead m) (sym held.call_is) dead);
+    not_live = dead.gone;
+  })
+
+  -- each of the others has its call in hand
   maker_held : (k : ℕ) (call : CallId) → IsMaker m k call → IsCallInHand m call
   maker_held k call by = record { name = who by.state; state = by.state; in_hand = by.in_hand; call_is = by.call_is }
 
@@ -48,9 +62,10 @@ module _ (m : Machine) (inv : Invariant m) (history : HasHistory m) (under_way :
       by_making e found None making none = absurd (cc none)
       by_making e found (Some call) making some = IsSomeAnd-from (Some call) (IsCallInHand m) call refl (makes k e call found making)
 
-  in_hand : OwnersInHand m
+  in_hand : OwnersInHand log
   in_hand = record {
-    slots = λ k r x slot there staged. owner_held k (inv.shapes k) slot.owner (slot_owned m inv.shapes inv.holds history.bare k r x slot there staged).0;
+    owners = λ k r x slot there staged. or_abandoned slot.owner (slots_begun log run k r x slot there staged).0 (λ through. (through.free k r x there slot staged).0 refl) (slot_calls m inv.shapes inv.holds history.bare k r x slot there staged).0;
+    origins = λ k r x slot there staged. or_abandoned slot.origin (slots_begun log run k r x slot there staged).1 (λ through. (through.free k r x there slot staged).1 refl) (slot_calls m inv.shapes inv.holds history.bare k r x slot there staged).1;
     marks = λ k r x marks there marked. (let by : IsMarker m k marks = marks_owned m inv.shapes inv.holds history.bare k r x marks there marked in record { name = who by.state; state = by.state; in_hand = by.in_hand; call_is = by.call_is });
     makes = makes;
     holds = holds;
@@ -63,4 +78,4 @@ pub owners_in_hand : OfEachRun OwnersInHandThroughout
 owners_in_hand log run front back is =
     let there = run_front log front back is run in
     let (inv, history) = run_history front there in
-    in_hand (last front) inv history (under_way_held front there)
+    in_hand front there inv history (under_way_held front there)

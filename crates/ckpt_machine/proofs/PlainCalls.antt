@@ -37,7 +37,7 @@ use Rattle.ckpt_machine.specs.InHand.{IsInHand}
 use Rattle.ckpt_machine.specs.Invariant.{IsMaker, IsGoodClient, InvariantIn, Invariant}
 use Rattle.ckpt_machine.specs.Later.{IsLaterEntry, IsLaterRecord}
 use Rattle.ckpt_machine.specs.Dead.{IsDead}
-use Rattle.ckpt_machine.proofs.Lives.{LivesOn, lives_on-one}
+use Rattle.ckpt_machine.proofs.Lives.{LivesOn, lives_on-one, enters-one, dead_on}
 use Rattle.ckpt_machine.proofs.OtherCalls.{IsIn-apart, IsGoodIn-apart}
 use Rattle.ckpt_machine.proofs.Entries.{ComesOf, ComesOf-filter, ComesOf-change_found, ComesOf-then, found_filter, there_still}
 use Rattle.ckpt_machine.proofs.Moment.{IsLaterEntry-refl, making_stays}
@@ -177,10 +177,13 @@ module _ (m : Machine) (shapes : ℕ → Shape) (inv : InvariantIn shapes m) (s 
     calls = calls_left m.in_hand m.pending m.next inv.calls s held o same;
   }
     where
+      dead : (d : CallId) → IsDead m d → IsDead (record m { in_hand = put_who m.in_hand (who s) o }) d
+      dead = dead_on m (record m { in_hand = put_who m.in_hand (who s) o }) (λ d. refl) refl (enters-one m (record m { in_hand = put_who m.in_hand (who s) o }) s held (inv.hands (who s) s held).driven o same (λ z is. (own z is).driven) (λ w. refl))
+
       hands_then : (a : Who) (z : CallState) → put_who m.in_hand (who s) o a ≡ Some z → IsInHand (record m { in_hand = put_who m.in_hand (who s) o }) shapes a z
       hands_then a z left = elim (put_who-cases m.in_hand (who s) o a z left) [
         | inl here ↦ subst (λ b. IsInHand (record m { in_hand = put_who m.in_hand (who s) o }) shapes b z) (sym here.0) (own z here.1)
-        | inr other ↦ (let was = inv.hands a z other.1 in record { whose = was.whose; client = was.client; number = was.number; built = was.built; driven = was.driven; live = was.live; home = was.home; here = IsIn-apart m shapes m.next m.pending (put_who m.in_hand (who s) o) z (driver_of z) was.here })
+        | inr other ↦ (let was = inv.hands a z other.1 in record { whose = was.whose; client = was.client; number = was.number; built = was.built; driven = was.driven; live = was.live; home = was.home; here = IsIn-apart m shapes m.next m.pending (put_who m.in_hand (who s) o) dead z (driver_of z) was.here })
       ]
 
       lives : LivesOn m (record m { in_hand = put_who m.in_hand (who s) o })

@@ -23,7 +23,7 @@ use Rattle.ckpt_machine.proofs.OnComplete.{present_generation, put_complete}
 use Rattle.ckpt_machine.proofs.OptionLemmas.{IsSomeAnd-at, IsSomeAnd-from}
 use Rattle.ckpt_machine.specs.InHand.{IsInHand}
 use Rattle.ckpt_types.specs.declared.identities.Who.{Who}
-use Rattle.ckpt_machine.proofs.Lives.{LivesOn, lives_on-fewer}
+use Rattle.ckpt_machine.proofs.Lives.{LivesOn, lives_on-fewer, enters-fewer, dead_on}
 use Rattle.ckpt_machine.proofs.OtherCalls.{LooksAlike, LooksLater-refl, IsHolder-alike, making_still, IsInHand-alike, owned_alike, owner_before, IsMarker-alike, IsMaker-alike}
 use Rattle.ckpt_types.proofs.Lists.{slice_index-replicate}
 
@@ -112,7 +112,6 @@ module _ (m : Machine) (shapes : ℕ → Shape) (inv : InvariantIn shapes m) (f 
     lowest = good.lowest;
     first = λ p q d below there owns own. good.first p q d below there owns (owner_before m then_machine j lives (shapes j) d (good.owned q d owns) own);
     owned = λ q d owns. owned_alike m then_machine j lives (shapes j) d (λ own. refl) (good.owned q d owns);
-    live = good.live;
     led = good.led;
     marked = λ marks is. IsMarker-alike m then_machine j marks (good.marked marks is) refl;
     held = λ d is. (let own = good.held d is in record { collocated = own.collocated; unmarked = own.unmarked; holder = IsHolder-alike m then_machine j e.active d own.holder refl (active_same e.active refl) });
@@ -136,6 +135,7 @@ module _ (m : Machine) (shapes : ℕ → Shape) (inv : InvariantIn shapes m) (f 
     later = λ k was e found. (e, found, LooksLater-refl z (shapes k).marks e);
     owners = λ k was r. refl;
     marks = λ k was. refl;
+    dead = λ k f was found. dead_on m then_machine (λ d. refl) refl (enters-fewer m then_machine (λ a z held. held));
     done = λ k was done. done;
   }
 

@@ -38,12 +38,12 @@ leaves_same m n in_hand next clients = record {
 -- behind the failure of a node some are left
 failed_leaves : (m : Machine) → Invariant m → (r : ℕ) → LeavesCalls m (failed_at r m)
 failed_leaves m inv r = record {
-  held = λ w s left. (left_is false m inv.shapes inv.holds r w s left).0;
+  held = λ w s left. (left_is m inv.shapes inv.holds r w s left).0;
   next = refl;
   client = λ w s left.
-      let (held, stays) = left_is false m inv.shapes inv.holds r w s left in
+      let (held, stays) = left_is m inv.shapes inv.holds r w s left in
       let client = (inv.holds.hands w s held).client in
-      found_staying (λ k q. count_in (m.replicas k q)) r m.cluster (client_of s.call) (sym (of_node_client m.cluster r s.call.actor client) ∙ left_stays false m inv.shapes inv.holds r s stays);
+      found_staying (λ k q. count_in (m.replicas k q)) r m.cluster (client_of s.call) (sym (of_node_client m.cluster r s.call.actor client) ∙ left_stays m inv.shapes inv.holds r s stays);
 }
 
 -- WHATEVER THE LABEL IS

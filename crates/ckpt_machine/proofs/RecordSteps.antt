@@ -120,6 +120,7 @@ module _ (m : Machine) (shapes : ℕ → Shape) (inv : InvariantIn shapes m) (R 
       later = λ k was f found. let (e, there, later) = after_it.later k f found in (e, there, LooksLater-later m.cluster.up z (shapes k).marks e f later);
       owners = λ k was r. refl;
       marks = λ k was. refl;
+      dead = λ k f was found. lives.dead;
       done = λ k was done. done;
     }
 

@@ -1,6 +1,6 @@
 -- A call that ends with a refusal has nothing after it, and leaves all else as it was.
 use Rattle.node_msgs.specs.declared.details.Details.{Details}
-use Rattle.std.proofs.Common.{◌≡◌, ◌⊎◌, ℕ, inl, inr, List, [], ◌∷◌, ◌++◌, ◌<◌, Option, Some, None, true, false, cond, not, ◌==◌, refl, sym, ap, subst, ◌∙◌, append_assoc, arith}
+use Rattle.std.proofs.Common.{◌≡◌, ◌≢◌, ◌⊎◌, ℕ, inl, inr, List, [], ◌∷◌, ◌++◌, ◌<◌, Option, Some, None, true, false, cond, not, ◌==◌, refl, sym, ap, subst, ◌∙◌, append_assoc, arith}
 use Rattle.std.specs.Prelude.{IsSomeAnd, slice_index}
 use Rattle.std.proofs.lemmas.Option.{same_Some}
 use Rattle.ckpt_types.specs.declared.answers.Outcome.{Outcome}
@@ -13,26 +13,37 @@ use Rattle.node_msgs.specs.declared.steps.StepReply.TheVariants as words
 use Rattle.run_labels.specs.declared.labels.Label.{Label}
 use Rattle.run_labels.specs.declared.labels.Label.TheVariants as labels
 use Rattle.cluster_record.specs.declared.entries.Entry.{Entry}
-use Rattle.cluster_record.specs.RecordState.{RecordState, identity_of, entry_of, complete_of, swept, undone}
+use Rattle.cluster_record.specs.RecordState.{RecordState, identity_of, entry_of, complete_of, swept, undone, is_live}
 use Rattle.cluster_record.specs.Places.{put}
 use Rattle.std.proofs.lemmas.Bool.{eqb-true}
+use Rattle.cluster_record.specs.Makings.{making_of}
+use Rattle.cluster_record.specs.Calls.{IsClient}
+use Rattle.cluster_record.specs.DueOnce.{OneStep}
+use Rattle.node_msgs.specs.declared.steps.Verb.{Verb}
+use Rattle.ckpt_machine.specs.Driving.{making_in}
+use Rattle.ckpt_machine.specs.Drivers.{Driver}
+use Rattle.ckpt_machine.specs.Drivers as drivers
+use Rattle.ckpt_machine.proofs.EndedTables.{live_alike}
+use Rattle.ckpt_machine.proofs.Lives.{held_not_dead}
+use Rattle.ckpt_machine.specs.InHand.{IsInHand}
+use Rattle.ckpt_machine.specs.Dead.{IsDead, is_enter}
 use Rattle.ckpt_machine.specs.Guards.{Row, Allowed}
 use Rattle.ckpt_machine.specs.OpenGuards.{IsMadeBy}
 use Rattle.ckpt_machine.specs.UpdateGuards.{CommitRow}
 use Rattle.ckpt_machine.specs.Invariant.{IsGoodIn, Invariant}
-use Rattle.ckpt_machine.specs.Machine.{Machine, ReplicaState, Snapshot, CallState, who}
+use Rattle.ckpt_machine.specs.Machine.{Machine, ReplicaState, Snapshot, CallState, who, Staged}
 use Rattle.ckpt_machine.specs.Owned.{OwnsNothing, HasNoEffect, HasNothing}
 use Rattle.ckpt_machine.specs.Refusals.{IsRefused, IsRefusal, LeavesAll, UndoesOwn, LeavesBy, end_kept, unmade, unmade_swept, Refuses, call_told, EachRefusalLeaves}
 use Rattle.ckpt_machine.specs.Runs.{last}
 use Rattle.ckpt_machine.specs.Shape.{IsCompleteOn, IsSpread}
 use Rattle.ckpt_machine.specs.After.{after_beginning, call_begun, changed, kept_behind, step_of, after, replica_under, replicas_under, reservation_under, snapshot_under, opened_state}
-use Rattle.ckpt_machine.specs.Due.{Told, IsDone, IsDue, due}
+use Rattle.ckpt_machine.specs.Due.{Told, IsDone, IsDue, due, driver_of}
 use Rattle.ckpt_machine.proofs.Copying.{IsSource}
 use Rattle.ckpt_machine.proofs.EachReplica.{run_copies}
-use Rattle.ckpt_machine.proofs.OwnMaking.{making_there}
+use Rattle.ckpt_machine.proofs.OwnMaking.{making_there, making_is}
 use Rattle.ckpt_machine.proofs.Follows.{IsIncomplete, IsBare, Has}
 use Rattle.ckpt_machine.proofs.Owning.{never_unled}
-use Rattle.ckpt_machine.proofs.Histories.{HasHistory, commits_by, commit, gone, unled, nothing_left, Commits, Applies, slot_owned, marks_owned, making_incomplete, follows, had, keeps_history, run_history}
+use Rattle.ckpt_machine.proofs.Histories.{HasHistory, commits_by, commit, gone, unled, nothing_left, Commits, Applies, slot_calls, marks_owned, making_incomplete, follows, had, keeps_history, run_history, IsUpdater}
 use Rattle.ckpt_machine.proofs.Lawful.{lawful}
 use Rattle.ckpt_machine.proofs.EntryLists.{find_key-without, AllStay-filter, swept-all}
 use Rattle.ckpt_machine.proofs.Refusing.{at_node, commit_ends, left_none, none_begun, refusal_leaves}
@@ -46,7 +57,7 @@ use Rattle.ckpt_types.specs.OpWord.{word_of_op, stepped_as}
 use Rattle.ckpt_machine.specs.Whose.{put_who}
 use Rattle.ckpt_machine.proofs.Dropped.{held_as, ended_none}
 use Rattle.ckpt_machine.proofs.Starting.{first_kept}
-use Rattle.ckpt_machine.proofs.Whose.{put_who-cases}
+use Rattle.ckpt_machine.proofs.Whose.{put_who-cases, one_call}
 use Rattle.ckpt_machine.proofs.OptionLemmas.{IsSomeAnd-at, IsSomeAnd-more}
 
 -- ---- a call that is not in hand owns nothing
@@ -55,7 +66,8 @@ use Rattle.ckpt_machine.proofs.OptionLemmas.{IsSomeAnd-at, IsSomeAnd-more}
 abbrev pub IsNotInHand : Machine → CallId → Type 0
 IsNotInHand m call = (w : Who) (s : CallState) → m.in_hand w ≡ Some s → s.call ≡ call → ⊥
 
-module _ (m : Machine) (inv : Invariant m) (bare : IsBare m) (call : CallId) (none : IsNotInHand m call) where
+module _ (m : Machine) (inv : Invariant m) (bare : IsBare m) (call : CallId) (none : IsNotInHand m call)
+    (apart : (k r : ℕ) (x : ReplicaState) (slot : Staged) (d : CallId) → m.replicas k r ≡ Some x → x.slot ≡ Some slot → (slot.owner ≡ d) ⊎ (slot.origin ≡ d) → IsDead m d → d ≢ call) where
   no_maker : (k : ℕ) (e : Entry) → entry_of k m.cluster.entries ≡ Some e → e.making ≡ Some call → ⊥
   no_maker k e found is =
       let good = subst (λ maker. IsGoodIn m k (inv.shapes k) e maker) is (inv.holds.entries k e found) in
@@ -71,11 +83,16 @@ module _ (m : Machine) (inv : Invariant m) (bare : IsBare m) (call : CallId) (no
       let good : IsGoodIn m k (inv.shapes k) e (Some d) = subst (IsGoodIn m k (inv.shapes k) e) made (inv.holds.entries k e found) in
       let w : None ≡ Some call = sym good.0.free ∙ is in cc w
 
+  -- nor does it own a slot, or is what is staged its own
+  not_own : (k r : ℕ) (x : ReplicaState) (slot : Staged) (d : CallId) → m.replicas k r ≡ Some x → x.slot ≡ Some slot → (slot.owner ≡ d) ⊎ (slot.origin ≡ d) → IsUpdater m d ⊎ IsDead m d → d ≢ call
+  not_own k r x slot d there staged of (inl by) = λ same. none (who by.state) by.state by.in_hand (by.call_is ∙ same)
+  not_own k r x slot d there staged of (inr dead) = apart k r x slot d there staged of dead
+
   pub owns_nothing : OwnsNothing m call
   owns_nothing = record {
     slots = λ k r x slot there staged.
-        let (own, origin, update) = slot_owned m inv.shapes inv.holds bare k r x slot there staged in
-        (λ is. none (who own.state) own.state own.in_hand (own.call_is ∙ is), λ is. none (who own.state) own.state own.in_hand (own.call_is ∙ sym origin ∙ is));
+        let (owner, origin) = slot_calls m inv.shapes inv.holds bare k r x slot there staged in
+        (not_own k r x slot slot.owner there staged (inl refl) owner, not_own k r x slot slot.origin there staged (inr refl) origin);
     marks = λ k r x marks there marked is. let own = marks_owned m inv.shapes inv.holds bare k r x marks there marked in none (who own.state) own.state own.in_hand (own.call_is ∙ is);
     makes = no_maker;
     holds = λ k e found is. no_holder k e found e.making refl is;
@@ -103,7 +120,7 @@ module _ (m : Machine) (inv : Invariant m) (history : HasHistory m) (s : CallSta
             let (e, found, there) = IsSomeAnd-at (entry_of k m.cluster.entries) (λ e. IsCompleteOn e r) (history.bare.complete k r has.replica has.there) in
             let w : None ≡ Some e = sym none ∙ ap (λ k. entry_of k m.cluster.entries) at.ckpt ∙ found in cc w)
         | unled e found none ends ↦ absurd (never_unled m inv.shapes inv.holds s at.update held at.driver_is e found none)
-        | nothing_left ends ↦ subst IsRefused ends refused
+        | nothing_left answer ends ↦ subst IsRefused ends refused
       ]
 
   -- and has none
@@ -111,7 +128,8 @@ module _ (m : Machine) (inv : Invariant m) (history : HasHistory m) (s : CallSta
   has_none k r x there has = elim (had m inv history s held t row k r s.call (record { replica = x; there = there; effect = has })) [
     | inl was ↦ had_none k r was
     | inr (inl new) ↦ none_new new.by
-    | inr (inr pulled) ↦ absurd (history.ended_pulled s held pulled)
+    | inr (inr (inl pulled)) ↦ absurd (history.ended_pulled s held pulled)
+    | inr (inr (inr dead)) ↦ absurd (held_not_dead m inv.shapes inv.holds s held dead)
   ]
     where
       none_new : Commits m inv history s held t row k ⊎ Applies m inv history s held t row → ⊥
@@ -140,10 +158,77 @@ ended_nowhere m inv history s held t row refused w z at same =
     ended_none m.in_hand m.pending m.next inv.holds.calls s held n.in_hand (follows m inv history s held t row).in_hand w z
     (subst (λ o. put_who n.in_hand (who s) o w ≡ Some z) (left_none t.end (kept_behind m s n.cluster t.verb t.ckpt t.node t.reply) refused) at) same
 
+-- whose slot stands, and whose update is staged, has begun
+slot_given : (m : Machine) (inv : Invariant m) → (d : CallId) → IsUpdater m d ⊎ IsDead m d → d.number < m.next d.actor
+slot_given m inv d (inl by) = subst (λ (c : CallId). c.number < m.next c.actor) by.call_is (inv.holds.hands (who by.state) by.state by.in_hand).number
+slot_given m inv d (inr dead) = dead.begun
+
+-- so it is no call that begins then
+begun_apart : (m : Machine) → Invariant m → HasHistory m → (call : CallId) → call.number ≡ m.next call.actor → (k r : ℕ) (x : ReplicaState) (slot : Staged) (d : CallId) → m.replicas k r ≡ Some x → x.slot ≡ Some slot → (slot.owner ≡ d) ⊎ (slot.origin ≡ d) → d ≢ call
+begun_apart m inv history call number k r x slot d there staged of same =
+    let (owner, origin) = slot_calls m inv.shapes inv.holds history.bare k r x slot there staged in
+    let below : call.number < m.next call.actor = subst (λ (c : CallId). c.number < m.next c.actor) same (elim of [
+      | inl is ↦ subst (λ (c : CallId). c.number < m.next c.actor) is (slot_given m inv slot.owner owner)
+      | inr is ↦ subst (λ (c : CallId). c.number < m.next c.actor) is (slot_given m inv slot.origin origin)
+    ]) in
+    omega (arith, below, number)
+
+-- what is kept of an end changes neither the record nor what nodes have
+kept_record : (call : CallId) (word : OpWord) (end : Option Outcome) (m : Machine) → (end_kept call word end m).cluster ≡ m.cluster
+kept_record call word None m = refl
+kept_record call word (Some end) m = refl
+
+kept_replicas : (call : CallId) (word : OpWord) (end : Option Outcome) (m : Machine) (j q : ℕ) → (end_kept call word end m).replicas j q ≡ m.replicas j q
+kept_replicas call word None m j q = refl
+kept_replicas call word (Some end) m j q = refl
+
+-- a client's call is as live behind a refusal as before it
+leaves_live : (m n : Machine) (call d : CallId) (op : OpWord) (verb : Verb) (k r : Option ℕ) (reply : StepReply) (end : Option Outcome) (details : Details) → IsClient d.actor → LeavesBy unmade_swept (labels.Stepped call op verb k r reply end details) m n → is_live n.cluster d ≡ is_live m.cluster d
+leaves_live m n call d op verbs.Look k r reply end details client (inl all) = ap (λ (R : RecordState). is_live R d) (all.cluster ∙ kept_record call op end m)
+leaves_live m n call d op verbs.Look k r reply end details client (inr own) = ap (λ (R : RecordState). is_live R d) (own.rest.cluster ∙ kept_record call op end (unmade_swept own.ckpt m)) ∙ live_alike m.cluster (swept (undone own.ckpt m.cluster)) d client refl
+leaves_live m n call d op verbs.Undo k r reply end details client own = ap (λ (R : RecordState). is_live R d) (own.rest.cluster ∙ kept_record call op end (unmade_swept own.ckpt m)) ∙ live_alike m.cluster (swept (undone own.ckpt m.cluster)) d client refl
+leaves_live m n call d op verb k r reply end details client all = ap (λ (R : RecordState). is_live R d) (all.cluster ∙ kept_record call op end m)
+
+-- one that makes nothing leaves the replicas
+leaves_replicas : (m n : Machine) (call : CallId) (op : OpWord) (verb : Verb) (k r : Option ℕ) (reply : StepReply) (end : Option Outcome) (details : Details) → making_of call m.cluster ≡ None → LeavesBy unmade_swept (labels.Stepped call op verb k r reply end details) m n → (j q : ℕ) → n.replicas j q ≡ m.replicas j q
+leaves_replicas m n call op verbs.Look k r reply end details none (inl all) j q = all.replicas j q ∙ kept_replicas call op end m j q
+leaves_replicas m n call op verbs.Look k r reply end details none (inr own) j q = absurd (let w : None ≡ Some own.ckpt = sym none ∙ own.own in cc w)
+leaves_replicas m n call op verbs.Undo k r reply end details none own j q = absurd (let w : None ≡ Some own.ckpt = sym none ∙ own.own in cc w)
+leaves_replicas m n call op verb k r reply end details none all j q = all.replicas j q ∙ kept_replicas call op end m j q
+
+-- no slot is of a call that is refused at a step, nor is what is staged its own
+step_apart : (m n : Machine) (inv : Invariant m) (history : HasHistory m) (s : CallState) (held : m.in_hand (who s) ≡ Some s) → ((d : CallId) → IsClient d.actor → is_live n.cluster d ≡ is_live m.cluster d) → (making_of s.call m.cluster ≡ None → (j q : ℕ) → n.replicas j q ≡ m.replicas j q)
+    → (k r : ℕ) (y : ReplicaState) (slot : Staged) (d : CallId) → n.replicas k r ≡ Some y → y.slot ≡ Some slot → (slot.owner ≡ d) ⊎ (slot.origin ≡ d) → IsDead n d → d ≢ s.call
+step_apart m n inv history s held live replicas k r y slot d there staged of dead same = by_driver (driver_of s) refl
+  where
+    hand : IsInHand m inv.shapes (who s) s
+    hand = inv.holds.hands (who s) s held
+
+    by_live : is_enter (driver_of s) ≡ false → ⊥
+    by_live other = let w : true ≡ false = sym (hand.live other) ∙ sym (live s.call hand.client) ∙ ap (is_live n.cluster) (sym same) ∙ dead.gone in cc w
+
+    -- an Initialize is no update, and is not dead
+    no_update : (x : OneStep) → driver_of s ≡ drivers.Once x → IsUpdater m d ⊎ IsDead m d → ⊥
+    no_update x is (inl by) =
+        let state : by.state ≡ s = one_call m.in_hand m.pending m.next inv.holds.calls (who by.state) (who s) by.state s by.in_hand held (by.call_is ∙ same) in
+        let w : drivers.Once x ≡ drivers.Update by.driver = sym is ∙ ap driver_of (sym state) ∙ by.driver_is in cc w
+    no_update x is (inr dead) = held_not_dead m inv.shapes inv.holds s held (subst (IsDead m) same dead)
+
+    by_driver : (x : Driver) → driver_of s ≡ x → ⊥
+    by_driver (drivers.Once x) is =
+        let none : making_of s.call m.cluster ≡ None = making_is m inv.shapes inv.holds s held ∙ ap making_in is in
+        let (owner, origin) = slot_calls m inv.shapes inv.holds history.bare k r y slot (sym (replicas none k r) ∙ there) staged in
+        no_update x is (elim of [ inl own ↦ subst (λ c. IsUpdater m c ⊎ IsDead m c) own owner | inr own ↦ subst (λ c. IsUpdater m c ⊎ IsDead m c) own origin ])
+    by_driver (drivers.Open o) is = by_live (ap is_enter is)
+    by_driver (drivers.Update u) is = by_live (ap is_enter is)
+    by_driver (drivers.Active a) is = by_live (ap is_enter is)
+    by_driver (drivers.Sync u) is = by_live (ap is_enter is)
+
 -- what is refused has nothing
 pub refused_has_nothing : (m : Machine) (l : Label) → Invariant m → HasHistory m → Allowed m l → IsDue m l → IsRefusal l → IsSomeAnd (call_told l) (HasNothing (after m l))
 refused_has_nothing m (labels.Began call op end details) inv history allowed is refused = record {
-  owns = owns_nothing (after_beginning m call op end) (lawful m (labels.Began call op end details) inv is).1 (keeps_history m (labels.Began call op end details) inv history allowed is).bare call (begun_nowhere m inv call op end is.number refused);
+  owns = owns_nothing (after_beginning m call op end) (lawful m (labels.Began call op end details) inv is).1 (keeps_history m (labels.Began call op end details) inv history allowed is).bare call (begun_nowhere m inv call op end is.number refused)
+      (λ k r x slot d there staged of dead. begun_apart m inv history call is.number k r x slot d there staged of);
   effects = begun_none m history call op end is.number;
 }
 refused_has_nothing m (labels.Stepped call op verb k r reply end details) inv history allowed step refused =
@@ -153,11 +238,16 @@ refused_has_nothing m (labels.Stepped call op verb k r reply end details) inv hi
     let same : allowed.state ≡ s = same_Some allowed.state s (sym allowed.in_hand ∙ step.in_hand) in
     let row = subst (λ z. Row m z verb t) same allowed.row in
     let n = step_of m (Some s) verb k r reply end in
+    let leaves = refusal_leaves m (labels.Stepped call op verb k r reply end details) allowed refused in
     let nowhere : IsNotInHand n call = subst (IsNotInHand n) step.call_is (ended_nowhere m inv history s held t row refused) in
     let none : HasNoEffect n s.call = has_none m inv history s held t row step.done refused in
     record {
       owns = owns_nothing (after m (labels.Stepped call op verb k r reply end details)) (lawful m (labels.Stepped call op verb k r reply end details) inv step).1 (keeps_history m (labels.Stepped call op verb k r reply end details) inv history allowed step).bare call
-          (subst (λ o. IsNotInHand (step_of m o verb k r reply end) call) (sym step.in_hand) nowhere);
+          (subst (λ o. IsNotInHand (step_of m o verb k r reply end) call) (sym step.in_hand) nowhere)
+          (λ j q x slot d there staged of dead. subst (λ c. d ≢ c) step.call_is (step_apart m (after m (labels.Stepped call op verb k r reply end details)) inv history s held
+          (λ d client. leaves_live m (after m (labels.Stepped call op verb k r reply end details)) call d op verb k r reply end details client leaves)
+          (λ none. leaves_replicas m (after m (labels.Stepped call op verb k r reply end details)) call op verb k r reply end details (ap (λ c. making_of c m.cluster) (sym step.call_is) ∙ none) leaves)
+          j q x slot d there staged of dead));
       effects = subst (λ o. HasNoEffect (step_of m o verb k r reply end) call) (sym step.in_hand) (subst (HasNoEffect n) step.call_is none);
     }
 refused_has_nothing m l inv history allowed is refused = absurd refused

@@ -41,7 +41,7 @@ use Rattle.ckpt_machine.specs.Guards.{AtCkpt, AtNode, AtNodeAlone, AtNone, Row, 
 use Rattle.ckpt_machine.specs.LookGuards.{LookRow}
 use Rattle.ckpt_machine.specs.OpenGuards.{UndoRow}
 use Rattle.ckpt_machine.specs.ActiveGuards.{HoldOk, ActivateOk, ActiveRefused, ActiveHeld, BeginsOnActive, ApplyOk, MarkOk, IterOk, NextOk, NextAnswer, InstallOk, steps_with, all_served, unless_unserved}
-use Rattle.ckpt_machine.specs.UpdateGuards.{CommitOk, ends_update}
+use Rattle.ckpt_machine.specs.UpdateGuards.{ClaimOk, CommitOk, WithdrawOk, ends_update}
 use Rattle.ckpt_machine.specs.GuardTerms.{OnReplica, OnAll, OnActive}
 use Rattle.ckpt_machine.specs.Refusals.{IsRefused, IsRefusal, LeavesAll, UndoesOwn, LeavesBy, end_kept, unmade_swept}
 use Rattle.std.specs.Prelude.{if◌then◌else◌}
@@ -154,6 +154,10 @@ changed_same m s verbs.Finish k r reply end details row refused looks = refl
 changed_same m s verbs.Undo k r reply end details row refused looks = absurd looks
 changed_same m s verbs.Stage k r words.Ok end details row refused looks = absurd (at_node k r _ row.0 (λ k r p. no_refusal_yet end p.3.1 refused))
 changed_same m s verbs.Stage k r reply end details row refused looks = refl
+changed_same m s verbs.Claim k r words.Ok end details row refused looks = absurd (at_node k r _ row.0 (λ k r p. on_all m k r (λ e x. ClaimOk m s.call end x) p.3 (λ e x (ok : ClaimOk m s.call end x). no_refusal_yet end ok.answer refused)))
+changed_same m s verbs.Claim k r reply end details row refused looks = refl
+changed_same m s verbs.Withdraw k r words.Ok end details row refused looks = absurd (at_node k r _ row.0 (λ k r p. on_all m k r (λ e x. WithdrawOk m s.call k end x) p.3 (λ e x (ok : WithdrawOk m s.call k end x). no_refusal_yet end ok.answer refused)))
+changed_same m s verbs.Withdraw k r reply end details row refused looks = refl
 changed_same m s verbs.Commit k r words.Ok end details row refused looks = absurd (at_node k r _ row (λ k r p. commit_ends m s.call p.1 k r end details p.3 refused))
 changed_same m s verbs.Commit k r reply end details row refused looks = refl
 changed_same m s verbs.Apply k r words.Ok end details row refused looks =

@@ -184,6 +184,8 @@ kept_replay log = record {
   pulled = λ e r x source active none was. replay_there e x none (was e refl);
   put = λ e r s x present free none copied was f found. subst (λ f. IsReplayed f (replica_from s x)) (same_Some e f found) (replayed e (replica_from s x) none copied);
   staged = λ m s k r x step was e found. (let it = was e found in record { replays = it.replays; marked = it.marked });
+  claimed = λ m s k r x step was e found. (let it = was e found in record { replays = it.replays; marked = it.marked });
+  withdrawn = λ m s k r x step was e found. (let it = was e found in record { replays = it.replays; marked = it.marked });
   committed = λ m s k r x e step all was f found. subst (λ f. IsReplayed f (committed_slot e.attributes x x.slot)) (same_Some e f found) (committed_replay e x x.slot (all_unmarked m step.inv step.history.bare k r x e step.there all.found all.all) (was e refl));
   applied = λ m s k r x e step active none was f found. subst (λ f. IsReplayed f (having_taken e.attributes s.call (update_of s.op) m.cluster.moment x)) (same_Some e f found) (taken_replay e s.call (update_of s.op) m.cluster.moment x none (was e refl));
   marked = λ m s k r x e step active can was f found. subst (λ f. IsReplayed f (with_marks s.call (update_of s.op) m.cluster.moment x)) (same_Some e f found) (marked_replay e s.call (update_of s.op) m.cluster.moment x can (was e refl));

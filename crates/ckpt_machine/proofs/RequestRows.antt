@@ -18,7 +18,7 @@ use Rattle.node_msgs.specs.declared.steps.StepReply.TheVariants as words
 use Rattle.cluster_record.specs.declared.entries.Entry.{Entry}
 use Rattle.node_msgs.specs.declared.replies.Reply.TheVariants as replies
 use Rattle.snap_copy.specs.Snapshots as copies
-use Rattle.replica.specs.Replicas.{Replica, is_older, taken_from, committed, applied_by, or_same, standing_or, staged_by, marked_by, element_done, ended, outcome_on}
+use Rattle.replica.specs.Replicas.{Replica, is_older, taken_from, committed, applied_by, or_same, standing_or, staged_by, withdrawn, marked_by, element_done, ended, outcome_on}
 use Rattle.stage_slot.specs.Slots.{Slot, IsOwnedBy}
 use Rattle.weak_marks.specs.Marks.{Marked, IsMarkedBy, call_of, with_next_done}
 use Rattle.cluster_record.specs.Places.{put2}
@@ -26,11 +26,11 @@ use Rattle.cluster_record.specs.RecordState.{entry_of}
 use Rattle.node_msgs.specs.Requests.{ckpt_of}
 use Rattle.node_core.specs.Payloads.{Payload}
 use Rattle.node_core.specs.Seen.{RecordSeen, record_seen}
-use Rattle.node_core.specs.Serving.{reply_of, replica_after, stage_reply, apply_reply, mark_reply, next_reply, pull_reply, generation_seen, older_reply, install_reply, installed_of}
+use Rattle.node_core.specs.Serving.{reply_of, replica_after, stage_reply, claim_reply, claimed_by, may_claim, apply_reply, mark_reply, next_reply, pull_reply, generation_seen, older_reply, install_reply, installed_of}
 use Rattle.node_core.specs.Fitting.{IsReadyFor}
 use Rattle.node_msgs.specs.Steps.{verb_of, word_of}
 use Rattle.ckpt_machine.specs.Machine.{Machine, Effect, Applied, ReplicaState, Snapshot, CallState}
-use Rattle.ckpt_machine.specs.After.{changed, on_ok, change_replica, chosen_at, given_at, with_slot, with_committed, with_applied, with_marks, with_next_element, without_marks, with_installed, having_taken, with_tables, staged_moment}
+use Rattle.ckpt_machine.specs.After.{changed, on_ok, change_replica, chosen_at, given_at, with_slot, with_claim, without_slot, with_committed, with_applied, with_marks, with_next_element, without_marks, with_installed, having_taken, with_tables, staged_moment}
 use Rattle.ckpt_machine.specs.Due.{ids_asked, payload_due}
 use Rattle.ckpt_machine.specs.Seen.{seen_at, seen_snapshot}
 use Rattle.ckpt_machine.specs.Tables.{started, with_next, gone_on}
@@ -120,6 +120,22 @@ module _ (M : Machine) (s : CallState) (k r : ℕ) (E : List Effect) (o : CallId
       let X : ReplicaState = record { sections = x.sections; effects = E; generation = x.generation; slot = None; marks = x.marks } in
       ap (λ y. change_replica M k r y f) is ∙ (λ i. with (Some (with_slot (sym own i) (update_of s.op) (moment refl i) X)))
 
+  -- a claim leaves the origin of the slot as it is
+  claim_moves : (call owner : CallId) (p : Option Slot) → M.replicas k r ≡ shown_replica E o (Some (record x { slot = p })) → call ≡ s.call →
+      changed M s verbs.Claim (Some k) (Some r) (word_of (claim_reply call owner x.count p)) ≡ with (shown_replica E o (Some (record x { slot = claimed_by call owner p })))
+  claim_moves call owner None is own = stays (shown_replica E o (Some (record x { slot = None }))) is
+  claim_moves call owner (Some slot) is own = by_test (may_claim call owner slot) where
+    X : ReplicaState
+    X = record { sections = x.sections; effects = E; generation = x.generation; slot = shown_slot o (Some slot); marks = x.marks }
+
+    by_test : (b : Bool) → changed M s verbs.Claim (Some k) (Some r) (word_of (cond b (replies.Claimed slot.count) (replies.Held slot.owner))) ≡ with (shown_replica E o (Some (record x { slot = cond b (Some (record slot { owner = call })) (Some slot) })))
+    by_test true = ap (λ y. change_replica M k r y (with_claim s.call)) is ∙ (λ i. with (Some (with_claim (sym own i) X)))
+    by_test false = stays (shown_replica E o (Some (record x { slot = Some slot }))) is
+
+  -- what is withdrawn is there no more
+  withdraw_moves : M.replicas k r ≡ shown_replica E o (Some x) → change_replica M k r (M.replicas k r) without_slot ≡ with (shown_replica E o (Some (withdrawn x)))
+  withdraw_moves is = ap (λ y. change_replica M k r y without_slot) is
+
   commit_moves : (p : Option Slot) (e : Entry) (call : CallId) → entry_of k M.cluster.entries ≡ Some e → x.attributes ≡ e.attributes → M.replicas k r ≡ shown_replica E o (Some (record x { slot = p })) → IsOwnedBy call p →
       change_replica M k r (M.replicas k r) (with_committed (entry_of k M.cluster.entries)) ≡ with (shown_replica (effects_with p o E) o (Some (committed (record x { slot = p }) p)))
   commit_moves None e call at same is owned = absurd owned
@@ -207,8 +223,6 @@ pub row_moves : (M : Machine) (s : CallState) (r : ℕ) (E : List Effect) (o : C
     changed M s (verb_of request) (Some (ckpt_of request)) (Some r) (word_of (reply_of request (payload_due M s) (record_seen M.cluster (ckpt_of request) r) x))
     ≡ tables_moved request s (ids_asked M s) M.cluster.moment x.sections (record M { replicas = put2 M.replicas (ckpt_of request) r (shown_replica (effects_after s.call request (payload_due M s) (record_seen M.cluster (ckpt_of request) r) (Some x) o (effects_in s.snapshot) E) (origin_after request (Some x) o) (Some (replica_after request (payload_due M s) (record_seen M.cluster (ckpt_of request) r) x))) })
 row_moves M s r E o x e (Reserve k) goes at same is seen ready own moment = absurd goes
-row_moves M s r E o x e (Claim call k owner) goes at same is seen ready own moment = absurd goes
-row_moves M s r E o x e (Withdraw call k) goes at same is seen ready own moment = absurd goes
 row_moves M s r E o x e (Apply call k) goes at same is seen ready own moment =
     apply_moves M s k r E o x (with_applied s.call (update_of s.op) M.cluster.moment (entry_of k M.cluster.entries)) (Applied s.call (update_of s.op) M.cluster.moment) (update_of s.op) x.marks (outcome_on x (update_of s.op) M.cluster.moment) is
     (λ sections gives. ap (λ f. with_applied s.call (update_of s.op) M.cluster.moment f (unmarked M s k r E o x)) at
@@ -220,6 +234,8 @@ row_moves M s r E o x e (Unmark call k) goes at same is seen ready own moment = 
 row_moves M s r E o x e (Iterate call k choice) goes at same is seen ready own moment = starts M s k r E o x is seen
 row_moves M s r E o x e (Next call k) goes at same is seen ready own moment = goes_on M s k r E o x is seen (given (ids_asked M s) M.cluster.moment x.sections) refl
 row_moves M s r E o x e (Stage call k t) goes at same is seen ready own moment = stage_moves M s k r E o x call t x.slot (outcome_on x (update_of s.op) t) is own (λ n. moment call k t refl n)
+row_moves M s r E o x e (Claim call k owner) goes at same is seen ready own moment = claim_moves M s k r E o x call owner x.slot is own
+row_moves M s r E o x e (Withdraw call k) goes at same is seen ready own moment = withdraw_moves M s k r E o x is
 row_moves M s r E o x e (Commit call k) goes at same is seen ready own moment = commit_moves M s k r E o x x.slot e call at same is ready
 row_moves M s r E o x e (Install call k) goes at same is seen ready own moment = install_moves M s k r E o x (generation_seen (record_seen M.cluster k r).entry) s.kept.declares s.snapshot is
 row_moves M s r E o x e (Pull call k) goes at same is seen ready own moment = pull_stays M s k r E o x (call_of x.marks) x.count is
@@ -235,6 +251,14 @@ staged_fits : (call : CallId) (update : Update) (t : ℤ) (x : Replica) (result 
 staged_fits call update t x result (Some slot) free fits = fits
 staged_fits call update t x (Ok sections) None free fits = (refl, free)
 staged_fits call update t x (Err why) None free fits = tt
+
+-- a slot that is claimed has its count still
+claimed_fits : (call owner : CallId) (count : ℕ) (marks : Option Marked) (p : Option Slot) → FitsSlot count marks p → FitsSlot count marks (claimed_by call owner p)
+claimed_fits call owner count marks None fits = tt
+claimed_fits call owner count marks (Some slot) fits = by_test (may_claim call owner slot) where
+  by_test : (b : Bool) → FitsSlot count marks (cond b (Some (record slot { owner = call })) (Some slot))
+  by_test true = fits
+  by_test false = fits
 
 fits_apply : (k : ℕ) (e : Option Entry) (E : List Effect) (effect : Effect) (x : Replica) (p : Option Marked) (result : Result (List Section) Refusal) → x.slot ≡ None → FitsReplica k e E (Some x) → FitsReplica k e (effects_applied effect p result E) (Some (applied_by p result x))
 fits_apply k e E effect x (Some marked) result free fits = fits
@@ -294,8 +318,10 @@ fits_installed k e E F x present (Some s) free counts fits = by_tests (s.generat
 pub row_fits : (k : ℕ) (e : Option Entry) (F E : List Effect) (o : CallId) (x : Replica) (by : CallId) (request : Request) (p : Payload) (seen : RecordSeen) → GoesToReplica request → IsReadyFor request x → FitsSnapshot F p.snapshot → FitsReplica k e E (Some x) →
     FitsReplica k e (effects_after by request p seen (Some x) o F E) (Some (replica_after request p seen x))
 row_fits k e F E o x by (Reserve j) p seen goes ready counts fits = absurd goes
-row_fits k e F E o x by (Claim call j owner) p seen goes ready counts fits = absurd goes
-row_fits k e F E o x by (Withdraw call j) p seen goes ready counts fits = absurd goes
+row_fits k None F E o x by (Claim call j owner) p seen goes ready counts fits = (fits.0, tt, fits.2, claimed_fits call owner x.count x.marks x.slot fits.3)
+row_fits k (Some e) F E o x by (Claim call j owner) p seen goes ready counts fits = (fits.0, fits.1, fits.2, claimed_fits call owner x.count x.marks x.slot fits.3)
+row_fits k None F E o x by (Withdraw call j) p seen goes ready counts fits = (fits.0, tt, fits.2, tt)
+row_fits k (Some e) F E o x by (Withdraw call j) p seen goes ready counts fits = (fits.0, fits.1, fits.2, tt)
 row_fits k e F E o x by (Mark call j) p seen goes ready counts fits = fits_mark k e E x (standing_or x.marks (outcome_on x p.update seen.moment) (marked_by call p.update seen.moment x)) ready fits
 row_fits k e F E o x by (Element call j) p seen goes ready counts fits = fits_element k e E x call x.marks ready.0 fits
 row_fits k e F E o x by (Unmark call j) p seen goes ready counts fits = fits_unmark k e E x call x.marks ready.0 fits

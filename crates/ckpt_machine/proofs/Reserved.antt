@@ -12,13 +12,14 @@ use Rattle.weak_marks.specs.Marks.{Marked}
 use Rattle.cluster_record.specs.RecordState.{entry_of}
 use Rattle.ckpt_machine.specs.Drivers as drivers
 use Rattle.ckpt_machine.specs.Machine.{Machine, CallState, who}
-use Rattle.ckpt_machine.specs.Due.{driver_of}
+use Rattle.ckpt_machine.specs.Due.{IsDriven, driver_of}
 use Rattle.ckpt_machine.specs.Shape.{Shape, IsOwner, IsMarker, IsHolder}
+use Rattle.ckpt_machine.specs.Dead.{IsDead}
 use Rattle.ckpt_machine.specs.InHand.{IsMakingIn, IsInHand}
 use Rattle.ckpt_machine.specs.Invariant.{IsMaker, IsGoodIn, InvariantIn}
 use Rattle.ckpt_types.specs.OpWord.{word_of_op, stepped_as}
 use Rattle.ckpt_machine.proofs.CallsKept.{apart_from, same_call-Some, calls_left}
-use Rattle.ckpt_machine.proofs.Lives.{LivesOn, lives_on-one}
+use Rattle.ckpt_machine.proofs.Lives.{LivesOn, lives_on-one, enters-one, dead_on}
 use Rattle.ckpt_machine.proofs.OtherCalls.{making_still, LooksAlike, LooksLater-refl, IsHolder-alike, IsInHand-alike, owned_alike, owner_before, IsMarker-alike, IsMaker-alike}
 use Rattle.ckpt_machine.proofs.OwnMaking.{making_at, owner_apart, marker_apart, holder_apart, maker_same, not_own}
 use Rattle.ckpt_machine.proofs.OptionLemmas.{IsSomeAnd-at, IsSomeAnd-from}
@@ -84,7 +85,6 @@ module _ (m : Machine) (shapes : ℕ → Shape) (inv : InvariantIn shapes m) (s 
     lowest = good.lowest;
     first = λ q r d below there owns own. good.first q r d below there owns (owner_before m then_machine j lives sh d (good.owned r d owns) own);
     owned = λ r d owns. owned_alike m then_machine j lives sh d (owner_stays j sh d) (good.owned r d owns);
-    live = good.live;
     led = good.led;
     marked = λ marks is. IsMarker-then j marks (good.marked marks is);
     held = λ d is. (let own = good.held d is in record { collocated = own.collocated; unmarked = own.unmarked; holder = IsHolder-then j e.active d own.holder });
@@ -98,8 +98,8 @@ module _ (m : Machine) (shapes : ℕ → Shape) (inv : InvariantIn shapes m) (s 
   making_then z other x at = record { there = at.there; declares = at.declares; nodes = at.nodes; reserved = λ r had. elsewhere x.ckpt r (not_own m shapes inv s o making held is makes z other x at) ∙ at.reserved r had; only = λ r none. elsewhere x.ckpt r (not_own m shapes inv s o making held is makes z other x at) ∙ at.only r none; within = λ r some. at.within r (ap is_some (sym (elsewhere x.ckpt r (not_own m shapes inv s o making held is makes z other x at))) ∙ some) }
 
   -- so it sees what it saw
-  looks_then : (z : CallState) → z.call ≢ s.call → LooksAlike m then_machine shapes shapes z
-  looks_then z other = record {
+  looks_then : ((d : CallId) → IsDead m d → IsDead then_machine d) → (z : CallState) → z.call ≢ s.call → LooksAlike m then_machine shapes shapes z
+  looks_then dead z other = record {
     up = λ r up. up;
     lives = refl;
     home = refl;
@@ -109,6 +109,7 @@ module _ (m : Machine) (shapes : ℕ → Shape) (inv : InvariantIn shapes m) (s 
     later = λ k was e found. (e, found, LooksLater-refl z (shapes k).marks e);
     owners = λ k was r. refl;
     marks = λ k was. refl;
+    dead = λ k f was found. dead;
     done = λ k was done. done;
   }
 
@@ -144,10 +145,13 @@ module _ (m : Machine) (shapes : ℕ → Shape) (inv : InvariantIn shapes m) (s 
     calls = calls_left m.in_hand m.pending m.next inv.calls s held (Some w) (same_call-Some s w call_is op_is);
   }
     where
+      dead : (d : CallId) → IsDead m d → IsDead then_machine d
+      dead = dead_on m then_machine (λ d. refl) refl (enters-one m then_machine s held (inv.hands (who s) s held).driven (Some w) (same_call-Some s w call_is op_is) (λ z is. subst IsDriven (same_Some w z is) own.driven) (λ a. refl))
+
       hands_then : (a : Who) (z : CallState) → put_who m.in_hand (who s) (Some w) a ≡ Some z → IsInHand then_machine shapes a z
       hands_then a z there = elim (put_who-cases m.in_hand (who s) (Some w) a z there) [
         | inl here ↦ subst (λ b. IsInHand then_machine shapes b z) (sym here.0) (subst (IsInHand then_machine shapes (who s)) (same_Some w z here.1) own)
-        | inr other ↦ (let was = inv.hands a z other.1 in IsInHand-alike m then_machine shapes shapes z (looks_then z (apart_from m.in_hand m.pending m.next inv.calls s held a z other.1 other.0)) a (λ live. live) was.number was)
+        | inr other ↦ (let was = inv.hands a z other.1 in IsInHand-alike m then_machine shapes shapes z (looks_then dead z (apart_from m.in_hand m.pending m.next inv.calls s held a z other.1 other.0)) a (λ live. live) was.number was)
       ]
 
       lives : LivesOn m then_machine

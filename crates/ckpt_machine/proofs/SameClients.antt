@@ -1,9 +1,12 @@
--- A step leaves each client as it was whose setting of an active is in hand: it enters and leaves by no other call meanwhile.
+-- A step leaves each client as it was that waits for a call in hand, which neither enters nor leaves: it does so by no other call meanwhile.
 use Rattle.std.proofs.Common.{◌≡◌, ℕ, Option, Some, None, Bool, true, false, cond, ◌==◌, refl, sym, ap, ◌∙◌}
 use Rattle.std.proofs.lemmas.Bool.{eqb-true}
 use Rattle.ckpt_types.specs.declared.answers.Outcome.{Outcome}
 use Rattle.ckpt_types.specs.declared.identities.ActorName.TheVariants.{Client}
 use Rattle.ckpt_types.specs.declared.identities.Who.TheVariants.{Actor}
+use Rattle.ckpt_types.specs.declared.calls.CallbackSet.{CallbackSet}
+use Rattle.ckpt_types.specs.declared.calls.Version.{Version}
+use Rattle.ckpt_types.specs.declared.update.Update.{Update}
 use Rattle.ckpt_types.specs.Asks.{Ask, asked, is_async_ask}
 use Rattle.ckpt_types.specs.Asks as asks
 use Rattle.node_msgs.specs.declared.details.Details.{Details}
@@ -33,20 +36,32 @@ said_alone None None P p = p
 said_alone (Some j) q P p = absurd p
 said_alone None (Some q) P p = absurd p
 
-module _ (m : Machine) (inv : Invariant m) (s : CallState) (held : m.in_hand (who s) ≡ Some s) (z : CallState) (at : m.in_hand (who z) ≡ Some z) (place : ℕ) (asks_is : asked z.op ≡ asks.SetActive place) where
+-- its client waits for it, and it neither enters nor leaves
+pub record IsAwaited (ask : Ask) : Type 0 where
+  pub plain : is_async_ask ask ≡ false
+  pub stays : (version : Version) (callbacks : CallbackSet) (r : ℕ) → ask ≡ asks.Enter r version callbacks → ⊥
+  pub remains : ask ≡ asks.Leave → ⊥
+
+pub awaits_setting : (place : ℕ) → IsAwaited (asks.SetActive place)
+awaits_setting place = record { plain = refl; stays = λ version callbacks r same. cc same; remains = λ same. cc same }
+
+pub awaits_change : (place : ℕ) (update : Update) → IsAwaited (asks.Change place update)
+awaits_change place update = record { plain = refl; stays = λ version callbacks r same. cc same; remains = λ same. cc same }
+
+module _ (m : Machine) (inv : Invariant m) (s : CallState) (held : m.in_hand (who s) ≡ Some s) (z : CallState) (at : m.in_hand (who z) ≡ Some z) (ask : Ask) (asks_is : asked z.op ≡ ask) (awaited : IsAwaited ask) where
   -- its client
   abbrev c : ℕ
   c = client_of z.call
 
   -- a call of the same client for which this waits is the same one
-  apart : (ask : Ask) → asked s.op ≡ ask → is_async_ask ask ≡ false → (asks.SetActive place ≡ ask → ⊥) → (c == client_of s.call) ≡ false
-  apart ask is plain other = by_test (c == client_of s.call) refl
+  apart : (other : Ask) → asked s.op ≡ other → is_async_ask other ≡ false → (ask ≡ other → ⊥) → (c == client_of s.call) ≡ false
+  apart its is plain other = by_test (c == client_of s.call) refl
     where
       by_test : (b : Bool) → (c == client_of s.call) ≡ b → (c == client_of s.call) ≡ false
       by_test false no_other = no_other
       by_test true same =
           let actor = client_by_number z.call.actor (inv.holds.hands (who z) z at).client ∙ ap Client (eqb-true c (client_of s.call) same) ∙ sym (client_by_number s.call.actor (inv.holds.hands (who s) s held).client) in
-          let name : who z ≡ who s = own_name z (ap is_async_ask asks_is) ∙ ap Actor actor ∙ sym (own_name s (ap is_async_ask is ∙ plain)) in
+          let name : who z ≡ who s = own_name z (ap is_async_ask asks_is ∙ awaited.plain) ∙ ap Actor actor ∙ sym (own_name s (ap is_async_ask is ∙ plain)) in
           let state : z ≡ s = one_state m.in_hand (who z) (who s) z s at held name in
           absurd (other (sym asks_is ∙ ap (λ (z : CallState). asked z.op) state ∙ is))
 
@@ -101,13 +116,13 @@ module _ (m : Machine) (inv : Invariant m) (s : CallState) (held : m.in_hand (wh
         let (version, callbacks, is, enters) = row.0 in
         let new : LiveClient = record { client = client_of s.call; node = r; incarnation = _; initialize = s.call.number } in
         find_key-push client_key c m.cluster.clients new (none_of (find_key client_key (client_of s.call) m.cluster.clients) enters.0.not_live)
-        ∙ ap (λ b. cond b (Some new) (find_key client_key c m.cluster.clients)) (apart (asks.Enter r version callbacks) is refl (λ same. cc same))
+        ∙ ap (λ b. cond b (Some new) (find_key client_key c m.cluster.clients)) (apart (asks.Enter r version callbacks) is refl (λ same. awaited.stays version callbacks r same))
 
     -- or leaves
     left_stays : (j q : Option ℕ) → Row m s verbs.Leave (t_of verbs.Leave j q words.Ok) → Stays (changed m s verbs.Leave j q words.Ok)
     left_stays j q row =
         find_key-without client_key (client_of s.call) c m.cluster.clients
-        ∙ ap (λ b. cond b None (find_key client_key c m.cluster.clients)) (apart asks.Leave (said_alone j q _ row.0).0 refl (λ same. cc same))
+        ∙ ap (λ b. cond b None (find_key client_key c m.cluster.clients)) (apart asks.Leave (said_alone j q _ row.0).0 refl awaited.remains)
 
     -- behind any step that is allowed
     pub client_stays : (verb : Verb) (j q : Option ℕ) (reply : StepReply) → Row m s verb (t_of verb j q reply) → Stays (changed m s verb j q reply)
@@ -127,6 +142,8 @@ module _ (m : Machine) (inv : Invariant m) (s : CallState) (held : m.in_hand (wh
     client_stays verbs.Retain j q reply row = ok_stays reply _ (one_stays j _ (λ k. retained_stays (asked s.op) k))
     client_stays verbs.Stage j q reply row = replicas_stay j q reply _
     client_stays verbs.Commit j q reply row = replicas_stay j q reply _
+    client_stays verbs.Claim j q reply row = replicas_stay j q reply _
+    client_stays verbs.Withdraw j q reply row = replicas_stay j q reply _
     client_stays verbs.Apply j q reply row = replicas_stay j q reply _
     client_stays verbs.Mark j q reply row = replicas_stay j q reply _
     client_stays verbs.Element j q reply row = replicas_stay j q reply _

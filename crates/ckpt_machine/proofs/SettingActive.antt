@@ -34,7 +34,7 @@ use Rattle.ckpt_machine.specs.Left.{setting_left, kind_left, steps_left}
 use Rattle.ckpt_machine.specs.Machine.{Machine, ReplicaState, Snapshot, CallState, who}
 use Rattle.ckpt_machine.specs.Propagation.{on_node, copied}
 use Rattle.ckpt_machine.specs.Shape.{Shape, IsCompleteOn, marks_at, IsApart, IsShapedBy, IsActiveBy, IsHolder, IsSpread}
-use Rattle.ckpt_machine.specs.After.{with_record, with_lead, change_replica, led_from, kept_behind, left_in_hand}
+use Rattle.ckpt_machine.specs.After.{with_record, record_step, with_lead, change_replica, led_from, kept_behind, left_in_hand}
 use Rattle.ckpt_machine.specs.Due.{Told, IsDone, IsEvent, IsEventAnswer, marks_on, kept_off, driver_of, counted_at}
 use Rattle.ckpt_machine.proofs.ActiveBy.{active_by-complete}
 use Rattle.ckpt_machine.proofs.Actors.{same_call-true, same_call-refl, same_call-false}
@@ -206,7 +206,6 @@ module _ (m : Machine) (shapes : ℕ → Shape) (inv : InvariantIn shapes m) (s 
           lowest = spread.lowest;
           first = λ p q d below there owns own. no_slot q d owns;
           owned = λ q d owns. no_slot q d owns;
-          live = spread.live;
           led = spread.led;
           marked = λ marks stand. absurd (let w : Some marks ≡ None = sym stand ∙ unmarked in cc w);
           held = λ d holds. record { collocated = collocated; unmarked = unmarked; holder = subst (IsHolder held_machine k e.active) (same_Some s.call d holds) holder_then };
@@ -277,7 +276,7 @@ module _ (m : Machine) (shapes : ℕ → Shape) (inv : InvariantIn shapes m) (s 
               refl,
             );
             holds = subst (λ (b : Machine). Invariant (left_in_hand b (then_state b.cluster) None)) (sym step_is) (record { shapes = shapes; holds = held_keeps });
-            nearer = λ goes_on. subst (λ d. steps_left (swept (hold_set k s.call m.cluster)) (driver_taken (hold_done (swept (hold_set k s.call m.cluster))) d) < steps_left m.cluster d) (sym is)
+            nearer = λ goes_on. subst (λ d. steps_left (swept (hold_set k s.call m.cluster)) (record_step (hold_set k s.call) m).replicas (driver_taken (hold_done (swept (hold_set k s.call m.cluster))) d) < steps_left m.cluster m.replicas d) (sym is)
                 (subst (λ kd. kind_left (entry_of k (swept (hold_set k s.call m.cluster)).entries) u kd < kind_left (entry_of k m.cluster.entries) u kd) (sym kind) (let a = left_then in let b = left_before in omega (arith, a, b)));
           })
           | inr memory ↦ absurd (cc (memory.0))
@@ -424,7 +423,6 @@ module _ (m : Machine) (shapes : ℕ → Shape) (inv : InvariantIn shapes m) (s 
         lowest = spread.lowest;
         first = λ p q d below there owns own. no_slot q d owns;
         owned = λ q d owns. no_slot q d owns;
-        live = spread.live;
         led = λ marks stand. refl;
         marked = λ marks stand. let has = spread.marked marks stand in IsMarker-alike m led_machine k marks has (put_who-other m.in_hand (who s) _ (who has.state) (marker_other m shapes inv s u held is k marks has));
         held = λ d none. absurd (cc none);

@@ -38,7 +38,7 @@ use Rattle.ckpt_machine.proofs.Histories.{follows, on_replica-there, run_history
 use Rattle.ckpt_machine.proofs.OptionLemmas.{IsSomeAnd-from}
 use Rattle.ckpt_machine.proofs.Refusing.{at_node}
 use Rattle.ckpt_machine.proofs.Runs.{along}
-use Rattle.ckpt_machine.proofs.SameClients.{client_stays}
+use Rattle.ckpt_machine.proofs.SameClients.{client_stays, awaits_setting}
 use Rattle.ckpt_machine.proofs.Starting.{first_kept, begun_as}
 use Rattle.ckpt_machine.proofs.Sync.{left_is}
 use Rattle.ckpt_machine.proofs.Whose.{same_who-refl, put_who-cases}
@@ -144,7 +144,7 @@ module _ (log : List Label) (inv : Invariant (last log)) (s : CallState) (held :
 
   stays_by : (verb : Verb) (j q : Option ℕ) (reply : StepReply) → Row m s verb (t_of verb j q reply) → ((k r : ℕ) → IsHoldOf (l_of verb j q reply) s.call k r → ⊥) → pulled_by m s verb j q reply ≡ s.snapshot → SetsBy verb j q reply
   stays_by verb j q reply row no_hold same = subst (IsSettingOf (log ++ l_of verb j q reply ∷ []) (changed m s verb j q reply).cluster s.call s.kept) (sym same)
-      (longer log (l_of verb j q reply) m.cluster (changed m s verb j q reply).cluster s.call s.kept s.snapshot no_hold (client_stays m inv s held s held place asks_is end details verb j q reply row) was)
+      (longer log (l_of verb j q reply) m.cluster (changed m s verb j q reply).cluster s.call s.kept s.snapshot no_hold (client_stays m inv s held s held (asks.SetActive place) asks_is (awaits_setting place) end details verb j q reply row) was)
 
   -- it holds its checkpoint, which it did not before, and has in its hand what the active has
   holds_by : (j q : ℕ) → Some j ≡ s.kept.ckpt → Row m s verbs.Hold (t_of verbs.Hold (Some j) (Some q) words.Ok) → SetsBy verbs.Hold (Some j) (Some q) words.Ok
@@ -156,7 +156,7 @@ module _ (log : List Label) (inv : Invariant (last log)) (s : CallState) (held :
       let active : WasActiveWith m j q (copied x).effects = record { active = IsSomeAnd-from (entry_of j m.cluster.entries) (λ e. e.active ≡ Some q) e found ok.active; replica = x; there = there; effects_are = refl } in
       let here : HeldInHand log j q s.kept (option_map copied (m.replicas j q)) = record { ckpt = sym own; copy = copied x; in_hand = copy; active = active } in
       record {
-        home = was.home ∙ ap node_of_client (sym (client_stays m inv s held s held place asks_is end details verbs.Hold (Some j) (Some q) words.Ok row));
+        home = was.home ∙ ap node_of_client (sym (client_stays m inv s held s held (asks.SetActive place) asks_is (awaits_setting place) end details verbs.Hold (Some j) (Some q) words.Ok row));
         all = λ before behind hold k r is of. elim (last_or log (l_of verbs.Hold (Some j) (Some q) words.Ok) before hold behind is) [
           | inl last_is ↦ (
               let own_of : IsHoldOf (l_of verbs.Hold (Some j) (Some q) words.Ok) s.call k r = subst (λ (l : Label). IsHoldOf l s.call k r) (sym last_is.1) of in
@@ -214,7 +214,7 @@ module _ (log : List Label) (run : IsRun log) (all : AllSetting log (last log)) 
             let name : who z ≡ who s = inv.holds.calls.one_name (who z) (who s) z s was held (sym (hold_of call op verb j q reply end details z.call k r of) ∙ sym due.call_is) in
             let w : true ≡ false = sym (ap (λ w. same_who w (who s)) name ∙ same_who-refl (who s)) ∙ other.0 in
             cc w in
-            longer log l (last log).cluster n.cluster z.call z.kept z.snapshot no_hold (client_stays (last log) inv s held z was place is end details verb j q reply row) (all z was place is))
+            longer log l (last log).cluster n.cluster z.call z.kept z.snapshot no_hold (client_stays (last log) inv s held z was (asks.SetActive place) is (awaits_setting place) end details verb j q reply row) (all z was place is))
       ])
   after_setting l allowed due z held place is =
       let still = quiet (last log) (run_history log run).0 l tt due in

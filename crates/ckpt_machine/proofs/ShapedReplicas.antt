@@ -1,5 +1,5 @@
 -- What stands on a replica: whose its slot is, and whose its marks are, by the shape of its checkpoint.
-use Rattle.std.proofs.Common.{◌≡◌, ℕ, Option, Some, None, Bool, true, false, cond, ◌==◌, refl, sym, ap, subst, ◌∙◌}
+use Rattle.std.proofs.Common.{◌≡◌, ◌⊎◌, inl, inr, ℕ, Option, Some, None, Bool, true, false, cond, ◌==◌, refl, sym, ap, subst, ◌∙◌}
 use Rattle.std.specs.Prelude.{slice_index}
 use Rattle.std.proofs.lemmas.Option.{same_Some}
 use Rattle.ckpt_types.specs.declared.identities.CallId.{CallId}
@@ -7,14 +7,26 @@ use Rattle.weak_marks.specs.Marks.{Marked}
 use Rattle.cluster_record.specs.declared.entries.Entry.{Entry}
 use Rattle.cluster_record.specs.Placement.{is_all}
 use Rattle.cluster_record.specs.RecordState.{entry_of}
+use Rattle.cluster_record.specs.declared.calls.UpdatePhase.{UpdatePhase}
+use Rattle.cluster_record.specs.declared.calls.UpdatePhase.TheVariants.{Staging, Committing, Claiming, Claimed, Withdrawing, Resolving}
+use Rattle.cluster_record.specs.DueUpdate.{UpdateState}
+use Rattle.ckpt_machine.specs.Due.{driver_of}
+use Rattle.ckpt_machine.specs.Dead.{IsDead}
+use Rattle.ckpt_machine.specs.Drivers as drivers
 use Rattle.ckpt_machine.specs.Invariant.{IsGoodIn, InvariantIn, Invariant}
-use Rattle.ckpt_machine.specs.Machine.{Machine, Staged, ReplicaState}
-use Rattle.ckpt_machine.specs.Shape.{Shape, IsCompleteOn, IsShapedBy, IsOwner, IsMarker, IsSpread, slot_by, marks_at}
+use Rattle.ckpt_machine.specs.Machine.{Machine, Staged, ReplicaState, who, CallState}
+use Rattle.ckpt_machine.specs.Shape.{Shape, IsCompleteOn, IsShapedBy, IsOwner, IsMarker, IsSpread, slot_by, marks_at, IsLeft, PhaseFits}
 use Rattle.ckpt_machine.proofs.Follows.{IsBare, IsIncomplete}
-use Rattle.ckpt_machine.proofs.Lives.{owner_in}
-use Rattle.ckpt_machine.proofs.Owning.{owner_origin}
 use Rattle.ckpt_machine.proofs.OptionLemmas.{IsSomeAnd-at}
 use Rattle.ckpt_types.proofs.Lists.{slice_index-replicate}
+
+-- the call is in hand, an update on all replicas
+pub record IsUpdater (m : Machine) (call : CallId) : Type 0 where
+  pub state : CallState
+  pub in_hand : m.in_hand (who state) ≡ Some state
+  pub call_is : state.call ≡ call
+  pub driver : UpdateState
+  pub driver_is : driver_of state ≡ drivers.Update driver
 
 -- on no node is complete what is in the making
 pub maker_incomplete : (m : Machine) → Invariant m → (call : CallId) (k r : ℕ) (e : Entry) → entry_of k m.cluster.entries ≡ Some e → e.making ≡ Some call → IsIncomplete e r
@@ -53,26 +65,44 @@ module _ (m : Machine) (shapes : ℕ → Shape) (inv : InvariantIn shapes m) (ba
           let (y, is, shaped) = IsSomeAnd-at (m.replicas k r) (IsShapedBy (is_all e.attributes) (shapes k) e.active r) (good.replicas r there) in
           record { spread = good; shaped = subst (IsShapedBy (is_all e.attributes) (shapes k) e.active r) (same_Some y x (sym is ∙ at)) shaped }
 
-  -- what is staged is of a call in hand, an update of this checkpoint, that owns it
-  pub slot_owned : (k r : ℕ) (x : ReplicaState) (slot : Staged) → m.replicas k r ≡ Some x → x.slot ≡ Some slot → IsOwner m k (shapes k) slot.owner × (slot.origin ≡ slot.owner) × (slot.update ≡ (shapes k).update)
+  -- what is staged is owned by a call in hand, an update of this checkpoint, or by a dead one, as is then the call whose update it is; and it is that of the shape
+  pub slot_owned : (k r : ℕ) (x : ReplicaState) (slot : Staged) → m.replicas k r ≡ Some x → x.slot ≡ Some slot → (IsOwner m k (shapes k) slot.owner ⊎ IsLeft m (shapes k) slot.owner) × (slot.origin ≡ (shapes k).origin) × (slot.update ≡ (shapes k).update) × ((shapes k).owners r ≡ Some slot.owner)
   slot_owned k r x slot there staged =
       let (e, found, complete) = entry_there k r x there in
       let at = shaped_there k r x e there found in
-      by_shape (is_all e.attributes) e.active at.shaped (λ d owns. owner_in m k (shapes k) d (at.spread.owned r d owns) (at.spread.live refl r d owns))
+      by_shape (is_all e.attributes) e.active at.shaped (at.spread.owned r)
     where
-      by_owner : (o : Option CallId) → (shapes k).owners r ≡ o → slot_by (shapes k) o ≡ Some slot → ((d : CallId) → (shapes k).owners r ≡ Some d → IsOwner m k (shapes k) d) → IsOwner m k (shapes k) slot.owner × (slot.origin ≡ slot.owner) × (slot.update ≡ (shapes k).update)
+      by_owner : (o : Option CallId) → (shapes k).owners r ≡ o → slot_by (shapes k) o ≡ Some slot → ((d : CallId) → (shapes k).owners r ≡ Some d → IsOwner m k (shapes k) d ⊎ IsLeft m (shapes k) d) → (IsOwner m k (shapes k) slot.owner ⊎ IsLeft m (shapes k) slot.owner) × (slot.origin ≡ (shapes k).origin) × (slot.update ≡ (shapes k).update) × ((shapes k).owners r ≡ Some slot.owner)
       by_owner None is none owned = absurd (cc none)
       by_owner (Some d) is some owned =
-          let own = owned d is in
           let same = same_Some (record { owner = d; origin = (shapes k).origin; update = (shapes k).update; moment = (shapes k).moment }) slot some in
           let owner : d ≡ slot.owner = ap (λ (z : Staged). z.owner) same in
-          let origin : (shapes k).origin ≡ slot.origin = ap (λ (z : Staged). z.origin) same in
-          (subst (IsOwner m k (shapes k)) owner own, sym origin ∙ owner_origin m k (shapes k) d own ∙ owner, ap (λ (z : Staged). z.update) (sym same))
+          (subst (λ d. IsOwner m k (shapes k) d ⊎ IsLeft m (shapes k) d) owner (owned d is), ap (λ (z : Staged). z.origin) (sym same), ap (λ (z : Staged). z.update) (sym same), is ∙ ap Some owner)
 
       -- where updates are on the active alone, nothing is staged
-      by_shape : (all : Bool) (active : Option ℕ) → IsShapedBy all (shapes k) active r x → ((d : CallId) → (shapes k).owners r ≡ Some d → IsOwner m k (shapes k) d) → IsOwner m k (shapes k) slot.owner × (slot.origin ≡ slot.owner) × (slot.update ≡ (shapes k).update)
+      by_shape : (all : Bool) (active : Option ℕ) → IsShapedBy all (shapes k) active r x → ((d : CallId) → (shapes k).owners r ≡ Some d → IsOwner m k (shapes k) d ⊎ IsLeft m (shapes k) d) → (IsOwner m k (shapes k) slot.owner ⊎ IsLeft m (shapes k) slot.owner) × (slot.origin ≡ (shapes k).origin) × (slot.update ≡ (shapes k).update) × ((shapes k).owners r ≡ Some slot.owner)
       by_shape true active shaped owned = by_owner ((shapes k).owners r) refl (sym shaped.slot ∙ staged) owned
       by_shape false active apart owned = absurd (let w : None ≡ Some slot = sym apart.free ∙ staged in cc w)
+
+  -- so its owner is in hand, or dead; and so is the call whose update it is
+  pub slot_calls : (k r : ℕ) (x : ReplicaState) (slot : Staged) → m.replicas k r ≡ Some x → x.slot ≡ Some slot → (IsUpdater m slot.owner ⊎ IsDead m slot.owner) × (IsUpdater m slot.origin ⊎ IsDead m slot.origin)
+  slot_calls k r x slot there staged =
+      let (by, origin, update, owns) = slot_owned k r x slot there staged in
+      elim by [
+        | inl own ↦ (inl (owner_held own), by_phase own origin own.driver.phase own.phase)
+        | inr left ↦ (inr left.0, inr (subst (IsDead m) (sym origin) left.1))
+      ]
+    where
+      owner_held : IsOwner m k (shapes k) slot.owner → IsUpdater m slot.owner
+      owner_held own = record { state = own.state; in_hand = own.in_hand; call_is = own.call_is; driver = own.driver; driver_is = own.driver_is }
+
+      by_phase : (own : IsOwner m k (shapes k) slot.owner) → slot.origin ≡ (shapes k).origin → (ph : UpdatePhase) → PhaseFits m (shapes k) own.state own.driver ph → IsUpdater m slot.origin ⊎ IsDead m slot.origin
+      by_phase own origin Staging fits = inl (record { state = own.state; in_hand = own.in_hand; call_is = sym (origin ∙ fits.origin); driver = own.driver; driver_is = own.driver_is })
+      by_phase own origin Committing fits = inl (record { state = own.state; in_hand = own.in_hand; call_is = sym (origin ∙ fits.origin); driver = own.driver; driver_is = own.driver_is })
+      by_phase own origin Claiming fits = absurd fits
+      by_phase own origin Claimed fits = inr (subst (IsDead m) (sym origin) fits.origin)
+      by_phase own origin Withdrawing fits = inr (subst (IsDead m) (sym origin) fits.origin)
+      by_phase own origin Resolving fits = inr (subst (IsDead m) (sym origin) fits.origin)
 
   -- the marks that stand on a replica are of a call in hand, a weak write of this checkpoint
   pub marks_owned : (k r : ℕ) (x : ReplicaState) (marks : Marked) → m.replicas k r ≡ Some x → x.marks ≡ Some marks → IsMarker m k marks

@@ -9,14 +9,14 @@ use Rattle.cluster_record.specs.RecordState.{entry_of, complete_of}
 use Rattle.cluster_record.specs.StepDone.{has, lacks, last_having}
 use Rattle.ckpt_machine.specs.Drivers as drivers
 use Rattle.ckpt_machine.specs.Machine.{Machine, ReplicaState, CallState, who}
-use Rattle.ckpt_machine.specs.After.{staged_moment, moment_from, moment_of_slot}
 use Rattle.ckpt_machine.specs.Due.{driver_of}
+use Rattle.ckpt_machine.specs.After.{staged_moment, moment_from, moment_of_slot}
 use Rattle.ckpt_machine.specs.Shape.{Shape, IsCompleteOn, IsShaped, IsSpread, IsStaging, PhaseFits, slot_by}
 use Rattle.ckpt_machine.specs.Invariant.{InvariantIn}
 use Rattle.ckpt_machine.proofs.NodeLists.{trichotomy, last_having-None, moment-none, moment-some, not-lacked, had-there}
-use Rattle.ckpt_machine.proofs.Owning.{owner_of, at, spread, own_phase, owns_had, all_is}
+use Rattle.ckpt_machine.proofs.Owning.{at, spread, owns_had, own_phase, own_owner, all_is}
 use Rattle.ckpt_machine.proofs.OnAll.{shaped_replicas}
-use Rattle.ckpt_machine.proofs.Stage.{IfSome-more}
+use Rattle.ckpt_machine.proofs.OnComplete.{IfSome-more}
 
 module _ (m : Machine) (shapes : ℕ → Shape) (inv : InvariantIn shapes m) (s : CallState) (u : UpdateState) (held : m.in_hand (who s) ≡ Some s) (is : driver_of s ≡ drivers.Update u) (e : Entry) (found : entry_of u.ckpt m.cluster.entries ≡ Some e) where
   abbrev was : IsSpread m u.ckpt (shapes u.ckpt) e
@@ -61,7 +61,7 @@ module _ (m : Machine) (shapes : ℕ → Shape) (inv : InvariantIn shapes m) (s 
     owner_p = owns_had m shapes inv s u held is e found p (had-there (slice_index e.complete p) (slice_index u.owned p) had) had
 
     fits_p : IsStaging (shapes u.ckpt) s u
-    fits_p = subst (PhaseFits m (shapes u.ckpt) s u) staging (own_phase m shapes inv s u held is (shapes u.ckpt) (owner_of m shapes inv s u held is e found p s.call owner_p))
+    fits_p = subst (PhaseFits m (shapes u.ckpt) s u) staging (own_phase m shapes inv s u held is e found (own_owner m shapes inv s u held is e found p owner_p))
 
     pub moment_later : staged_moment m u.ckpt ≡ u.moment
     moment_later =

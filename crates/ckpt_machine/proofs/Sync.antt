@@ -286,8 +286,8 @@ module _ (m : Machine) (shapes : ℕ → Shape) (inv : InvariantIn shapes m) (s 
             ∙ ends_alike (pull_done ∷ s.steps) (length at.replica.effects) 0 at.entry.complete served_then (tells_all (pull_done ∷ s.steps) at.entry.complete served_then spread.nodes tells_then)
 
         -- it comes nearer to its end
-        pull_nearer : steps_left m.cluster (driver_taken pull_done (driver_of s)) < steps_left m.cluster (driver_of s)
-        pull_nearer = subst (λ d. steps_left m.cluster (driver_taken pull_done d) < steps_left m.cluster d) (sym is)
+        pull_nearer : steps_left m.cluster m.replicas (driver_taken pull_done (driver_of s)) < steps_left m.cluster m.replicas (driver_of s)
+        pull_nearer = subst (λ d. steps_left m.cluster m.replicas (driver_taken pull_done d) < steps_left m.cluster m.replicas d) (sym is)
             (subst (λ kind. kind_left (entry_of u.ckpt m.cluster.entries) (record u { pulled = Some keeps_then; served = served_then }) kind < kind_left (entry_of u.ckpt m.cluster.entries) u kind) (sym sync.1)
             (subst (λ o. sync_left (complete_of (entry_of u.ckpt m.cluster.entries)) (record u { pulled = Some keeps_then; served = served_then }) (Some keeps_then) < sync_left (complete_of (entry_of u.ckpt m.cluster.entries)) u o) (sym first)
             (let few = unserved-few (complete_of (entry_of u.ckpt m.cluster.entries)) served_then in let nodes : length (complete_of (entry_of u.ckpt m.cluster.entries)) ≡ 8 = ap (λ o. length (complete_of o)) at.found ∙ spread.nodes in omega (arith, few, nodes))))

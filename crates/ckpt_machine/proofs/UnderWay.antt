@@ -231,7 +231,7 @@ module _ (m : Machine) (under_way : HasUnderWay m) where
           by_hand (Some s) held some =
               let (async, named) = async_named s c.call (inv.holds.hands (whos.Call c.call) s held).whose in
               let other : is_of_node m.cluster r s.call.actor ≡ false = ap (is_of_node m.cluster r) (ap (λ (d : CallId). d.actor) named ∙ was.actor) ∙ stays in
-              ap is_some (still false m inv.shapes inv.holds r (whos.Call c.call) s held (by_client false m inv.shapes inv.holds r s (async_enters r (asked s.op) (sym (async_asked s.op) ∙ async)) ∙ other))
+              ap is_some (still m inv.shapes inv.holds r (whos.Call c.call) s held (by_client m inv.shapes inv.holds r s (async_enters r (asked s.op) (sym (async_asked s.op) ∙ async)) ∙ other))
 
   -- whatever the label is
   after_under_way : Invariant m → (l : Label) → IsDue m l → HasUnderWay (after m l)

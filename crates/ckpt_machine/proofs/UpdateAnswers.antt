@@ -1,5 +1,5 @@
--- An update is answered OK by a commit, or on the active alone where it is applied in one step, or its weak write has been done: by no look and no other step, and not at its beginning.
-use Rattle.std.proofs.Common.{◌≡◌, ℕ, Option, Some, None, true, false, refl, sym, subst, ◌∙◌}
+-- An update is answered OK by a commit, or by a look that finds nothing left of it, or on the active alone where it is applied in one step, or its weak write has been done: by no other step, and not at its beginning.
+use Rattle.std.proofs.Common.{◌≡◌, ℕ, Option, Some, None, Bool, cond, true, false, refl, sym, subst, ◌∙◌}
 use Rattle.ckpt_types.specs.declared.ais_error.AisError.{AisError}
 use Rattle.ckpt_types.specs.declared.ais_error.AisError.TheVariants.{TryAgain}
 use Rattle.ckpt_types.specs.declared.answers.Answer.{Answer}
@@ -18,6 +18,8 @@ use Rattle.node_msgs.specs.declared.steps.Verb.{Verb}
 use Rattle.node_msgs.specs.declared.steps.Verb.TheVariants as verbs
 use Rattle.node_msgs.specs.declared.details.Details.{Details}
 use Rattle.ckpt_types.specs.OpWord.{word_of_op}
+use Rattle.cluster_record.specs.RecordState.{is_live}
+use Rattle.ckpt_types.specs.declared.identities.CallId.{CallId}
 use Rattle.ckpt_machine.specs.Acknowledged.{IsUpdateWord}
 use Rattle.ckpt_types.specs.Asks.{Ask, asked}
 use Rattle.ckpt_types.specs.Asks as asks
@@ -25,9 +27,9 @@ use Rattle.ckpt_machine.specs.BeginRows.{ends_at_once, IsGivenBy, BeginRow}
 use Rattle.ckpt_machine.specs.Beginning.{Standing}
 use Rattle.ckpt_machine.specs.Driving.{refused_cause}
 use Rattle.ckpt_machine.specs.Guards.{AtNode, Row}
-use Rattle.ckpt_machine.specs.LookGuards.{LookDone, LookRow}
+use Rattle.ckpt_machine.specs.LookGuards.{LookRow}
 use Rattle.ckpt_machine.specs.ActiveGuards.{ApplyOk, MarkOk, MarkRow, ElementRow}
-use Rattle.ckpt_machine.specs.UpdateGuards.{StageRefused, StageHeld, StageRow, CommitRow}
+use Rattle.ckpt_machine.specs.UpdateGuards.{StageRefused, StageHeld, StageRow, CommitRow, ClaimOk, ClaimFree, ClaimRow, WithdrawOk, WithdrawRow}
 use Rattle.ckpt_machine.specs.Machine.{Machine, CallState}
 use Rattle.ckpt_machine.specs.Due.{Told}
 use Rattle.ckpt_machine.proofs.Refusing.{row_at_ckpt, at_node, at_none, at_node_alone, on_all, begins_on_active}
@@ -35,11 +37,11 @@ use Rattle.ckpt_machine.proofs.Refusing.{row_at_ckpt, at_node, at_none, at_node_
 -- ---- an update asks for no other thing
 
 -- what is asked for is an update
-abbrev IsChange : Ask → Type 0
+abbrev pub IsChange : Ask → Type 0
 IsChange (asks.Change place update) = Unit {0}
 IsChange ask = ⊥
 
-changes : (op : Op) → IsUpdateWord (word_of_op op) → IsChange (asked op)
+pub changes : (op : Op) → IsUpdateWord (word_of_op op) → IsChange (asked op)
 changes (ops.Create place update) is = tt
 changes (ops.Delete place update) is = tt
 changes (ops.Expire place update) is = tt
@@ -65,18 +67,13 @@ begin_not_done st op answer word row = absurd row
 
 -- ---- a step
 
--- a node has taken an update: what was staged there, or in one step, or element by element
+-- a node has taken an update: what was staged there, or in one step, or element by element; or nothing is left of it
 abbrev pub IsTakenOn : Verb → Option ℕ → Option ℕ → StepReply → Type 0
 IsTakenOn verbs.Commit (Some k) (Some r) words.Ok = Unit {0}
 IsTakenOn verbs.Apply (Some k) (Some r) words.Ok = Unit {0}
 IsTakenOn verbs.Unmark (Some k) (Some r) words.Ok = Unit {0}
+IsTakenOn verbs.Look k r words.Done = Unit {0}
 IsTakenOn verb k r reply = ⊥
-
--- nothing is left to do of a close or a synchronisation alone
-no_look_done : (m : Machine) (s : CallState) (ask : Ask) (answer : Answer) → IsChange ask → LookDone m s ask answer → ⊥
-no_look_done m s (asks.Close place) answers.Nothing change row = change
-no_look_done m s (asks.Synchronize place timeout) (answers.Pulled count) change row = change
-no_look_done m s ask answer change row = absurd row
 
 module _ (m : Machine) (s : CallState) (word : IsUpdateWord (word_of_op s.op)) (answer : Answer) where
   -- it asks for nothing else
@@ -92,16 +89,32 @@ module _ (m : Machine) (s : CallState) (word : IsUpdateWord (word_of_op s.op)) (
   lacked : Some (Done answer) ≡ Some NoMemory → ⊥
   lacked is = cc is
 
-  -- a look answers no update OK
-  pub look_not_done : (reply : StepReply) → LookRow m s reply (Some (Done answer)) → ⊥
-  look_not_done words.Done row = no_look_done m s (asked s.op) answer (changes s.op word) row
-  look_not_done reply row = absurd row
+  -- a look that answers it OK finds nothing left of it
+  look_done : (k r : Option ℕ) (reply : StepReply) → LookRow m s reply (Some (Done answer)) → IsTakenOn verbs.Look k r reply
+  look_done k r words.Done row = tt
+  look_done k r reply row = absurd row
+
+  -- one that is held off is not answered OK
+  held_off : (b : Bool) (by : CallId) → Some (Done answer) ≡ cond b (Some (Refused TryAgain (Holder by))) None → ⊥
+  held_off true by is = refused TryAgain (Holder by) is
+  held_off false by is = goes_on is
 
   stage_not_done : (update : Update) (k r : ℕ) (reply : StepReply) → StageRow m s update k r reply (Some (Done answer)) → ⊥
   stage_not_done update k r words.Ok row = goes_on row.1
   stage_not_done update k r words.Refused row = on_all m k r (StageRefused m s update k (Some (Done answer))) row (λ e x (by : StageRefused m s update k (Some (Done answer)) e x). refused by.why.error (refused_cause s.op by.why.index) by.answer)
-  stage_not_done update k r (words.Held by) row = on_all m k r (λ e x. StageHeld m s.call by (Some (Done answer)) x) row (λ e x (held : StageHeld m s.call by (Some (Done answer)) x). refused TryAgain (Holder by) held.answer)
+  stage_not_done update k r (words.Held by) row = on_all m k r (λ e x. StageHeld m s.call by (Some (Done answer)) x) row (λ e x (held : StageHeld m s.call by (Some (Done answer)) x). held_off (is_live m.cluster by) by held.answer)
   stage_not_done update k r reply row = absurd row
+
+  -- nor does a claim or a withdrawal answer it
+  claim_not_done : (k r : ℕ) (reply : StepReply) → ClaimRow m s k r reply (Some (Done answer)) → ⊥
+  claim_not_done k r words.Ok row = on_all m k r (λ e x. ClaimOk m s.call (Some (Done answer)) x) row (λ e x (ok : ClaimOk m s.call (Some (Done answer)) x). goes_on ok.answer)
+  claim_not_done k r (words.Free count) row = on_all m k r (λ e x. ClaimFree count (Some (Done answer)) x) row (λ e x (free : ClaimFree count (Some (Done answer)) x). goes_on free.answer)
+  claim_not_done k r (words.Held by) row = on_all m k r (λ e x. StageHeld m s.call by (Some (Done answer)) x) row (λ e x (held : StageHeld m s.call by (Some (Done answer)) x). held_off (is_live m.cluster by) by held.answer)
+  claim_not_done k r reply row = absurd row
+
+  withdraw_not_done : (k r : ℕ) (reply : StepReply) → WithdrawRow m s k r reply (Some (Done answer)) → ⊥
+  withdraw_not_done k r words.Ok row = on_all m k r (λ e x. WithdrawOk m s.call k (Some (Done answer)) x) row (λ e x (ok : WithdrawOk m s.call k (Some (Done answer)) x). goes_on ok.answer)
+  withdraw_not_done k r reply row = absurd row
 
   commit_done : (k r : Option ℕ) (reply : StepReply) (details : Details) → AtNode k r (λ k r. (place : ℕ) × (update : Update) × (asked s.op ≡ asks.Change place update) × CommitRow m s.call update k r reply (Some (Done answer)) details) → IsTakenOn verbs.Commit k r reply
   commit_done (Some k) (Some r) words.Ok details row = tt
@@ -132,7 +145,7 @@ module _ (m : Machine) (s : CallState) (word : IsUpdateWord (word_of_op s.op)) (
   unmark_done (Some k) None reply details row = absurd row
   unmark_done None r reply details row = absurd row
 
-  -- a step that answers an update OK is a commit, or applies it, or ends its weak write
+  -- a step that answers an update OK is a commit, or applies it, or ends its weak write, or finds nothing left of it
   pub done_by_taking : (verb : Verb) (k r : Option ℕ) (reply : StepReply) (details : Details) → Row m s verb (record { verb = verb; ckpt = k; node = r; reply = reply; end = Some (Done answer); details = details }) → IsTakenOn verb k r reply
   done_by_taking verbs.Commit k r reply details row = commit_done k r reply details row
   done_by_taking verbs.Apply k r reply details row = apply_done k r reply details row
@@ -158,5 +171,7 @@ module _ (m : Machine) (s : CallState) (word : IsUpdateWord (word_of_op s.op)) (
   done_by_taking verbs.Close k r reply details row = row_at_ckpt k r _ row.0 (λ k p. no_other _ p.1)
   done_by_taking verbs.Unlink k r reply details row = row_at_ckpt k r _ row.0 (λ k p. no_other _ p.1)
   done_by_taking verbs.Retain k r reply details row = row_at_ckpt k r _ row.0 (λ k p. no_other _ p.2)
-  done_by_taking verbs.Look k r reply details row = look_not_done reply row.2
+  done_by_taking verbs.Claim k r reply details row = at_node k r _ row.0 (λ k r p. claim_not_done k r reply p.3)
+  done_by_taking verbs.Withdraw k r reply details row = at_node k r _ row.0 (λ k r p. withdraw_not_done k r reply p.3)
+  done_by_taking verbs.Look k r reply details row = look_done k r reply row.2
   done_by_taking verb k r reply details row = absurd row

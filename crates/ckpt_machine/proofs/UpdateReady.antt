@@ -1,12 +1,12 @@
 -- What the code relies on of an update's due request: its node is one of the eight and has the replica, and a commit's slot is the call's, with its own update.
 use Rattle.std.proofs.Common.{◌≡◌, ℕ, ◌+◌, ◌<◌, Option, Some, None, true, false, ℤ, refl, sym, ap, subst, ◌∙◌, arith}
-use Rattle.std.specs.Prelude.{IsSomeAnd, length, slice_index}
+use Rattle.std.specs.Prelude.{is_some, IsSome, IsSomeAnd, length, slice_index}
 use Rattle.std.proofs.lemmas.Option.{same_Some}
 use Rattle.ckpt_types.specs.declared.identities.CallId.{CallId}
 use Rattle.cluster_record.specs.declared.calls.UpdatePhase.{UpdatePhase}
-use Rattle.cluster_record.specs.declared.calls.UpdatePhase.TheVariants.{Staging, Committing}
+use Rattle.cluster_record.specs.declared.calls.UpdatePhase.TheVariants.{Staging, Committing, Claiming, Claimed, Withdrawing, Resolving}
 use Rattle.cluster_record.specs.declared.entries.Entry.{Entry}
-use Rattle.cluster_record.specs.DueUpdate.{UpdateState, update_led, update_on, update_next, by_phase, kept_moment}
+use Rattle.cluster_record.specs.DueUpdate.{UpdateState, by_phase, claim_at, commit_at, kept_moment, stage_at, update_led, update_next, update_on}
 use Rattle.cluster_record.specs.RecordState.{entry_of}
 use Rattle.cluster_record.specs.StepDone.{has, lacks, first_lacking, last_having}
 use Rattle.node_msgs.specs.declared.next.Next.{Next}
@@ -14,11 +14,11 @@ use Rattle.node_msgs.specs.declared.next.Next.TheVariants.{Serve}
 use Rattle.node_msgs.specs.declared.requests.Request.{Request}
 use Rattle.node_msgs.specs.declared.requests.Request.TheVariants as requests
 use Rattle.ckpt_machine.specs.Drivers as drivers
-use Rattle.ckpt_machine.specs.Machine.{Machine, ReplicaState, CallState, who}
+use Rattle.ckpt_machine.specs.Machine.{Machine, Staged, ReplicaState, CallState, who}
 use Rattle.ckpt_types.specs.Asks.{update_of}
 use Rattle.stage_slot.specs.Slots.{IsOwnedBy}
 use Rattle.node_core.specs.Fitting.{IsReadyFor}
-use Rattle.ckpt_machine.specs.Facts.{IsServable, HasNoSlot}
+use Rattle.ckpt_machine.specs.Facts.{IsServable, HasNoSlot, IsOwnWhere, IsToCommit}
 use Rattle.ckpt_machine.specs.After.{staged_moment}
 use Rattle.ckpt_machine.specs.Due.{driver_of}
 use Rattle.ckpt_machine.specs.Seen.{seen, seen_at, seen_slot}
@@ -26,7 +26,7 @@ use Rattle.ckpt_machine.specs.Shape.{Shape, IsCompleteOn, IsShaped, IsSpread, Ph
 use Rattle.ckpt_machine.specs.Invariant.{InvariantIn}
 use Rattle.ckpt_machine.proofs.NodeLists.{first_lacking-is, last_having-is, lacked-has, had-there, index-within}
 use Rattle.ckpt_machine.proofs.StagedMoment.{moment_first, moment_later}
-use Rattle.ckpt_machine.proofs.Owning.{owner_of, at, spread, own_phase, owns_had, replica_at, seen_is}
+use Rattle.ckpt_machine.proofs.Owning.{at, spread, owns_had, own_owner, own_phase, replica_at, seen_is}
 use Rattle.ckpt_machine.proofs.OptionLemmas.{IsSomeAnd-at, IsSomeAnd-from}
 
 -- a due stage has the moment of the slots that stand, where its replica has none
@@ -34,14 +34,14 @@ abbrev pub HasMoment : Machine → ℕ → Request → Type 0
 HasMoment m r (requests.Stage call k t) = IsSomeAnd (m.replicas k r) HasNoSlot → staged_moment m k ≡ t
 HasMoment m r request = Unit {0}
 
--- a due commit is of the call's own update
-abbrev pub HasOwn : Machine → CallState → ℕ → Request → Type 0
-HasOwn m s r (requests.Commit call k) = IsSomeAnd (m.replicas k r) (λ x. IsSomeAnd x.slot (λ slot. slot.update ≡ update_of s.op))
-HasOwn m s r request = Unit {0}
+-- a due commit finds something staged: by a call that stages or commits, its own update
+abbrev pub HasStaged : Machine → CallState → ℕ → Request → Type 0
+HasStaged m s r (requests.Commit call k) = IsSomeAnd (m.replicas k r) (λ x. IsSomeAnd x.slot (IsToCommit s (driver_of s)))
+HasStaged m s r request = Unit {0}
 
 -- a due request can be served
 abbrev pub IsReadyNext : Machine → CallState → Next → Type 0
-IsReadyNext m s (Serve r request) = (r < 8) × IsServable m r request × HasMoment m r request × HasOwn m s r request
+IsReadyNext m s (Serve r request) = (r < 8) × IsServable m r request × HasMoment m r request × HasStaged m s r request
 IsReadyNext m s next = Unit {0}
 
 module _ (m : Machine) (shapes : ℕ → Shape) (inv : InvariantIn shapes m) (s : CallState) (u : UpdateState) (held : m.in_hand (who s) ≡ Some s) (is : driver_of s ≡ drivers.Update u) where
@@ -68,53 +68,98 @@ module _ (m : Machine) (shapes : ℕ → Shape) (inv : InvariantIn shapes m) (s 
         let (x, here, shaped) = replica_at m shapes inv s u held is e found r there in
         (within r there, IsSomeAnd-from (seen_at m u.ckpt r) (IsReadyFor (requests.Stage u.call u.ckpt t)) (seen u.ckpt e.attributes x) (seen_is m shapes inv s u held is e found r x here) shaped.unmarked, λ free. mom (free_node r there free), tt)
 
-    -- the slots of the call are of its own update
-    own_update : (r : ℕ) → (shapes u.ckpt).owners r ≡ Some s.call → (shapes u.ckpt).update ≡ update_of s.op
-    own_update r owns = by_phases u.phase (own_phase m shapes inv s u held is (shapes u.ckpt) (owner_of m shapes inv s u held is e found r s.call owns))
-      where
-        by_phases : (ph : UpdatePhase) → PhaseFits m (shapes u.ckpt) s u ph → (shapes u.ckpt).update ≡ update_of s.op
-        by_phases Staging fits = fits.update
-        by_phases Committing fits = fits.update
+    -- at a node that it has its slot stands
+    module _ (r : ℕ) (had : has (slice_index e.complete r) (slice_index u.owned r) ≡ true) where
+      there_r : IsCompleteOn e r
+      there_r = had-there (slice_index e.complete r) (slice_index u.owned r) had
 
-    commit_ready : (r : ℕ) → has (slice_index e.complete r) (slice_index u.owned r) ≡ true → IsReadyNext m s (Serve r (requests.Commit u.call u.ckpt))
-    commit_ready r had =
-        let there = had-there (slice_index e.complete r) (slice_index u.owned r) had in
-        let owns = owns_had m shapes inv s u held is e found r there had in
+      own_r : (x : ReplicaState) × (m.replicas u.ckpt r ≡ Some x) × IsShaped (shapes u.ckpt) (Some s.call) x
+      own_r =
+          let (x, here, shaped) = replica_at m shapes inv s u held is e found r there_r in
+          (x, here, subst (λ o. IsShaped (shapes u.ckpt) o x) (owns_had m shapes inv s u held is e found r there_r had) shaped)
+
+      owned_there : (x : ReplicaState) → IsShaped (shapes u.ckpt) (Some s.call) x → IsOwnedBy u.call (seen_slot (length x.effects) x.slot)
+      owned_there x own = subst (λ z. IsOwnedBy u.call (seen_slot (length x.effects) z)) (sym own.slot) (sym (at m shapes inv s u held is).call)
+
+      commit_ready : IsReadyNext m s (Serve r (requests.Commit u.call u.ckpt))
+      commit_ready =
+          let (x, here, own) = own_r in (
+            within r there_r,
+            IsSomeAnd-from (seen_at m u.ckpt r) (IsReadyFor (requests.Commit u.call u.ckpt)) (seen u.ckpt e.attributes x) (seen_is m shapes inv s u held is e found r x here) (owned_there x own),
+            tt,
+            IsSomeAnd-from (m.replicas u.ckpt r) (λ x. IsSomeAnd x.slot (IsToCommit s (driver_of s))) x here
+                (subst (λ o. IsSomeAnd o (IsToCommit s (driver_of s))) (sym own.slot) (subst (λ d. IsToCommit s d own_slot) (sym is) (own_staged u.phase owner_fits))),
+          )
+        where
+          own_slot : Staged
+          own_slot = record { owner = s.call; origin = (shapes u.ckpt).origin; update = (shapes u.ckpt).update; moment = (shapes u.ckpt).moment }
+
+          owner_fits : PhaseFits m (shapes u.ckpt) s u u.phase
+          owner_fits = own_phase m shapes inv s u held is e found (own_owner m shapes inv s u held is e found r (owns_had m shapes inv s u held is e found r there_r had))
+
+          own_staged : (ph : UpdatePhase) → PhaseFits m (shapes u.ckpt) s u ph → IsOwnWhere s ph own_slot
+          own_staged Staging fits = record { origin = fits.origin; update = fits.update }
+          own_staged Committing fits = record { origin = fits.origin; update = fits.update }
+          own_staged Claiming fits = tt
+          own_staged Claimed fits = tt
+          own_staged Withdrawing fits = tt
+          own_staged Resolving fits = tt
+
+      withdraw_ready : IsReadyNext m s (Serve r (requests.Withdraw u.call u.ckpt))
+      withdraw_ready =
+          let (x, here, own) = own_r in
+          (within r there_r, IsSomeAnd-from (seen_at m u.ckpt r) (IsReadyFor (requests.Withdraw u.call u.ckpt)) (seen u.ckpt e.attributes x) (seen_is m shapes inv s u held is e found r x here) (owned_there x own), tt, tt)
+
+    claim_ready : (r : ℕ) → IsCompleteOn e r → IsReadyNext m s (Serve r (requests.Claim u.call u.ckpt u.owner))
+    claim_ready r there =
         let (x, here, shaped) = replica_at m shapes inv s u held is e found r there in
-        let own : IsShaped (shapes u.ckpt) (Some s.call) x = subst (λ o. IsShaped (shapes u.ckpt) o x) owns shaped in (
-          within r there,
-          IsSomeAnd-from (seen_at m u.ckpt r) (IsReadyFor (requests.Commit u.call u.ckpt)) (seen u.ckpt e.attributes x) (seen_is m shapes inv s u held is e found r x here)
-              (subst (λ z. IsOwnedBy u.call (seen_slot (length x.effects) z)) (sym own.slot) (sym (at m shapes inv s u held is).call)),
-          tt,
-          IsSomeAnd-from (m.replicas u.ckpt r) (λ x. IsSomeAnd x.slot (λ slot. slot.update ≡ update_of s.op)) x here (subst (λ z. IsSomeAnd z (λ slot. slot.update ≡ update_of s.op)) (sym own.slot) (own_update r owns)),
-        )
+        (within r there, IsSomeAnd-from (seen_at m u.ckpt r) (IsReadyFor (requests.Claim u.call u.ckpt u.owner)) (seen u.ckpt e.attributes x) (seen_is m shapes inv s u held is e found r x here) tt, tt, tt)
 
-    commit_last : (r : ℕ) → last_having 0 e.complete u.owned ≡ Some r → IsReadyNext m s (Serve r (requests.Commit u.call u.ckpt))
-    commit_last r some =
+    -- it has the highest node with its slot
+    had_last : (r : ℕ) → last_having 0 e.complete u.owned ≡ Some r → has (slice_index e.complete r) (slice_index u.owned r) ≡ true
+    had_last r some =
         let at_r = last_having-is 0 e.complete u.owned r ((at m shapes inv s u held is).nodes ∙ sym was.nodes) some in
         let here : r ≡ 0 + at_r.place = at_r.at in
         let same : at_r.place ≡ r = omega (arith, here) in
-        commit_ready r (subst (λ (q : ℕ). has (slice_index e.complete q) (slice_index u.owned q) ≡ true) same at_r.had)
+        subst (λ (q : ℕ). has (slice_index e.complete q) (slice_index u.owned q) ≡ true) same at_r.had
 
-    by_next : (ph : UpdatePhase) → u.phase ≡ ph → (first last : Option ℕ) → first_lacking 0 e.complete u.owned ≡ first → last_having 0 e.complete u.owned ≡ last → IsReadyNext m s (by_phase u m.cluster.moment first last ph)
-    by_next Staging staging (Some r) last lacked having =
-        let at_r = first_lacking-is 0 e.complete u.owned r lacked in
+    -- and lacks the lowest without
+    lacked_first : (r : ℕ) → first_lacking 0 e.complete u.owned ≡ Some r → IsCompleteOn e r × ((q : ℕ) → q < r → lacks (slice_index e.complete q) (slice_index u.owned q) ≡ false)
+    lacked_first r some =
+        let at_r = first_lacking-is 0 e.complete u.owned r some in
         let here : r ≡ 0 + at_r.place = at_r.at in
         let same : at_r.place ≡ r = omega (arith, here) in
-        let complete : IsCompleteOn e r = (lacked-has (slice_index e.complete r) (slice_index u.owned r) (subst (λ (q : ℕ). lacks (slice_index e.complete q) (slice_index u.owned q) ≡ true) same at_r.lacked)).0 in
-        stage_ready r (kept_moment last m.cluster.moment u.moment) complete (by_last last having complete (λ q below. at_r.others q (let k : q < r = below in omega (arith, k, same))))
-      where
-        by_last : (last : Option ℕ) → last_having 0 e.complete u.owned ≡ last → IsCompleteOn e r → ((q : ℕ) → q < r → lacks (slice_index e.complete q) (slice_index u.owned q) ≡ false) → (shapes u.ckpt).owners r ≡ None → staged_moment m u.ckpt ≡ kept_moment last m.cluster.moment u.moment
-        by_last None none complete before free = moment_first m shapes inv s u held is e found r complete before none free
-        by_last (Some p) some complete before free =
-            let at_p = last_having-is 0 e.complete u.owned p ((at m shapes inv s u held is).nodes ∙ sym was.nodes) some in
-            let here : p ≡ 0 + at_p.place = at_p.at in
-            let same : at_p.place ≡ p = omega (arith, here) in
-            moment_later m shapes inv s u held is e found staging p (subst (λ (q : ℕ). has (slice_index e.complete q) (slice_index u.owned q) ≡ true) same at_p.had)
-    by_next Staging staging None (Some r) lacked having = commit_last r having
+        ((lacked-has (slice_index e.complete r) (slice_index u.owned r) (subst (λ (q : ℕ). lacks (slice_index e.complete q) (slice_index u.owned q) ≡ true) same at_r.lacked)).0, λ q below. at_r.others q (let k : q < r = below in omega (arith, k, same)))
+
+    -- what it stages at once
+    first_stage : (first : Option ℕ) → first_lacking 0 e.complete u.owned ≡ first → last_having 0 e.complete u.owned ≡ None → IsReadyNext m s (stage_at u m.cluster.moment first None)
+    first_stage None lacked none = tt
+    first_stage (Some r) lacked none = let (complete, before) = lacked_first r lacked in stage_ready r m.cluster.moment complete (moment_first m shapes inv s u held is e found r complete before none)
+
+    -- what it commits
+    commit_last : (last : Option ℕ) → last_having 0 e.complete u.owned ≡ last → IsReadyNext m s (commit_at u last)
+    commit_last None none = tt
+    commit_last (Some r) some = commit_ready r (had_last r some)
+
+    -- what it claims
+    claim_first : (first last : Option ℕ) → first_lacking 0 e.complete u.owned ≡ first → last_having 0 e.complete u.owned ≡ last → IsReadyNext m s (claim_at u first last)
+    claim_first None None lacked having = tt
+    claim_first None (Some r) lacked having = commit_last (Some r) having
+    claim_first (Some r) last lacked having = claim_ready r (lacked_first r lacked).0
+
+    by_next : (ph : UpdatePhase) → u.phase ≡ ph → (first last : Option ℕ) → first_lacking 0 e.complete u.owned ≡ first → last_having 0 e.complete u.owned ≡ last → IsReadyNext m s (by_phase u m.cluster.moment first last ph)
+    by_next Staging staging (Some r) None lacked none = first_stage (Some r) lacked none
+    by_next Staging staging (Some r) (Some p) lacked some = let (complete, before) = lacked_first r lacked in stage_ready r u.moment complete (λ free. moment_later m shapes inv s u held is e found staging p (had_last p some))
+    by_next Staging staging None (Some r) lacked having = commit_last (Some r) having
     by_next Staging staging None None lacked having = tt
-    by_next Committing committing first (Some r) lacked having = commit_last r having
-    by_next Committing committing first None lacked having = tt
+    by_next Committing phase first last lacked having = commit_last last having
+    by_next Claiming phase first last lacked having = claim_first first last lacked having
+    by_next Claimed phase first None lacked none = first_stage first lacked none
+    by_next Claimed phase first (Some p) lacked some = claim_first first (Some p) lacked some
+    by_next Withdrawing phase first None lacked none = first_stage first lacked none
+    by_next Withdrawing phase first (Some p) lacked some = withdraw_ready p (had_last p some)
+    by_next Resolving phase first None lacked none = first_stage first lacked none
+    by_next Resolving phase first (Some p) lacked some = commit_last (Some p) some
 
   -- whatever is due of an update
   pub update_ready : IsReadyNext m s (update_next m.cluster u)

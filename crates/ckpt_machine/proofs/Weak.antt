@@ -234,9 +234,9 @@ module _ (m : Machine) (shapes : ℕ → Shape) (inv : InvariantIn shapes m) (s 
         on_active m shapes inv s call k (kinds.Weak n) made held at refl is no_hold _ (record { unmarked = marks_are ∙ stand; fits = subst IsOk (sym gives) refl; answer = refl; told = refl }),
       );
       holds = subst (λ o. let n = change_replica m k at.node o (with_marks s.call (update_of s.op) m.cluster.moment) in Invariant (left_in_hand n (kept_behind m s n.cluster verbs.Mark (Some k) (Some at.node) words.Ok) None)) (sym at.there) (holds_marked stand);
-      nearer = λ goes_on. subst (λ o. let R = (change_replica m k at.node o (with_marks s.call (update_of s.op) m.cluster.moment)).cluster in
-          steps_left R (driver_taken (done_of R verbs.Mark (Some k) (Some at.node) words.Ok) (driver_of s)) < steps_left m.cluster (driver_of s)) (sym at.there)
-          (subst (λ d. steps_left m.cluster (driver_taken (done_of m.cluster verbs.Mark (Some k) (Some at.node) words.Ok) d) < steps_left m.cluster d) (sym (is ∙ ap (λ o. drivers.Active (driving o)) none)) (omega arith));
+      nearer = λ goes_on. subst (λ o. let n = change_replica m k at.node o (with_marks s.call (update_of s.op) m.cluster.moment) in
+          steps_left n.cluster n.replicas (driver_taken (done_of n.cluster verbs.Mark (Some k) (Some at.node) words.Ok) (driver_of s)) < steps_left m.cluster m.replicas (driver_of s)) (sym at.there)
+          (subst (λ d. steps_left m.cluster (put2 m.replicas k at.node (Some (with_marks s.call (update_of s.op) m.cluster.moment at.replica))) (driver_taken (done_of m.cluster verbs.Mark (Some k) (Some at.node) words.Ok) d) < steps_left m.cluster m.replicas d) (sym (is ∙ ap (λ o. drivers.Active (driving o)) none)) (omega arith));
     })
     mark_by t served None stand (Err why) gives = subst (Goes m s (driver_of s)) (sym (IsServed-told m s at.node to_mark t _ (replies.Refused why.error why.index) served is (answered t served None (Err why) stand gives))) (record {
       row = (_, update_of s.op, asks_own m shapes inv s call k (kinds.Weak n) made held at refl is, refused_row m shapes inv s call k (kinds.Weak n) made held at refl is none no_hold _ why stand gives refl nothing_told);
@@ -317,9 +317,9 @@ module _ (m : Machine) (shapes : ℕ → Shape) (inv : InvariantIn shapes m) (s 
           (served.may ∙ ap (reply_at to_do (payload_due m s) (record_seen m.cluster k at.node)) (active_seen m (shapes k).marks k at)))) (record {
             row = (_, update_of s.op, asks_own m shapes inv s call k (kinds.Weak n) made held at refl is, (on_active m shapes inv s call k (kinds.Weak n) made held at refl is no_hold (λ e x. IsSomeAnd x.marks (AreMarksOf s.call (update_of s.op) true)) (are_marks true left_is), refl, refl));
             holds = subst (λ o. let n = change_replica m k at.node o (with_next_element (entry_of k m.cluster.entries)) in Invariant (left_in_hand n (kept_behind m s n.cluster verbs.Element (Some k) (Some at.node) words.Ok) None)) (sym at.there) holds_written;
-            nearer = λ goes_on. subst (λ o. let R = (change_replica m k at.node o (with_next_element (entry_of k m.cluster.entries))).cluster in
-                steps_left R (driver_taken (done_of R verbs.Element (Some k) (Some at.node) words.Ok) (driver_of s)) < steps_left m.cluster (driver_of s)) (sym at.there)
-                (subst (λ d. steps_left m.cluster (driver_taken (done_of m.cluster verbs.Element (Some k) (Some at.node) words.Ok) d) < steps_left m.cluster d) (sym (is ∙ ap (λ o. drivers.Active (driving o)) made_is)) (let above = positive w.left left_some in omega (arith, above)));
+            nearer = λ goes_on. subst (λ o. let n = change_replica m k at.node o (with_next_element (entry_of k m.cluster.entries)) in
+                steps_left n.cluster n.replicas (driver_taken (done_of n.cluster verbs.Element (Some k) (Some at.node) words.Ok) (driver_of s)) < steps_left m.cluster m.replicas (driver_of s)) (sym at.there)
+                (subst (λ d. steps_left m.cluster (put2 m.replicas k at.node (Some (with_next_element (entry_of k m.cluster.entries) at.replica))) (driver_taken (done_of m.cluster verbs.Element (Some k) (Some at.node) words.Ok) d) < steps_left m.cluster m.replicas d) (sym (is ∙ ap (λ o. drivers.Active (driving o)) made_is)) (let above = positive w.left left_some in omega (arith, above)));
           })
 
     -- ---- the end of its marks

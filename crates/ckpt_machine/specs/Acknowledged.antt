@@ -78,8 +78,8 @@ KeepsActive front more k =
     (before behind : List Label) (r : ℕ) → more ≡ before ++ labels.Failed r true ∷ behind
     → LeavesActive (entry_of k (last (front ++ before)).cluster.entries) r
 
--- the call began in the log with an update, of the checkpoint that the label behind the log names; and behind the labels that come then, of which none
--- takes the active away with its node, this update is on the replicas of that checkpoint on which it has to be
+-- the call began in the log with an update, of the checkpoint that the label behind the log names, where it names one; and behind the labels that come
+-- then, of which none takes the active away with its node, this update is on the replicas of that checkpoint on which it has to be
 pub record IsAcknowledged (log : List Label) (l : Label) (call : CallId) (more : List Label) : Type 0 where
   pub op : Op
   pub asks : IsUpdateWord (word_of_op op)
@@ -87,7 +87,7 @@ pub record IsAcknowledged (log : List Label) (l : Label) (call : CallId) (more :
   pub begun : HasBegun log call op (Some ckpt)
   -- with no other operation, and on no other checkpoint
   pub once : (other : Op) (k : Option ℕ) → HasBegun log call other k → (other ≡ op) × (k ≡ Some ckpt)
-  pub named : ckpt_named l ≡ Some ckpt
+  pub named : IfSome (ckpt_named l) (λ k. k ≡ ckpt)
   pub on_its : KeepsActive (log ++ l ∷ []) more ckpt → IsOnItsReplicas (last (log ++ l ∷ more)) ckpt call (update_of op)
 
 -- WHAT WAS ANSWERED OK STAYS: after any label that answers OK to a call that asks for an update, and at every time from then on, each complete replica

@@ -28,7 +28,7 @@ use Rattle.client_handles.specs.declared.handle_view.HandleView.{HandleView}
 use Rattle.ckpt_machine.specs.Drivers.{Driver}
 use Rattle.cluster_record.specs.declared.entries.Entry.{Entry}
 use Rattle.replica.specs.Replicas.{Replica, or_same, first_written, elements_left}
-use Rattle.cluster_record.specs.Calls.{number_of, client_of, same_actor, put_actor, left}
+use Rattle.cluster_record.specs.Calls.{number_of, client_of, same_actor, same_call, put_actor, left}
 use Rattle.cluster_record.specs.Places.{put2}
 use Rattle.cluster_record.specs.RecordState.{RecordState, entry_of, complete_of, brought_up, moved, swept, entered, created_as, finished, opened, undone, closed, unlinked, retained, departed, hold_set, active_set}
 use Rattle.node_core.specs.Serving.{made_id}
@@ -103,6 +103,19 @@ with_committed (Some e) x = committed_slot e.attributes x x.slot
 abbrev pub with_applied : CallId → Update → ℤ → Option Entry → ReplicaState → ReplicaState
 with_applied call update t None x = x
 with_applied call update t (Some e) x = having_taken e.attributes call update t x
+
+-- a slot is the call's from then on
+abbrev pub slot_claimed : CallId → Option Staged → Option Staged
+slot_claimed call None = None
+slot_claimed call (Some slot) = Some (record slot { owner = call })
+
+-- the call owns what is staged on the replica
+abbrev pub with_claim : CallId → ReplicaState → ReplicaState
+with_claim call x = record x { slot = slot_claimed call x.slot }
+
+-- what was staged is withdrawn
+abbrev pub without_slot : ReplicaState → ReplicaState
+without_slot x = record x { slot = None }
 
 -- the marks of the weak write of a call stand on the replica, of which no element is done
 abbrev pub with_marks : CallId → Update → ℤ → ReplicaState → ReplicaState
@@ -271,6 +284,8 @@ changed m s verbs.Unlink k r reply = on_ok reply m (at_some k m (λ k. record_st
 changed m s verbs.Retain k r reply = on_ok reply m (at_some k m (λ k. record_step (retained_for (asked s.op) k) m))
 changed m s verbs.Stage k r reply =
     on_ok reply m (on_replica k r m (λ k r. change_replica m k r (m.replicas k r) (with_slot s.call (update_of s.op) (staged_moment m k))))
+changed m s verbs.Claim k r reply = on_ok reply m (on_replica k r m (λ k r. change_replica m k r (m.replicas k r) (with_claim s.call)))
+changed m s verbs.Withdraw k r reply = on_ok reply m (on_replica k r m (λ k r. change_replica m k r (m.replicas k r) without_slot))
 changed m s verbs.Commit k r reply =
     on_ok reply m (on_replica k r m (λ k r. change_replica m k r (m.replicas k r) (with_committed (entry_of k m.cluster.entries))))
 changed m s verbs.Apply k r reply =
@@ -291,19 +306,19 @@ changed m s verb k r reply = m
 
 -- ---- what a call keeps of a step
 
--- the identifier that the commit of a staged creation makes; else the one that an earlier commit made
-abbrev pub made_by : Option (List ℕ) → List Section → Option Staged → Option (List ℕ)
-made_by before sections None = before
-made_by before sections (Some slot) = option_or (made_id slot.update slot.moment sections) before
+-- the identifier that the commit of the call's own creation makes; else the one that an earlier commit made
+abbrev pub made_by : CallId → Option (List ℕ) → List Section → Option Staged → Option (List ℕ)
+made_by call before sections None = before
+made_by call before sections (Some slot) = if same_call slot.origin call then option_or (made_id slot.update slot.moment sections) before else before
 
 -- made by a commit on a replica
-abbrev pub made_on : Option (List ℕ) → Option ReplicaState → Option (List ℕ)
-made_on before None = before
-made_on before (Some x) = made_by before x.sections x.slot
+abbrev pub made_on : CallId → Option (List ℕ) → Option ReplicaState → Option (List ℕ)
+made_on call before None = before
+made_on call before (Some x) = made_by call before x.sections x.slot
 
 -- the identifier that the call has made behind a step
 abbrev pub created_by : Machine → CallState → Verb → Option ℕ → Option ℕ → Option (List ℕ)
-created_by m s verbs.Commit (Some k) (Some r) = made_on s.created (m.replicas k r)
+created_by m s verbs.Commit (Some k) (Some r) = made_on s.call s.created (m.replicas k r)
 created_by m s verb k r = s.created
 
 -- the snapshot that the call has in hand behind a step: of the replica that it has pulled, or holds

@@ -24,7 +24,7 @@ TellsEnd label s = ⊥
 
 -- the label tells the failure of a node that was up, by which this call is abandoned: its client was on the node, or it asked to become live there
 abbrev pub IsAbandonedBy : Label → Machine → CallState → Type 0
-IsAbandonedBy (labels.Failed r true) m s = is_abandoned m.cluster r s ≡ true
+IsAbandonedBy (labels.Failed r true) m s = is_abandoned m.cluster r s.call s.op ≡ true
 IsAbandonedBy label m s = ⊥
 
 -- the label is a step of this verb and this reply, of the call that is in hand as this

@@ -2,6 +2,7 @@
 use Rattle.section_iter.specs.Room.{room_declared}
 use Rattle.section_iter.specs.declared.room.Room.{Room}
 use Rattle.std.specs.Prelude.{◌≡◌, ◌⊎◌, ℕ, ◌<◌, ◌≤◌, List, length, Option, Some, None, is_some, Bool, IsTrue, true, false}
+use Rattle.ckpt_types.specs.declared.answers.Answer.TheVariants as answers
 use Rattle.ckpt_types.specs.declared.answers.Outcome.{Outcome}
 use Rattle.ckpt_types.specs.declared.ais_error.AisError.TheVariants.{TryAgain}
 use Rattle.ckpt_types.specs.declared.answers.Cause.TheVariants.{Holder}
@@ -36,12 +37,11 @@ use Rattle.cluster_record.specs.Calls.{number_of, client_of, IsClient}
 use Rattle.cluster_record.specs.LookUps.{declared_in}
 use Rattle.cluster_record.specs.RecordState.{RecordState, entry_of, is_live_client, home_of, is_up, no_nodes, IsMomentFrom}
 use Rattle.node_msgs.specs.Requests.{ckpt_of}
-use Rattle.node_core.specs.Serving.{reply_at, details_at}
+use Rattle.node_core.specs.Serving.{update_answer, id_told, reply_at, details_at}
 use Rattle.node_core.specs.Nodes.{MayReserve}
 use Rattle.node_core.specs.Seen.{record_seen}
 use Rattle.weak_marks.specs.Marks.{Marked, call_of}
 use Rattle.node_msgs.specs.Steps.{word_of, verb_of, event_verb}
-use Rattle.ckpt_machine.specs.Entries.{AreApart}
 use Rattle.ckpt_machine.specs.Driving.{Kept, driver_start, driver_state, driver_next, driver_taken, driver_end, event_ckpt, event_node, event_end, event_refusal, takes_memory}
 use Rattle.ckpt_machine.specs.Listing.{listing_at}
 use Rattle.ckpt_machine.specs.Options.{is_weak, if_declared}
@@ -96,6 +96,16 @@ details_due m s request r = details_at request (payload_due m s) (record_seen m.
 abbrev pub ended_details : Option Outcome → Details → Details
 ended_details None details = beside.Nothing
 ended_details (Some end) details = details
+
+-- what a look answers: where nothing is left of an update, what that answers
+abbrev pub look_end : CallState → Outcome → Outcome
+look_end s (Done answers.Nothing) = Done (update_answer (update_of s.op))
+look_end s o = o
+
+-- and what is told beside it: of a creation the identifier that it has made
+abbrev pub look_details : CallState → Outcome → Details
+look_details s (Done answers.Created) = id_told s.created
+look_details s o = beside.Nothing
 
 -- how a look is told
 abbrev pub look_word : Outcome → StepReply
@@ -170,7 +180,8 @@ pub record IsEvent (m : Machine) (s : CallState) (step : RecordStep) (t : Told) 
 abbrev pub IsDone : Machine → CallState → Next → Told → Type 0
 IsDone m s (Serve r request) t = IsServed m s r request t
 IsDone m s (Event step) t = IsEvent m s step t
-IsDone m s (End o) t = t ≡ record { verb = verbs.Look; ckpt = None; node = None; reply = look_word o; end = Some o; details = beside.Nothing }
+IsDone m s (End o) t =
+    t ≡ record { verb = verbs.Look; ckpt = None; node = None; reply = look_word o; end = Some (look_end s o); details = look_details s (look_end s o) }
 
 -- the step is of the call that is in hand under this name, and is what this does next
 pub record IsDueStep (m : Machine) (call : CallId) (op : OpWord) (t : Told) : Type 0 where
@@ -253,10 +264,9 @@ pub record IsBegun (m : Machine) (call : CallId) (op : Op) (end : Option Outcome
 
 -- ---- any label
 
--- a node fails, where it is up and the updates of each checkpoint go to its active alone; the label says of one that is not up that it is down
+-- a node fails; the label says whether it was up
 abbrev pub MayFail : RecordState → ℕ → Bool → Type 0
-MayFail R r true = (r < nodes_max) × (is_up r R ≡ true) × AreApart R.entries
-MayFail R r false = (r < nodes_max) × (is_up r R ≡ false)
+MayFail R r was_up = (r < nodes_max) × (is_up r R ≡ was_up)
 
 -- the label is due in this state; what is not built is not due
 abbrev pub IsDue : Machine → Label → Type 0

@@ -36,7 +36,9 @@ use Rattle.ckpt_types.specs.Asks.{asked, update_of, IsBuilt}
 use Rattle.client_handles.specs.ClientState.{NoneLent, has_handle_room}
 use Rattle.ckpt_types.specs.Asks as asks
 use Rattle.ckpt_machine.specs.Tables.{choice_of, takes_copy}
-use Rattle.ckpt_machine.specs.Machine.{Machine, ReplicaState, CallState, who}
+use Rattle.cluster_record.specs.declared.calls.UpdatePhase.{UpdatePhase}
+use Rattle.cluster_record.specs.declared.calls.UpdatePhase.TheVariants.{Staging, Committing}
+use Rattle.ckpt_machine.specs.Machine.{Machine, Staged, ReplicaState, CallState, who}
 use Rattle.ckpt_machine.specs.Invariant.{AreCalls}
 use Rattle.ckpt_machine.specs.Propagation.{target_at}
 use Rattle.ckpt_machine.specs.After.{staged_moment}
@@ -74,6 +76,22 @@ IsFinishable m c None = ⊥
 IsFinishable m c (Some making) =
     IsSomeAnd (entry_of making.ckpt m.cluster.entries) (λ e. AllReserved m c making.ckpt e × NoneReservedElse m c making.ckpt e × (e.generation ≡ 1)
     × ((r : ℕ) → slice_index e.complete r ≡ 0))
+
+-- what is staged is the call's own update
+pub record IsOwnStaged (s : CallState) (slot : Staged) : Type 0 where
+  pub origin : slot.origin ≡ s.call
+  pub update : slot.update ≡ update_of s.op
+
+-- a call that stages, or commits, commits its own update; one that resolves commits what it has claimed
+abbrev pub IsOwnWhere : CallState → UpdatePhase → Staged → Type 0
+IsOwnWhere s Staging slot = IsOwnStaged s slot
+IsOwnWhere s Committing slot = IsOwnStaged s slot
+IsOwnWhere s phase slot = Unit {0}
+
+-- so is what is staged, by what drives the call
+abbrev pub IsToCommit : CallState → Driver → Staged → Type 0
+IsToCommit s (drivers.Update u) slot = IsOwnWhere s u.phase slot
+IsToCommit s driver slot = Unit {0}
 
 -- an open of a client can add a replica of a checkpoint: the entry has each node, the client's is up, and has nothing reserved for it
 pub record IsAddable (m : Machine) (c : ℕ) (e : Entry) : Type 0 where
@@ -182,9 +200,9 @@ pub record Facts (m : Machine) : Type 0 where
   -- a due stage has the moment of the slots that stand
   pub moments : (w : Who) (s : CallState) (r : ℕ) (call : CallId) (k : ℕ) (t : ℤ) → m.in_hand w ≡ Some s → due m s ≡ Serve r (requests.Stage call k t)
       → IsSomeAnd (m.replicas k r) HasNoSlot → staged_moment m k ≡ t
-  -- a due commit is of the call's own update
+  -- a due commit finds something staged: by a call that stages or commits, its own update
   pub commits : (w : Who) (s : CallState) (r : ℕ) (call : CallId) (k : ℕ) → m.in_hand w ≡ Some s → due m s ≡ Serve r (requests.Commit call k)
-      → IsSomeAnd (m.replicas k r) (λ x. IsSomeAnd x.slot (λ slot. slot.update ≡ update_of s.op))
+      → IsSomeAnd (m.replicas k r) (λ x. IsSomeAnd x.slot (IsToCommit s (driver_of s)))
   -- a weak write that is due to begin is a write
   pub marks : (w : Who) (s : CallState) (r : ℕ) (call : CallId) (k : ℕ) → m.in_hand w ≡ Some s → due m s ≡ Serve r (requests.Mark call k)
       → IsWrite (update_of s.op)

@@ -2,6 +2,8 @@
 use Rattle.std.specs.Option.{option_map}
 use Rattle.std.specs.Prelude.{ℕ, [], ◌∷◌, ◌++◌, Option, Some, None, Bool, false, ◌==◌, ◌||◌, if◌then◌else◌}
 use Rattle.ckpt_types.specs.declared.identities.ActorName.{ActorName}
+use Rattle.ckpt_types.specs.declared.identities.CallId.{CallId}
+use Rattle.ckpt_types.specs.declared.operation.Op.{Op}
 use Rattle.ckpt_types.specs.declared.identities.ActorName.TheVariants.{Client, Node}
 use Rattle.ckpt_types.specs.Asks.{Ask, asked}
 use Rattle.ckpt_types.specs.Asks as asks
@@ -29,13 +31,13 @@ enters_on r (asks.Enter q version callbacks) = q == r
 enters_on r ask = false
 
 -- a call is abandoned by the failure of this node: it is of a client on it, or of the node itself, or an Initialize that names it
-abbrev pub is_abandoned : RecordState → ℕ → CallState → Bool
-is_abandoned R r s = is_of_node R r s.call.actor || enters_on r (asked s.op)
+abbrev pub is_abandoned : RecordState → ℕ → CallId → Op → Bool
+is_abandoned R r call op = is_of_node R r call.actor || enters_on r (asked op)
 
 -- what is in hand behind the failure
 abbrev pub unless_abandoned : RecordState → ℕ → Option CallState → Option CallState
 unless_abandoned R r None = None
-unless_abandoned R r (Some s) = if is_abandoned R r s then None else Some s
+unless_abandoned R r (Some s) = if is_abandoned R r s.call s.op then None else Some s
 
 -- ---- the replicas on other nodes
 

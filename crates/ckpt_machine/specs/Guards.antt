@@ -23,10 +23,10 @@ use Rattle.ckpt_machine.specs.Machine.{Machine, CallState}
 use Rattle.ckpt_machine.specs.Propagation.{pull_answer, put_answer}
 use Rattle.ckpt_machine.specs.Listing.{listing_at}
 use Rattle.ckpt_machine.specs.Due.{Told, MayFail}
-use Rattle.ckpt_machine.specs.UpdateGuards.{CommitRow, StageRow}
+use Rattle.ckpt_machine.specs.UpdateGuards.{ClaimRow, CommitRow, StageRow, WithdrawRow}
 use Rattle.ckpt_machine.specs.ActiveGuards.{ActivateRow, ApplyRow, ElementRow, HoldRow, InstallRow, IterRow, MarkRow, NextRow, PullRow, ReadRow, StatusRow, UnmarkRow}
 use Rattle.ckpt_machine.specs.OpenGuards.{CloseRow, CreateRow, EnterRow, FinishRow, LeaveRow, OpenRow, ReserveRow, RetainRow, UndoRow, UnlinkRow}
-use Rattle.ckpt_machine.specs.LookGuards.{LookRow}
+use Rattle.ckpt_machine.specs.LookGuards.{LookRow, LookTold}
 
 -- ---- any step
 
@@ -77,6 +77,8 @@ Row m s verbs.Reserve t = AtNode t.ckpt t.node (λ k r. AsksOpen s (λ name a. R
 Row m s verbs.Finish t = AtCkpt t.ckpt t.node (λ k. AsksOpen s (λ name a. FinishRow m s k t.reply t.end)) × (t.details ≡ beside.Nothing)
 Row m s verbs.Undo t = AtCkpt t.ckpt t.node (λ k. AsksOpen s (λ name a. UndoRow m s k t.reply t.end)) × (t.details ≡ beside.Nothing)
 Row m s verbs.Stage t = AtNode t.ckpt t.node (λ k r. AsksChange s (λ update. StageRow m s update k r t.reply t.end)) × (t.details ≡ beside.Nothing)
+Row m s verbs.Claim t = AtNode t.ckpt t.node (λ k r. AsksChange s (λ update. ClaimRow m s k r t.reply t.end)) × (t.details ≡ beside.Nothing)
+Row m s verbs.Withdraw t = AtNode t.ckpt t.node (λ k r. AsksChange s (λ update. WithdrawRow m s k r t.reply t.end)) × (t.details ≡ beside.Nothing)
 Row m s verbs.Commit t = AtNode t.ckpt t.node (λ k r. AsksChange s (λ update. CommitRow m s.call update k r t.reply t.end t.details))
 Row m s verbs.Apply t = AtNode t.ckpt t.node (λ k r. AsksChange s (λ update. ApplyRow m s update k r t t.reply))
 Row m s verbs.Mark t = AtNode t.ckpt t.node (λ k r. AsksChange s (λ update. MarkRow m s update k r t t.reply))
@@ -107,12 +109,14 @@ Row m s verbs.Unlink t =
 Row m s verbs.Retain t =
     AtCkpt t.ckpt t.node (λ k. (place : ℕ) × (duration : ℤ) × (asked s.op ≡ asks.Retain place duration) × RetainRow m s k t.reply t.end)
     × (t.details ≡ beside.Nothing)
-Row m s verbs.Look t = (t.ckpt ≡ None) × (t.node ≡ None) × LookRow m s t.reply t.end × (t.details ≡ beside.Nothing)
+Row m s verbs.Look t = (t.ckpt ≡ None) × (t.node ≡ None) × LookRow m s t.reply t.end × LookTold s t.end t.details
 Row m s verb t = ⊥
 
 -- what is asked of a replica is asked of the checkpoint that the call was begun on
 abbrev pub IsOnOwn : Verb → Option ℕ → Option ℕ → Type 0
 IsOnOwn verbs.Stage ckpt own = ckpt ≡ own
+IsOnOwn verbs.Claim ckpt own = ckpt ≡ own
+IsOnOwn verbs.Withdraw ckpt own = ckpt ≡ own
 IsOnOwn verbs.Commit ckpt own = ckpt ≡ own
 IsOnOwn verbs.Apply ckpt own = ckpt ≡ own
 IsOnOwn verbs.Mark ckpt own = ckpt ≡ own

@@ -23,7 +23,7 @@ use Rattle.cluster_record.specs.declared.calls.PulledAt.{PulledAt}
 use Rattle.cluster_record.specs.declared.calls.SyncKind.{SyncKind}
 use Rattle.cluster_record.specs.declared.calls.SyncKind.TheVariants.{Synchronize, ActiveSet}
 use Rattle.cluster_record.specs.Placement.{is_collocated}
-use Rattle.cluster_record.specs.declared.calls.UpdatePhase.TheVariants.{Staging, Committing}
+use Rattle.cluster_record.specs.declared.calls.UpdatePhase.TheVariants.{Committing, Claiming, Claimed}
 use Rattle.cluster_record.specs.Calls.{IsClient, client_of, same_call}
 use Rattle.ckpt_types.specs.declared.identities.CallId.{CallId}
 use Rattle.cluster_record.specs.RecordState.{entry_of, home_of, is_live_client, is_up, is_live}
@@ -43,9 +43,9 @@ use Rattle.cluster_record.specs.Placement.{is_all}
 use Rattle.ckpt_machine.specs.Due.{driver_of, IsDriven, asked_handle}
 use Rattle.section_iter.specs.Room.{room_declared}
 use Rattle.cluster_record.specs.declared.calls.UpdatePhase.{UpdatePhase}
-use Rattle.cluster_record.specs.StepDone.{has, last_having}
+use Rattle.cluster_record.specs.StepDone.{has}
 use Rattle.ckpt_machine.specs.Shape.{Shape, IsCompleteOn, is_owner, effects_by}
-pub use Rattle.ckpt_machine.specs.Dead.{enters, is_enter}
+pub use Rattle.ckpt_machine.specs.Dead.{IsDead, enters, is_enter}
 use Rattle.ckpt_machine.specs.Owned.{HasUpdate}
 use Rattle.ckpt_machine.specs.Drivers as drivers
 use Rattle.cluster_record.specs.declared.calls.ActiveKind.TheVariants as kinds
@@ -120,18 +120,15 @@ pub record IsDoneIn (sh : Shape) (s : CallState) : Type 0 where
   pub free : HasUpdate s.call (update_of s.op) (effects_by sh None)
   pub under : (r : ℕ) (call : CallId) → sh.owners r ≡ Some call → call ≢ s.call → HasUpdate s.call (update_of s.op) sh.effects
 
--- one that commits has done so
+-- one that commits has done so, and one that claims has met the slot of a dead call
 abbrev pub PhaseKeeps : Machine → Shape → CallState → UpdateState → UpdatePhase → Type 0
-PhaseKeeps m sh s u Staging = Unit {0}
 PhaseKeeps m sh s u Committing = IsDoneIn sh s
-
--- while no node fails it has a slot still
-abbrev pub HasSome : UpdateState → Entry → UpdatePhase → Type 0
-HasSome u e Staging = Unit {0}
-HasSome u e Committing = IsSome (last_having 0 e.complete u.owned)
+PhaseKeeps m sh s u Claiming = IsDead m u.owner
+PhaseKeeps m sh s u Claimed = IsDead m u.owner
+PhaseKeeps m sh s u phase = Unit {0}
 
 -- an update is of a checkpoint that was made, whose updates are on all replicas, and of the slots there it owns those for which it keeps a node
-pub record IsUpdateUnder (failures : Bool) (m : Machine) (shapes : ℕ → Shape) (s : CallState) (u : UpdateState) : Type 0 where
+pub record IsUpdateIn (m : Machine) (shapes : ℕ → Shape) (s : CallState) (u : UpdateState) : Type 0 where
   pub call : u.call ≡ s.call
   pub place : ℕ
   pub update : Update
@@ -142,11 +139,6 @@ pub record IsUpdateUnder (failures : Bool) (m : Machine) (shapes : ℕ → Shape
   pub nodes : length u.owned ≡ nodes_max
   pub owns : (e : Entry) → entry_of u.ckpt m.cluster.entries ≡ Some e → OwnsIn (shapes u.ckpt) s u e
   pub keeps : (e : Entry) → entry_of u.ckpt m.cluster.entries ≡ Some e → PhaseKeeps m (shapes u.ckpt) s u u.phase
-  pub some : failures ≡ false → (e : Entry) → entry_of u.ckpt m.cluster.entries ≡ Some e → HasSome u e u.phase
-
--- where no node has failed
-abbrev pub IsUpdateIn : Machine → (ℕ → Shape) → CallState → UpdateState → Type 0
-IsUpdateIn m shapes s u = IsUpdateUnder false m shapes s u
 
 -- the marks are of the call
 abbrev pub is_marked_by : CallId → Option Marked → Bool
@@ -264,20 +256,16 @@ IsOnceAt m s (once.Unlink name) = asked s.op ≡ asking.Unlink name
 IsOnceAt m s (once.Retain k duration) = IsRetainAt m s k duration
 
 -- a call in hand is where its steps have led it, by its driver
-abbrev pub IsInPlaceUnder : Bool → Machine → (ℕ → Shape) → CallState → Driver → Type 0
-IsInPlaceUnder failures m shapes s (drivers.Once x) = IsOnceAt m s x
-IsInPlaceUnder failures m shapes s (drivers.Open o) = IsOpenIn m s o
-IsInPlaceUnder failures m shapes s (drivers.Update u) = IsUpdateUnder failures m shapes s u
-IsInPlaceUnder failures m shapes s (drivers.Active a) = IsActiveIn m shapes s a
-IsInPlaceUnder failures m shapes s (drivers.Sync u) = IsSyncBy m s u u.kind
-
--- where no node has failed
 abbrev pub IsInPlace : Machine → (ℕ → Shape) → CallState → Driver → Type 0
-IsInPlace m shapes s driver = IsInPlaceUnder false m shapes s driver
+IsInPlace m shapes s (drivers.Once x) = IsOnceAt m s x
+IsInPlace m shapes s (drivers.Open o) = IsOpenIn m s o
+IsInPlace m shapes s (drivers.Update u) = IsUpdateIn m shapes s u
+IsInPlace m shapes s (drivers.Active a) = IsActiveIn m shapes s a
+IsInPlace m shapes s (drivers.Sync u) = IsSyncBy m s u u.kind
 
 -- a call in hand is so under its own name; it is a client's, its number was given, it is built, what it asks for drives it, each but an Initialize is
 -- live, and it is where its steps have led it
-pub record IsInHandUnder (failures : Bool) (m : Machine) (shapes : ℕ → Shape) (w : Who) (s : CallState) : Type 0 where
+pub record IsInHand (m : Machine) (shapes : ℕ → Shape) (w : Who) (s : CallState) : Type 0 where
   pub whose : who s ≡ w
   pub client : IsClient s.call.actor
   pub number : s.call.number < m.next s.call.actor
@@ -286,8 +274,4 @@ pub record IsInHandUnder (failures : Bool) (m : Machine) (shapes : ℕ → Shape
   pub live : is_enter (driver_of s) ≡ false → is_live m.cluster s.call ≡ true
   -- on the node where it was when it began
   pub home : is_enter (driver_of s) ≡ false → s.kept.node ≡ home_of (client_of s.call) m.cluster
-  pub here : IsInPlaceUnder failures m shapes s (driver_of s)
-
--- where no node has failed
-abbrev pub IsInHand : Machine → (ℕ → Shape) → Who → CallState → Type 0
-IsInHand m shapes w s = IsInHandUnder false m shapes w s
+  pub here : IsInPlace m shapes s (driver_of s)

@@ -1,5 +1,5 @@
 -- What holds in every state of a run, of any number of nodes up to eight and of calls in hand; from it follow the guards, and all that the code relies on.
-use Rattle.std.specs.Prelude.{◌≡◌, ℕ, ◌+◌, ◌<◌, ◌≤◌, [], ◌++◌, List, length, map, Option, Some, None, IsSome, IsSomeAnd, IfSome, Contains, Bool, true, false}
+use Rattle.std.specs.Prelude.{◌≡◌, ℕ, ◌+◌, ◌<◌, ◌≤◌, [], ◌++◌, List, length, map, Option, Some, None, IsSome, IsSomeAnd, IfSome, Contains, true}
 use Rattle.ckpt_types.specs.declared.identities.ActorName.{ActorName}
 use Rattle.ckpt_types.specs.declared.identities.CallId.{CallId}
 use Rattle.ckpt_types.specs.declared.identities.Who.{Who}
@@ -25,10 +25,10 @@ use Rattle.cluster_record.specs.Placement.{is_collocated}
 use Rattle.cluster_record.specs.Identities.{IdentitiesRise, AllUpTo}
 use Rattle.ckpt_types.specs.declared.identities.ActorName.TheVariants.{Client}
 use Rattle.cluster_record.specs.Places.{find_key}
-use Rattle.ckpt_machine.specs.Shape.{Shape, IsCompleteOn, IsSpreadUnder}
+use Rattle.ckpt_machine.specs.Shape.{Shape, IsCompleteOn, IsSpread}
 use Rattle.ckpt_machine.specs.Drivers as drivers
 use Rattle.ckpt_machine.specs.Entries.{AllStay, WasMade, IsMakingEntry}
-use Rattle.ckpt_machine.specs.InHand.{IsInHandUnder}
+use Rattle.ckpt_machine.specs.InHand.{IsInHand}
 
 -- the call is in hand, an open that is making the checkpoint
 pub record IsMaker (m : Machine) (k : ℕ) (call : CallId) : Type 0 where
@@ -42,13 +42,9 @@ pub record IsMaker (m : Machine) (k : ℕ) (call : CallId) : Type 0 where
   pub ckpt : making.ckpt ≡ k
 
 -- a checkpoint is made and has its replicas, or is in the making by this call
-abbrev pub IsGoodUnder : Bool → Machine → ℕ → Shape → Entry → Option CallId → Type 0
-IsGoodUnder failures m k sh e None = IsSpreadUnder failures m k sh e
-IsGoodUnder failures m k sh e (Some call) = IsMakingEntry e × IsMaker m k call
-
--- where no node has failed
 abbrev pub IsGoodIn : Machine → ℕ → Shape → Entry → Option CallId → Type 0
-IsGoodIn m k sh e making = IsGoodUnder false m k sh e making
+IsGoodIn m k sh e None = IsSpread m k sh e
+IsGoodIn m k sh e (Some call) = IsMakingEntry e × IsMaker m k call
 
 -- one that is live entered by a call that was begun, on a node that is up
 abbrev pub IsGoodClient : (ActorName → ℕ) → RecordState → ℕ → LiveClient → Type 0
@@ -99,9 +95,8 @@ pub record AreCalls (in_hand : Who → Option CallState) (pending : ActorName �
 abbrev pub HasPlaces : (ActorName → ClientState) → List Entry → Type 0
 HasPlaces tables entries = (c : ℕ) → length (tables (Client c)).handles + makings_of c entries ≤ handles_max
 
--- what holds in every state of a run, where the checkpoints have these shapes;
--- and where no node has failed, four facts more: of an owner of a slot, of a hold, of an update that commits, and of marks
-pub record InvariantUnder (failures : Bool) (shapes : ℕ → Shape) (m : Machine) : Type 0 where
+-- what holds in every state of a run, where the checkpoints have these shapes
+pub record InvariantIn (shapes : ℕ → Shape) (m : Machine) : Type 0 where
   -- before the first nodes come up none is
   pub up : length m.cluster.up ≡ nodes_max
   pub first_up : m.cluster.last_incarnations ≡ no_nodes → m.cluster.up ≡ no_nodes
@@ -109,7 +104,7 @@ pub record InvariantUnder (failures : Bool) (shapes : ℕ → Shape) (m : Machin
   pub rises : IdentitiesRise m.cluster.entries
   pub up_to : AllUpTo m.cluster.last_identity m.cluster.entries
   pub swept : AllStay m.cluster.moment m.cluster.entries
-  pub entries : (k : ℕ) (e : Entry) → entry_of k m.cluster.entries ≡ Some e → IsGoodUnder failures m k (shapes k) e e.making
+  pub entries : (k : ℕ) (e : Entry) → entry_of k m.cluster.entries ≡ Some e → IsGoodIn m k (shapes k) e e.making
   -- a replica is on a complete node of a checkpoint that is there, and has a generation that it may have
   pub replicas : (k r : ℕ) (x : ReplicaState) → m.replicas k r ≡ Some x → IsCompleteAt m.cluster k r x.generation
   -- what is reserved is for a checkpoint that is in the making
@@ -119,19 +114,10 @@ pub record InvariantUnder (failures : Bool) (shapes : ℕ → Shape) (m : Machin
   pub rest : (a : ActorName) → NoneLent (m.tables a)
   pub clients : (c : ℕ) → IfSome (find_key client_key c m.cluster.clients) (IsGoodClient m.next m.cluster c)
   pub places : HasPlaces m.tables m.cluster.entries
-  pub hands : (w : Who) (s : CallState) → m.in_hand w ≡ Some s → IsInHandUnder failures m shapes w s
+  pub hands : (w : Who) (s : CallState) → m.in_hand w ≡ Some s → IsInHand m shapes w s
   pub calls : AreCalls m.in_hand m.pending m.next
-
--- where no node has failed
-abbrev pub InvariantIn : (ℕ → Shape) → Machine → Type 0
-InvariantIn shapes m = InvariantUnder false shapes m
 
 -- what holds in every state of a run
 pub record Invariant (m : Machine) : Type 0 where
   pub shapes : ℕ → Shape
   pub holds : InvariantIn shapes m
-
--- what holds of it still where nodes have failed
-pub record InvariantAmidFailures (m : Machine) : Type 0 where
-  pub shapes : ℕ → Shape
-  pub holds : InvariantUnder true shapes m

@@ -1,5 +1,5 @@
 -- What the law of the machine says.
-use Rattle.std.specs.Prelude.{◌≡◌, ℕ, ◌+◌, ◌<◌, ◌≤◌, List, length, Option, Some, None, Bool, true}
+use Rattle.std.specs.Prelude.{◌≡◌, ℕ, ◌+◌, ◌<◌, ◌≤◌, List, length, Option, Some, None, true}
 use Rattle.ckpt_types.specs.declared.identities.CallId.{CallId}
 use Rattle.ckpt_types.specs.declared.identities.Who.{Who}
 use Rattle.node_msgs.specs.declared.steps.StepReply.{StepReply}
@@ -11,19 +11,17 @@ use Rattle.ckpt_types.specs.declared.words.OpWord.{OpWord}
 use Rattle.ckpt_types.specs.OpWord.{stepped_as}
 use Rattle.cluster_record.specs.RecordState.{is_up}
 use Rattle.cluster_record.specs.StepDone.{done_of, counting}
-use Rattle.ckpt_machine.specs.Invariant.{Invariant, InvariantUnder, InvariantAmidFailures}
+use Rattle.ckpt_machine.specs.Invariant.{Invariant}
 use Rattle.ckpt_machine.specs.Driving.{driver_taken}
 use Rattle.ckpt_machine.specs.Endings.{EndsKnown}
-use Rattle.ckpt_machine.specs.Entries.{AreApart}
 use Rattle.ckpt_machine.specs.Facts.{Facts}
 use Rattle.ckpt_machine.specs.Failing.{failed_at}
 use Rattle.ckpt_machine.specs.Guards.{Allowed}
-use Rattle.ckpt_machine.specs.Left.{steps_left}
+use Rattle.ckpt_machine.specs.Left.{steps_left, most_steps}
 use Rattle.ckpt_machine.specs.Machine.{Machine, CallState, empty_cluster}
 use Rattle.ckpt_machine.specs.Promises.{KeepsPromises}
 use Rattle.ckpt_machine.specs.Refusals.{IsRefusal, LeavesBy, unmade_swept}
 use Rattle.ckpt_machine.specs.Runs.{last, IsRun, Counts}
-use Rattle.ckpt_machine.specs.Shape.{Shape}
 use Rattle.ckpt_machine.specs.After.{after}
 use Rattle.ckpt_machine.specs.Due.{IsDue, driver_of, counted_at}
 
@@ -52,14 +50,15 @@ abbrev pub BringsNearer : Type 0
 BringsNearer =
     (m : Machine) (call : CallId) (op : OpWord) (verb : Verb) (k r : Option ℕ) (reply : StepReply) (details : Details) (s : CallState) → Invariant m
     → IsDue m (labels.Stepped call op verb k r reply None details) → m.in_hand (stepped_as call op) ≡ Some s
-    → let R = (after m (labels.Stepped call op verb k r reply None details)).cluster in
-    steps_left R (driver_taken (counting (counted_at m verb k r reply) (done_of R verb k r reply)) (driver_of s)) < steps_left m.cluster (driver_of s)
+    → let n = after m (labels.Stepped call op verb k r reply None details) in
+    steps_left n.cluster n.replicas (driver_taken (counting (counted_at m verb k r reply) (done_of n.cluster verb k r reply)) (driver_of s))
+    < steps_left m.cluster m.replicas (driver_of s)
 
--- of a call in hand at least one step is left, and at most 66
+-- of a call in hand at least one step is left: of an update on all replicas at most 41, of any other at most 66
 abbrev pub StepsAreFew : Type 0
 StepsAreFew =
     (m : Machine) (w : Who) (s : CallState) → Invariant m → m.in_hand w ≡ Some s
-    → (1 ≤ steps_left m.cluster (driver_of s)) × (steps_left m.cluster (driver_of s) ≤ 66)
+    → (1 ≤ steps_left m.cluster m.replicas (driver_of s)) × (steps_left m.cluster m.replicas (driver_of s) ≤ most_steps (driver_of s))
 
 -- what is allowed and ends a call with a refusal leaves all as it was, but that its call has ended, and what it was making is undone
 abbrev pub RefusalsLeave : Type 0
@@ -69,15 +68,9 @@ RefusalsLeave = (m : Machine) (l : Label) → Allowed m l → IsRefusal l → Le
 abbrev pub EndsAsItMay : Type 0
 EndsAsItMay = (m : Machine) (l : Label) → Allowed m l → EndsKnown l
 
--- behind the failure of a node that is up, whether nodes have failed before or not, the invariant holds, but for what it says of no failures alone
+-- behind the failure of a node that is up the invariant holds
 abbrev pub FailuresKeep : Type 0
-FailuresKeep = (failures : Bool) (shapes : ℕ → Shape) (m : Machine) (r : ℕ)
-    → InvariantUnder failures shapes m → is_up r m.cluster ≡ true → InvariantAmidFailures (failed_at r m)
-
--- where updates go to the actives alone, it holds whole behind that, and they still do: so what is due behind any number of failures is allowed
-abbrev pub FailuresKeepApart : Type 0
-FailuresKeepApart = (m : Machine) (r : ℕ) → Invariant m → AreApart m.cluster.entries → is_up r m.cluster ≡ true
-    → Invariant (failed_at r m) × AreApart (failed_at r m).cluster.entries
+FailuresKeep = (m : Machine) (r : ℕ) → Invariant m → is_up r m.cluster ≡ true → Invariant (failed_at r m)
 
 -- a claim about a log holds of each run
 abbrev pub OfEachRun : (List Label → Type 0) → Type 0

@@ -1,5 +1,6 @@
 -- How many steps are left of a call in hand, at most.
-use Rattle.std.specs.Prelude.{ℕ, ◌+◌, ◌*◌, List, [], ◌∷◌, Option, Some, None, Bool, if◌then◌else◌}
+use Rattle.std.specs.Option.{option_map}
+use Rattle.std.specs.Prelude.{ℕ, ◌+◌, ◌*◌, ◌==◌, List, [], ◌∷◌, Option, Some, None, is_some, Bool, false, not, if◌then◌else◌}
 use Rattle.ckpt_machine.specs.Drivers.{Driver}
 use Rattle.ckpt_machine.specs.Drivers as drivers
 use Rattle.cluster_record.specs.declared.calls.ActiveKind.{ActiveKind}
@@ -7,16 +8,19 @@ use Rattle.cluster_record.specs.declared.calls.ActiveKind.TheVariants as kinds
 use Rattle.cluster_record.specs.declared.calls.Making.{Making}
 use Rattle.cluster_record.specs.declared.calls.MarksMade.{MarksMade}
 use Rattle.cluster_record.specs.declared.calls.PulledAt.{PulledAt}
+use Rattle.cluster_record.specs.Calls.{same_call}
 use Rattle.cluster_record.specs.DueSync.{SyncState, is_unserved}
+use Rattle.cluster_record.specs.DueUpdate.{UpdateState}
+use Rattle.ckpt_machine.specs.Machine.{Staged, ReplicaState}
 use Rattle.ckpt_types.specs.declared.identities.CallId.{CallId}
 use Rattle.cluster_record.specs.declared.entries.Entry.{Entry}
 use Rattle.cluster_record.specs.declared.calls.SyncKind.{SyncKind}
 use Rattle.cluster_record.specs.declared.calls.SyncKind.TheVariants.{Synchronize, ActiveSet}
 use Rattle.ckpt_machine.specs.InHand.{is_held_by}
 use Rattle.cluster_record.specs.declared.calls.UpdatePhase.{UpdatePhase}
-use Rattle.cluster_record.specs.declared.calls.UpdatePhase.TheVariants.{Staging, Committing}
+use Rattle.cluster_record.specs.declared.calls.UpdatePhase.TheVariants.{Staging, Committing, Claiming, Claimed, Withdrawing, Resolving}
 use Rattle.cluster_record.specs.RecordState.{RecordState, entry_of, complete_of}
-use Rattle.cluster_record.specs.StepDone.{lacks, has}
+use Rattle.cluster_record.specs.StepDone.{lacks, has, first_lacking}
 
 -- how many of the nodes the call lacks, and has
 abbrev pub lacking : List ℕ → List ℕ → ℕ
@@ -35,10 +39,57 @@ abbrev pub making_left : RecordState → Option Making → ℕ
 making_left R None = 10
 making_left R (Some m) = if m.refused then 1 else lacking R.up m.reserved + 1
 
--- an update stages at each node that it lacks and then commits at all, or commits at those that it has; one step is left where it has none, a look
-abbrev pub update_left : List ℕ → List ℕ → UpdatePhase → ℕ
-update_left complete owned Staging = 2 * lacking complete owned + having complete owned + 1
-update_left complete owned Committing = having complete owned + 1
+-- one step is left where else none is: a look
+abbrev pub or_one : ℕ → ℕ
+or_one n = if n == 0 then 1 else n
+
+-- of an update that has no slot: it stages at each of so many nodes and then commits at all; but where a slot stands at the lowest of them, it is held
+-- off by that, claims at each and withdraws or commits there first
+abbrev pub afresh : ℕ → Bool → ℕ
+afresh nodes stands = if stands then 5 * nodes + 1 else 2 * nodes
+
+-- where it has none of its nodes, what is left of an update that has no slot; else so many
+abbrev pub unless_afresh : ℕ → ℕ → Bool → ℕ → ℕ
+unless_afresh had nodes stands steps = if had == 0 then afresh nodes stands else steps
+
+-- whose slot stands on a replica, if one does
+abbrev pub slot_owner : Option ReplicaState → Option CallId
+slot_owner None = None
+slot_owner (Some x) = option_map (λ (slot : Staged). slot.owner) x.slot
+
+-- and at the lowest node that a call lacks
+abbrev pub owner_met : (ℕ → Option ReplicaState) → Option ℕ → Option CallId
+owner_met replicas None = None
+owner_met replicas (Some r) = slot_owner (replicas r)
+
+-- it is another call than this one
+abbrev pub is_third : CallId → Option CallId → Bool
+is_third owner None = false
+is_third owner (Some by) = not (same_call by owner)
+
+-- one that is to claim meets the owner of each slot, of which there may be as many as nodes, and claims it; then it withdraws or commits what it has
+-- claimed, and does its own update
+abbrev pub claiming_left : ℕ → ℕ → Bool → ℕ
+claiming_left lacked had third = 2 * lacked + (if third then 1 else 0) + 3 * (lacked + had)
+
+-- by so many nodes that an update lacks, and has, and the owner of the slot that it is to meet: it stages at each node that it lacks and then commits
+-- at all, or commits at those that it has
+abbrev pub at_nodes_left : ℕ → ℕ → CallId → Option CallId → UpdatePhase → ℕ
+at_nodes_left lacked had owner met Staging = unless_afresh had lacked (is_some met) (2 * lacked + had)
+at_nodes_left lacked had owner met Committing = had
+at_nodes_left lacked had owner met Claiming = claiming_left lacked had (is_third owner met)
+at_nodes_left lacked had owner met Claimed = unless_afresh had lacked (is_some met) (claiming_left lacked had (is_third owner met))
+at_nodes_left lacked had owner met Withdrawing = unless_afresh had lacked (is_some met) (had + 2 * (lacked + had))
+at_nodes_left lacked had owner met Resolving = unless_afresh had lacked (is_some met) (had + 2 * (lacked + had))
+
+-- and a look where no step at a node is left
+abbrev pub update_left_by : ℕ → ℕ → CallId → Option CallId → UpdatePhase → ℕ
+update_left_by lacked had owner met phase = or_one (at_nodes_left lacked had owner met phase)
+
+-- the same by its nodes and by what they have
+abbrev pub update_left : List ℕ → (ℕ → Option ReplicaState) → UpdateState → ℕ
+update_left complete replicas u =
+    update_left_by (lacking complete u.owned) (having complete u.owned) u.owner (owner_met replicas (first_lacking 0 complete u.owned)) u.phase
 
 -- a weak write makes its marks, does each element and ends them; any other call to the active is of one step
 abbrev pub active_left : ActiveKind → Option MarksMade → ℕ
@@ -67,10 +118,15 @@ abbrev pub kind_left : Option Entry → SyncState → SyncKind → ℕ
 kind_left o s (Synchronize deadline) = sync_left (complete_of o) s s.pulled
 kind_left o s (ActiveSet local) = setting_left s.call o
 
--- at most so many steps are left of a call
-abbrev pub steps_left : RecordState → Driver → ℕ
-steps_left R (drivers.Once x) = 1
-steps_left R (drivers.Open o) = making_left R o.making
-steps_left R (drivers.Update u) = update_left (complete_of (entry_of u.ckpt R.entries)) u.owned u.phase
-steps_left R (drivers.Active a) = active_left a.kind a.marks
-steps_left R (drivers.Sync s) = kind_left (entry_of s.ckpt R.entries) s s.kind
+-- at most so many steps are left of a call, by the record and by what the nodes have
+abbrev pub steps_left : RecordState → (ℕ → ℕ → Option ReplicaState) → Driver → ℕ
+steps_left R replicas (drivers.Once x) = 1
+steps_left R replicas (drivers.Open o) = making_left R o.making
+steps_left R replicas (drivers.Update u) = update_left (complete_of (entry_of u.ckpt R.entries)) (replicas u.ckpt) u
+steps_left R replicas (drivers.Active a) = active_left a.kind a.marks
+steps_left R replicas (drivers.Sync s) = kind_left (entry_of s.ckpt R.entries) s s.kind
+
+-- an update on all replicas ends within 41 steps, any other call within 66
+abbrev pub most_steps : Driver → ℕ
+most_steps (drivers.Update u) = 41
+most_steps d = 66

@@ -1,10 +1,10 @@
+pub mod ByNumber
 pub mod Drivers
 pub mod Beginning
 pub mod Tables
 pub mod Driving
 pub mod Machine
 pub mod Whose
-pub mod OpensApart
 pub mod Options
 pub mod Complete
 pub mod Listing
@@ -41,6 +41,7 @@ pub mod RecordReady
 pub mod Asking
 pub mod RecordAfter
 pub mod Shown
+pub mod SixFacts
 pub mod Propagating
 pub mod Leading
 pub mod Taking

@@ -11,7 +11,9 @@ use Rattle.ckpt_types.specs.declared.answers.Outcome.{Outcome}
 use Rattle.ckpt_types.specs.declared.answers.Outcome.TheVariants.{Done, Refused}
 use Rattle.ckpt_types.specs.declared.attributes.CreationAttributes.{CreationAttributes}
 use Rattle.ckpt_types.specs.declared.identities.CallId.{CallId}
+use Rattle.ckpt_types.specs.declared.update.Update.{Update}
 use Rattle.ckpt_types.specs.Limits.{clients_max, checkpoints_max, handles_max, iterations_max}
+use Rattle.node_msgs.specs.declared.details.Details.{Details}
 use Rattle.node_msgs.specs.declared.steps.StepReply.{StepReply}
 use Rattle.node_msgs.specs.declared.steps.StepReply.TheVariants as words
 use Rattle.cluster_record.specs.declared.entries.Entry.{Entry}
@@ -20,9 +22,13 @@ use Rattle.cluster_record.specs.RecordState.{entry_of, named, is_live}
 use Rattle.cluster_record.specs.DueOpen.{accepts}
 use Rattle.ckpt_types.specs.Asks.{Ask, asked}
 use Rattle.ckpt_types.specs.Asks as asks
+use Rattle.node_core.specs.Serving.{update_answer}
+use Rattle.cluster_record.specs.Placement.{is_all}
+use Rattle.ckpt_machine.specs.Complete.{complete_replicas}
 use Rattle.ckpt_machine.specs.Machine.{Machine, Snapshot, CallState}
-use Rattle.ckpt_machine.specs.Due.{rooms_of}
-use Rattle.ckpt_machine.specs.GuardTerms.{IsInTime, deadline_of}
+use Rattle.ckpt_machine.specs.Owned.{HasUpdate}
+use Rattle.ckpt_machine.specs.Due.{rooms_of, look_details}
+use Rattle.ckpt_machine.specs.GuardTerms.{IsInTime, OnEach, deadline_of, owns_slot}
 use Rattle.ckpt_machine.specs.ActiveGuards.{all_served, HasMarkedIn}
 
 -- ---- what the record and the client's tables decide
@@ -154,10 +160,17 @@ LookRefused m s ask error cause = ⊥
 abbrev pub SyncDone : Machine → CallState → ℕ → Entry → Snapshot → Type 0
 SyncDone m s count e pulled = (pulled.generation ≡ e.generation) × (length pulled.effects ≡ count) × (all_served s.steps 0 e.complete ≡ true)
 
--- nothing is left to do: a close of a checkpoint that is gone, or a synchronisation
+-- an update on all replicas is done: no complete replica has a slot of the call, and each has the update
+abbrev pub IsUpdated : Machine → CallId → Update → ℕ → Entry → Type 0
+IsUpdated m call update k e =
+    (is_all e.attributes ≡ true) × OnEach (λ y. (owns_slot call y.slot ≡ false) × HasUpdate call update y.effects) (complete_replicas m k)
+
+-- nothing is left to do: a close of a checkpoint that is gone, a synchronisation, or an update whose last slots went with their nodes
 abbrev pub LookDone : Machine → CallState → Ask → Answer → Type 0
 LookDone m s (asks.Close place) answers.Nothing = IsSomeAnd s.kept.ckpt (λ k. entry_of k m.cluster.entries ≡ None)
 LookDone m s (asks.Synchronize place timeout) (answers.Pulled count) = OnLed m s.kept.ckpt (λ e. IsSomeAnd s.snapshot (SyncDone m s count e)) × IsInTime m s
+LookDone m s (asks.Change place update) answer =
+    (answer ≡ update_answer update) × IsSomeAnd s.kept.ckpt (λ k. IsSomeAnd (entry_of k m.cluster.entries) (IsUpdated m s.call update k))
 LookDone m s ask answer = ⊥
 
 -- the record alone refuses the call, or has nothing left for it to do
@@ -165,3 +178,8 @@ abbrev pub LookRow : Machine → CallState → StepReply → Option Outcome → 
 LookRow m s words.Refused (Some (Refused error cause)) = LookRefused m s (asked s.op) error cause
 LookRow m s words.Done (Some (Done answer)) = LookDone m s (asked s.op) answer
 LookRow m s reply end = ⊥
+
+-- what is told beside it: of a creation the identifier that it has made
+abbrev pub LookTold : CallState → Option Outcome → Details → Type 0
+LookTold s (Some o) details = details ≡ look_details s o
+LookTold s None details = ⊥

@@ -13,6 +13,7 @@ use Rattle.node_core.specs.Failing.{node_left}
 use Rattle.node_core.specs.Nodes.{NodeState, replica_key, replicas_after, seen_for, is_there}
 use Rattle.node_core.specs.Payloads.{Payload}
 use Rattle.node_core.specs.Seen.{entry_seen}
+use Rattle.ckpt_machine.specs.ByNumber.{each_by_number}
 
 -- the node of a number
 abbrev pub node_at : List (List Replica) → ℕ → NodeState
@@ -58,11 +59,10 @@ freed entries nodes = map (filter (is_there entries)) nodes
 
 -- ---- what the failure of a node leaves
 
--- from the node of a number on, by the record behind the failure
-abbrev pub left_from : RecordState → ℕ → ℕ → List (List Replica) → List (List Replica)
-left_from R failed n [] = []
-left_from R failed n (xs ∷ nodes) = (node_left R failed (record { number = n; replicas = xs })).replicas ∷ left_from R failed (n + 1) nodes
+-- of the replicas on the node of a number, by the record behind the failure
+abbrev pub left_on_node : RecordState → ℕ → ℕ → List Replica → List Replica
+left_on_node R failed n xs = (node_left R failed (record { number = n; replicas = xs })).replicas
 
 -- what the failure of a node leaves of all of them, by the record behind it
 abbrev pub nodes_left : RecordState → ℕ → List (List Replica) → List (List Replica)
-nodes_left R failed nodes = left_from R failed 0 nodes
+nodes_left R failed nodes = each_by_number (left_on_node R failed) 0 nodes

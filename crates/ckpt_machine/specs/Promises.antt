@@ -36,7 +36,7 @@ pub record KeepsPromises (log : List Label) : Type 0 where
   -- only what was asked for is done: each effect of each replica, and what is staged or marked there, is of a call that began in the log with this very
   -- update, of this very checkpoint
   pub asked : OnlyAskedThroughout log
-  -- slots, marks, makings and holds are of calls in hand alone, so a call that has ended leaves none
+  -- marks, makings and holds are of calls in hand alone, and slots of such or of calls that were abandoned, so a call that has ended leaves none
   pub owners : OwnersInHandThroughout log
   -- behind the setting of an active that was answered OK, the client's node is the active, and has what the one before it had
   pub actives : ActivesAreSet log

@@ -8,7 +8,7 @@ use Rattle.ckpt_types.specs.Updates.{outcome}
 use Rattle.ckpt_types.specs.Limits.{nodes_max}
 use Rattle.cluster_record.specs.declared.entries.Entry.{Entry}
 use Rattle.cluster_record.specs.declared.calls.UpdatePhase.{UpdatePhase}
-use Rattle.cluster_record.specs.declared.calls.UpdatePhase.TheVariants.{Staging, Committing}
+use Rattle.cluster_record.specs.declared.calls.UpdatePhase.TheVariants.{Staging, Committing, Claiming, Claimed, Withdrawing, Resolving}
 use Rattle.cluster_record.specs.Calls.{same_call}
 use Rattle.cluster_record.specs.DueActive.{ActiveState}
 use Rattle.cluster_record.specs.DueUpdate.{UpdateState}
@@ -17,7 +17,7 @@ use Rattle.weak_marks.specs.Marks.{Marked, elements_in}
 use Rattle.cluster_record.specs.declared.calls.SyncKind.TheVariants.{ActiveSet}
 use Rattle.cluster_record.specs.DueSync.{SyncState}
 use Rattle.cluster_record.specs.Placement.{is_collocated}
-use Rattle.cluster_record.specs.RecordState.{first_complete, is_live}
+use Rattle.cluster_record.specs.RecordState.{first_complete}
 use Rattle.ckpt_machine.specs.Drivers as drivers
 use Rattle.ckpt_types.specs.Asks.{update_of}
 use Rattle.ckpt_machine.specs.Machine.{Machine, Effect, Applied, Staged, ReplicaState, CallState, who}
@@ -112,10 +112,25 @@ pub record IsCommitting (sh : Shape) (s : CallState) : Type 0 where
   pub is_done : sh.done ≡ true
   pub alone : AreOwn sh s.call
 
--- it does what its phase says
+-- it has claimed slots of an update whose call is gone, and keeps how many updates the replicas have under it
+pub record IsClaimed (m : Machine) (sh : Shape) (u : UpdateState) : Type 0 where
+  pub origin : IsDead m sh.origin
+  pub count : u.count ≡ length sh.effects
+
+-- it has claimed them all, and the replicas without a slot have the update, or none has it
+pub record IsSettling (m : Machine) (sh : Shape) (s : CallState) (done : Bool) : Type 0 where
+  pub origin : IsDead m sh.origin
+  pub done_is : sh.done ≡ done
+  pub alone : AreOwn sh s.call
+
+-- it does what its phase says; one that is to claim owns nothing yet
 abbrev pub PhaseFits : Machine → Shape → CallState → UpdateState → UpdatePhase → Type 0
 PhaseFits m sh s u Staging = IsStaging sh s u
 PhaseFits m sh s u Committing = IsCommitting sh s
+PhaseFits m sh s u Claiming = ⊥
+PhaseFits m sh s u Claimed = IsClaimed m sh u
+PhaseFits m sh s u Withdrawing = IsSettling m sh s false
+PhaseFits m sh s u Resolving = IsSettling m sh s true
 
 -- the call is in hand, an update of this checkpoint
 pub record IsOwner (m : Machine) (k : ℕ) (sh : Shape) (call : CallId) : Type 0 where
@@ -177,7 +192,7 @@ pub record IsOnHold (m : Machine) (k : ℕ) (sh : Shape) (e : Entry) (call : Cal
 -- a checkpoint that is made has its replicas on its complete nodes, which are up, and of which one is the active, or none of a collocated one; the slots
 -- are on the lowest of them, first those of a call in hand, and then those of dead ones; the marks on the active are of a call in hand, and so is the
 -- hold on the checkpoint
-pub record IsSpreadUnder (failures : Bool) (m : Machine) (k : ℕ) (sh : Shape) (e : Entry) : Type 0 where
+pub record IsSpread (m : Machine) (k : ℕ) (sh : Shape) (e : Entry) : Type 0 where
   pub nodes : length e.complete ≡ nodes_max
   pub some : IsSome (first_complete 0 e.complete)
   pub up : NodesAreUp m.cluster.up e
@@ -191,12 +206,6 @@ pub record IsSpreadUnder (failures : Bool) (m : Machine) (k : ℕ) (sh : Shape) 
   -- below a slot of a call in hand all are its own
   pub first : (q r : ℕ) (call : CallId) → q < r → IsCompleteOn e q → sh.owners r ≡ Some call → IsOwner m k sh call → sh.owners q ≡ Some call
   pub owned : (r : ℕ) (call : CallId) → sh.owners r ≡ Some call → IsOwner m k sh call ⊎ IsLeft m sh call
-  -- while no node fails no owner is dead
-  pub live : failures ≡ false → (r : ℕ) (call : CallId) → sh.owners r ≡ Some call → is_live m.cluster call ≡ true
   pub led : (marks : Marked) → sh.marks ≡ Some marks → IsSome e.active
   pub marked : (marks : Marked) → sh.marks ≡ Some marks → IsMarker m k marks
   pub held : (call : CallId) → e.hold ≡ Some call → IsOnHold m k sh e call
-
--- where no node has failed
-abbrev pub IsSpread : Machine → ℕ → Shape → Entry → Type 0
-IsSpread m k sh e = IsSpreadUnder false m k sh e

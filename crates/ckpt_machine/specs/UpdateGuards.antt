@@ -1,5 +1,5 @@
 -- Which steps of an update on all replicas the machine allows, with their answers and causes.
-use Rattle.std.specs.Prelude.{◌≡◌, ◌⊎◌, ℕ, List, [], ◌∷◌, ◌++◌, Option, Some, None, IsSomeAnd, Err, IsOk, Bool, true, false, not, ◌&&◌, if◌then◌else◌}
+use Rattle.std.specs.Prelude.{◌≡◌, ◌≢◌, ◌⊎◌, ℕ, List, [], ◌∷◌, ◌++◌, length, Option, Some, None, IsSomeAnd, Err, IsOk, Bool, false, not, ◌&&◌, if◌then◌else◌}
 use Rattle.ckpt_types.specs.declared.ais_error.AisError.TheVariants as errors
 use Rattle.ckpt_types.specs.declared.answers.Cause.TheVariants.{Holder}
 use Rattle.ckpt_types.specs.declared.answers.Outcome.{Outcome}
@@ -40,12 +40,11 @@ pub record StageRefused (m : Machine) (s : CallState) (update : Update) (k : ℕ
   -- the cause is the index for a write alone
   pub answer : end ≡ Some (Refused why.error (refused_cause s.op why.index))
 
--- held: another call owns the slot; where that call is live, this one is to try again
+-- held: another call owns the slot; where that call is live, this one is to try again, and else it goes on
 pub record StageHeld (m : Machine) (call by : CallId) (end : Option Outcome) (x : ReplicaState) : Type 0 where
   pub owner : IsSomeAnd x.slot (λ slot. slot.owner ≡ by)
   pub another : same_call by call ≡ false
-  pub live : is_live m.cluster by ≡ true
-  pub answer : end ≡ Some (Refused errors.TryAgain (Holder by))
+  pub answer : end ≡ (if is_live m.cluster by then Some (Refused errors.TryAgain (Holder by)) else None)
 
 -- a stage is done, refused by the sections, or held off by another call
 abbrev pub StageRow : Machine → CallState → Update → ℕ → ℕ → StepReply → Option Outcome → Type 0
@@ -53,6 +52,38 @@ StageRow m s update k r words.Ok end = OnAll m k r (StageOk m s.call update k) �
 StageRow m s update k r words.Refused end = OnAll m k r (StageRefused m s update k end)
 StageRow m s update k r (words.Held by) end = OnAll m k r (λ e x. StageHeld m s.call by end x)
 StageRow m s update k r reply end = ⊥
+
+-- claimed: the slot is of a call that is not live, or of this one
+pub record ClaimOk (m : Machine) (call : CallId) (end : Option Outcome) (x : ReplicaState) : Type 0 where
+  pub owner : IsSomeAnd x.slot (λ slot. (slot.owner ≡ call) ⊎ (is_live m.cluster slot.owner ≡ false))
+  pub answer : end ≡ None
+
+-- free: no slot stands, and the replica has so many updates
+pub record ClaimFree (count : ℕ) (end : Option Outcome) (x : ReplicaState) : Type 0 where
+  pub free : x.slot ≡ None
+  pub count_is : count ≡ length x.effects
+  pub answer : end ≡ None
+
+-- a claim is done, finds no slot, or is held off by another call
+abbrev pub ClaimRow : Machine → CallState → ℕ → ℕ → StepReply → Option Outcome → Type 0
+ClaimRow m s k r words.Ok end = OnAll m k r (λ e x. ClaimOk m s.call end x)
+ClaimRow m s k r (words.Free count) end = OnAll m k r (λ e x. ClaimFree count end x)
+ClaimRow m s k r (words.Held by) end = OnAll m k r (λ e x. StageHeld m s.call by end x)
+ClaimRow m s k r reply end = ⊥
+
+-- withdrawn: the call owns the slot, whose update is of a call that is not live, and which no complete replica has
+pub record WithdrawOk (m : Machine) (call : CallId) (k : ℕ) (end : Option Outcome) (x : ReplicaState) : Type 0 where
+  pub slot : Staged
+  pub staged : x.slot ≡ Some slot
+  pub owner : slot.owner ≡ call
+  pub origin : is_live m.cluster slot.origin ≡ false
+  pub none_has : OnEach (λ y. y.effects ≢ x.effects ++ effect_of slot ∷ []) (complete_replicas m k)
+  pub answer : end ≡ None
+
+-- a withdrawal is done
+abbrev pub WithdrawRow : Machine → CallState → ℕ → ℕ → StepReply → Option Outcome → Type 0
+WithdrawRow m s k r words.Ok end = OnAll m k r (λ e x. WithdrawOk m s.call k end x)
+WithdrawRow m s k r reply end = ⊥
 
 -- the replica has the same slot still, or has committed it
 abbrev pub HasSlotOrEffect : ReplicaState → Staged → ReplicaState → Option Staged → Type 0

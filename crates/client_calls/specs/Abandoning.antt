@@ -1,21 +1,16 @@
 -- What the failure of a node makes of a client's call in hand, and of its table, where the client is on the node.
-use Rattle.std.specs.Prelude.{ℕ, List, [], Option, Some, None, Bool, ◌||◌, if◌then◌else◌}
-use Rattle.ckpt_types.specs.Asks.{asked}
+use Rattle.std.specs.Prelude.{ℕ, List, [], Option, Some, None, Bool, if◌then◌else◌}
 use Rattle.call_dispatch.specs.PendingCalls.{no_pending}
 use Rattle.client_handles.specs.ClientState.{emptied}
 use Rattle.cluster_record.specs.RecordState.{RecordState}
-use Rattle.ckpt_machine.specs.Failing.{is_of_node, enters_on}
+use Rattle.ckpt_machine.specs.Failing.{is_abandoned}
 use Rattle.client_calls.specs.TableState.{TableState, with_calls, with_client}
 use Rattle.client_calls.specs.declared.in_hand.InHand.{InHand}
-
--- the call is abandoned: it is of a client on the node, or an Initialize that names the node
-abbrev pub is_abandoned_hand : RecordState → ℕ → InHand → Bool
-is_abandoned_hand R r h = is_of_node R r h.call.actor || enters_on r (asked h.op)
 
 -- what is in hand at a place behind the failure
 abbrev pub place_left : RecordState → ℕ → Option InHand → Option InHand
 place_left R r None = None
-place_left R r (Some h) = if is_abandoned_hand R r h then None else Some h
+place_left R r (Some h) = if is_abandoned R r h.call h.op then None else Some h
 
 -- the table of a client that goes: without its handles and iterations, and its asynchronous calls
 abbrev pub table_gone : TableState → TableState

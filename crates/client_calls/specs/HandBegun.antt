@@ -1,5 +1,5 @@
 -- A call as it is in hand from its beginning.
-use Rattle.std.specs.Prelude.{◌≡◌, Some}
+use Rattle.std.specs.Prelude.{◌≡◌, Some, None}
 use Rattle.ckpt_types.specs.declared.identities.CallId.{CallId}
 use Rattle.ckpt_types.specs.declared.operation.Op.{Op}
 use Rattle.ckpt_types.specs.Asks.{asked}
@@ -13,4 +13,5 @@ pub record IsHandBegun (call : CallId) (op : Op) (kept : Kept) (hand : InHand) :
   pub op_is : hand.op ≡ op
   pub iteration : hand.iteration ≡ room_for (asked op) kept.room
   pub snapshot : hand.snapshot ≡ copy_room_for (asked op) kept.declares
+  pub made : hand.made ≡ None
   pub driven : driver_start call (asked op) kept ≡ Some hand.driver

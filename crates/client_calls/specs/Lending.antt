@@ -28,11 +28,10 @@ pub record IsLentRead (op : Op) (lent : Lent) : Type 0 where
   pub vector : lent.vector ≡ Some (elements_of op)
   pub room : IsSomeAnd lent.read (HasRoomToRead (elements_of op))
 
--- a share of the call's update, room for the identifier that its commit tells, both where it is made at once, what a read wants, a place for a status,
--- or one for a section
+-- a share of the call's update, that with room for the identifier that it tells where it is made at once, what a read wants, a place for a status, or one
+-- for a section
 abbrev pub IsLentBy : Op → Request → Lent → Type 0
 IsLentBy op (requests.Stage call k t) lent = lent.update ≡ Some (update_of op)
-IsLentBy op (requests.Commit call k) lent = HasRoomToTell (update_of op) lent.read
 IsLentBy op (requests.Apply call k) lent = IsLentUpdate op lent
 IsLentBy op (requests.Mark call k) lent = lent.update ≡ Some (update_of op)
 IsLentBy op (requests.Read k) lent = IsLentRead op lent

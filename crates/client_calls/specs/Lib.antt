@@ -9,6 +9,7 @@ pub mod HandRooms
 pub mod HandSteps
 pub mod Standings
 pub mod UpdateSteps
+pub mod MadeIds
 pub mod Taking
 pub mod TableSettling
 pub mod Names

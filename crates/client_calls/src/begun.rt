@@ -65,7 +65,7 @@ pub fn begin_hand(
     rooms: HandRooms,
 ) -> Result<InHand, AllocError>
     requires goes_on { IsSome (driver_start call (asked op.now) (kept_at_beginning cluster.now (client_of call) handle.now)) }
-    ensures hand { IfOk result (λ hand. hand ≡ record hand { call = call; op = op.now; iteration = rooms.iteration; snapshot = rooms.snapshot }) }
+    ensures hand { IfOk result (λ hand. hand ≡ record hand { call = call; op = op.now; iteration = rooms.iteration; snapshot = rooms.snapshot; made = None }) }
     ensures driver { IfOk result (λ hand. driver_start call (asked op.now) (kept_at_beginning cluster.now (client_of call) handle.now) ≡ Some hand.driver) }
 {
     let driver = Driver::start(call, op, handle, cluster)?;
@@ -76,6 +76,7 @@ pub fn begin_hand(
         driver,
         iteration: rooms.iteration,
         snapshot: rooms.snapshot,
+        made: None,
     })
 }
 

@@ -8,6 +8,9 @@ ghost use Rattle.node_msgs.specs.declared.replies.Reply.TheVariants as replies;
 ghost use Rattle.node_msgs.specs.declared.steps.StepReply.TheVariants as words;
 ghost use Rattle.node_msgs.specs.declared.steps.Verb.TheVariants as verbs;
 ghost use Rattle.client_calls.specs.UpdateSteps.{IsUpdate};
+ghost use Rattle.client_calls.specs.MadeIds.{looked_details, looked_end, made_behind, pieces_of};
+ghost use Rattle.ckpt_machine.specs.Due.{ended_details};
+ghost use Rattle.node_core.specs.Details.{details_told, pieces_told};
 ghost use Rattle.cluster_record.specs.Ends.{ended_unless};
 ghost use Rattle.ckpt_types.specs.Limits.{nodes_max};
 ghost use Rattle.cluster_record.specs.Calls.{left};
@@ -18,10 +21,13 @@ ghost use Rattle.client_calls.specs.CallStates.{synchronized_by};
 ghost use Rattle.ckpt_types.specs.declared.identities.Who.TheVariants.{Actor};
 ghost use Rattle.client_calls.specs.Names.{client_by};
 
+use crate::details::told_details;
 use crate::drivers::{Driver, DriverKind};
-use ckpt_types::{Answer, CallId, Cause, CkptId, NodeId, Op, Outcome, Who};
+use crate::lending::creates;
+use ckpt_types::{Answer, CallId, Cause, CkptId, NodeId, Op, Outcome, Pieces, ReadBuf, Who};
 use cluster_record::{Record, number_of};
-use node_msgs::Reply;
+use node_core::Lent;
+use node_msgs::{Details, Reply, Request};
 use run_labels::OpWord;
 use section_iter::Iteration;
 use snap_copy::Snap;
@@ -39,6 +45,8 @@ pub struct InHand {
     pub iteration: Option<Iteration>,
     /// The room that it took for a snapshot, with what it has pulled.
     pub snapshot: Option<Snap>,
+    /// The identifier of the section that a creation has made by its commits so far.
+    pub made: Option<Pieces>,
 }
 
 impl InHand {
@@ -124,6 +132,53 @@ impl InHand {
         self.snapshot.take()
     }
 
+    /// What the label of a step tells beside its end, where it ended the call: what came with the reply. Behind a commit
+    /// that does not end it, a creation keeps the identifier that this has told. It takes no memory.
+    pub fn tell(
+        &mut self,
+        request: &Request,
+        reply: &Reply,
+        end: &Option<Outcome>,
+        lent: Lent,
+    ) -> Details
+        ensures details { result ≡ ended_details end.now (details_told reply.now lent) }
+        ensures made { left end.now self.new ≡ left end.now (record self.old { made = made_behind self.old.op request.now reply.now (details_told reply.now lent) self.old.made }) }
+    {
+        match end {
+            None => {
+                let mut lent = lent;
+                self.keep_made(request, reply, &mut lent);
+                Details::Nothing
+            }
+            Some(_) => told_details(end, reply, lent),
+        }
+    }
+
+    // A creation keeps the identifier that its commit has told.
+    #[inline(always)]
+    fn keep_made(&mut self, request: &Request, reply: &Reply, lent: &mut Lent)
+        ensures { self.new ≡ record self.old { made = made_behind self.old.op request.now reply.now (details_told reply.now lent.old) self.old.made } }
+    {
+        if let (Request::Commit(_, _), Reply::Done(Answer::Created)) = (request, reply) {
+            if creates(&self.op) {
+                self.made = pieces_kept(lent.read.take());
+            }
+        }
+    }
+
+    /// How a look ends the call, by what the record says, and what is told beside that: of a creation of which nothing is
+    /// left the identifier that it has made.
+    #[inline(never)]
+    pub fn look(&mut self, end: Outcome) -> (Outcome, Details)
+        ensures end { result.0 ≡ looked_end self.old.op end }
+        ensures details { result.1 ≡ looked_details result.0 self.old.made }
+        ensures new { self.new ≡ record self.old { made = None } }
+    {
+        let end = look_end(&self.op, end);
+        let details = look_details(&end, self.made.take());
+        (end, details)
+    }
+
     /// The checkpoint that it synchronizes, or whose active it sets.
     pub fn synchronized(&self) -> CkptId
         requires { IsSome (synchronized_by self.now.driver) }
@@ -133,6 +188,42 @@ impl InHand {
             unreachable!()
         };
         sync.ckpt()
+    }
+}
+
+// The pieces in a buffer, if there is one.
+fn pieces_kept(read: Option<ReadBuf>) -> Option<Pieces>
+    ensures { result ≡ pieces_of (pieces_told read) }
+{
+    match read {
+        None => None,
+        Some(read) => Some(Pieces::from_buf(read)),
+    }
+}
+
+// How a look ends a call: where nothing is left of an update, by what that answers.
+fn look_end(op: &Op, end: Outcome) -> Outcome
+    ensures { result ≡ looked_end op.now end }
+{
+    match end {
+        Outcome::Done(Answer::Nothing) => {
+            if creates(op) {
+                Outcome::Done(Answer::Created)
+            } else {
+                end
+            }
+        }
+        _ => end,
+    }
+}
+
+// What is told beside the end of a look: what a creation has kept.
+fn look_details(end: &Outcome, made: Option<Pieces>) -> Details
+    ensures { result ≡ looked_details end.now made }
+{
+    match (end, made) {
+        (Outcome::Done(Answer::Created), Some(pieces)) => Details::Pieces(pieces),
+        _ => Details::Nothing,
     }
 }
 

@@ -2,7 +2,7 @@
 ghost use Rattle.std.specs.Prelude.{◌≡◌, ◌^◌, ◌<◌, [], length, None, IfOk, IsSome, MatchOption};
 ghost use Rattle.ckpt_types.specs.Asks.{update_of, elements_of};
 ghost use Rattle.ckpt_types.specs.declared.update.Update.TheVariants as updates;
-ghost use Rattle.node_core.specs.Lending.{bytes_asked, nothing_lent, HasRoomToTell};
+ghost use Rattle.node_core.specs.Lending.{bytes_asked, nothing_lent, HasRoomToCommit, HasRoomToTell};
 ghost use Rattle.client_calls.specs.Lending.{IsLentBy, IsLentRead, IsLentUpdate};
 ghost use Rattle.client_calls.specs.UpdateSteps.{is_creation};
 
@@ -13,6 +13,7 @@ use ckpt_types::{
 };
 use node_core::{Lent, bytes_asked};
 use node_msgs::Request;
+use stage_slot::Slot;
 use std::alloc::{AllocError, Global};
 
 /// What a place for a status has before the status is told.
@@ -22,9 +23,9 @@ const NO_STATUS: CheckpointDescriptor = CheckpointDescriptor {
     memory_used: 0,
 };
 
-/// What a call of this operation lends to a request, an iteration aside: a share of its update, a buffer with room
-/// for the identifier of a new section, a share of its elements with a buffer that has room for what they may give,
-/// or a place for a status or a section.
+/// What a call of this operation lends to a request, an iteration aside: a share of its update, with a buffer that has
+/// room for the identifier of a new section where it is made at once, a share of its elements with a buffer that has
+/// room for what they may give, or a place for a status or a section. `commit_lent` tells what a commit wants.
 pub fn lent_by(alloc: Global, op: &Op, request: &Request) -> Result<Lent, AllocError>
     ensures lent { IfOk result (IsLentBy op.now request.now) }
     ensures iteration { IfOk result (λ lent. lent.iteration ≡ None) }
@@ -34,16 +35,25 @@ pub fn lent_by(alloc: Global, op: &Op, request: &Request) -> Result<Lent, AllocE
             let update = share_update(alloc, op)?;
             Ok(lent_of(None, None, Some(update)))
         }
-        Request::Commit(_, _) => {
-            let read = room_for_id(alloc, op)?;
-            Ok(lent_of(read, None, None))
-        }
         Request::Apply(_, _) => apply_lent(alloc, op),
         Request::Read(_) => read_lent(alloc, op),
         Request::Status(_) => status_lent(alloc),
         Request::Next(_, _) => section_lent(alloc),
         _ => Ok(Lent::nothing()),
     }
+}
+
+/// What the commit of a slot wants: room for the identifier of the section that its update makes, if it makes one. It is
+/// the update of the slot and not that of the call, which commits what another has staged where it has claimed that.
+pub fn commit_lent(alloc: Global, slot: &Slot) -> Result<Lent, AllocError>
+    ensures room { IfOk result (λ lent. HasRoomToCommit slot.now lent.read) }
+    ensures iteration { IfOk result (λ lent. lent.iteration ≡ None) }
+{
+    let Some(staged) = slot.kept() else {
+        return Ok(Lent::nothing());
+    };
+    let read = room_for_id(alloc, staged.update.value())?;
+    Ok(lent_of(read, None, None))
 }
 
 // A buffer, the elements of a read, and an update are lent, those that there are, and nothing else.
@@ -66,8 +76,8 @@ fn apply_lent(alloc: Global, op: &Op) -> Result<Lent, AllocError>
     ensures lent { IfOk result (IsLentUpdate op.now) }
     ensures iteration { IfOk result (λ lent. lent.iteration ≡ None) }
 {
-    let read = room_for_id(alloc, op)?;
     let update = share_update(alloc, op)?;
+    let read = room_for_id(alloc, update.value())?;
     Ok(lent_of(read, None, Some(update)))
 }
 
@@ -106,12 +116,9 @@ fn section_lent(alloc: Global) -> Result<Lent, AllocError>
 }
 
 // Room for the identifier that an update tells, if it makes a section.
-fn room_for_id(alloc: Global, op: &Op) -> Result<Option<ReadBuf>, AllocError>
-    ensures { IfOk result (HasRoomToTell (update_of op.now)) }
+fn room_for_id(alloc: Global, update: &Update) -> Result<Option<ReadBuf>, AllocError>
+    ensures { IfOk result (HasRoomToTell update.now) }
 {
-    let Some(update) = update_in(op) else {
-        return Ok(None);
-    };
     match update {
         Update::Create(NewId::Given(id), _, _) => {
             Ok(Some(ReadBuf::reserve(alloc, 1, id.as_slice().len())?))
@@ -123,8 +130,8 @@ fn room_for_id(alloc: Global, op: &Op) -> Result<Option<ReadBuf>, AllocError>
     }
 }
 
-/// The update that an operation asks for, if it asks for one.
-pub fn update_in(op: &Op) -> Option<&Update>
+// The update that an operation asks for, if it asks for one.
+fn update_in(op: &Op) -> Option<&Update>
     ensures { MatchOption result (update_of op.now ≡ updates.Nothing) (λ update. update_of op.now ≡ update.now) }
 {
     match op {

@@ -8,6 +8,7 @@ ghost use Rattle.std.specs.Prelude.{◌≡◌, Some, None};
 ghost use Rattle.ckpt_types.specs.declared.answers.Answer.TheVariants as answers;
 ghost use Rattle.ckpt_types.specs.declared.answers.Outcome.TheVariants.{Done};
 ghost use Rattle.node_msgs.specs.declared.steps.StepReply.TheVariants as words;
+ghost use Rattle.node_msgs.specs.declared.steps.Verb.TheVariants as verbs;
 ghost use Rattle.node_msgs.specs.declared.details.Details.TheVariants as beside;
 ghost use Rattle.node_msgs.specs.Requests.{ckpt_of};
 ghost use Rattle.node_msgs.specs.Steps.{verb_of, word_of};
@@ -106,6 +107,22 @@ pub fn done(call: CallId, op: OpWord, verb: Verb, ckpt: CkptId, r: NodeId) -> La
 {
     let end = Some(Outcome::Done(Answer::Nothing));
     stepped(call, op, verb, Some(ckpt), Some(r), StepReply::Ok, end)
+}
+
+/// A look at the record has ended a call, and this is told beside it.
+pub fn looked(call: CallId, op: OpWord, reply: StepReply, end: Outcome, details: Details) -> Label
+    ensures { result ≡ labels.Stepped call op verbs.Look None None reply (Some end) details }
+{
+    Label::Stepped {
+        call,
+        op,
+        verb: Verb::Look,
+        ckpt: None,
+        node: None,
+        reply,
+        end: Some(end),
+        details,
+    }
 }
 
 /// A word answers the line of a client that asks for this.

@@ -1,5 +1,5 @@
 //! The nodes n0 to n7, and the requests that they serve.
-ghost use Rattle.std.specs.Prelude.{◌≡◌, ℕ, ◌^◌, ◌<◌, ◌≤◌, ◌==◌, count_by, [], None, Some, IfOk, IfSome, IsSome, MatchOption, OnErr, OnOk, false, length, replicate};
+ghost use Rattle.std.specs.Prelude.{◌≡◌, ℕ, ◌^◌, ◌<◌, ◌≤◌, ◌==◌, [], None, Some, IfOk, IfSome, IsSome, MatchOption, OnErr, OnOk, false, length, replicate};
 ghost use Rattle.std.specs.Borrow.{sem};
 ghost use Rattle.ckpt_types.specs.Attributes.{is_malformed};
 ghost use Rattle.ckpt_types.specs.declared.answers.Answer.TheVariants as answers;
@@ -8,6 +8,7 @@ ghost use Rattle.ckpt_types.specs.Reads.{read};
 ghost use Rattle.node_msgs.specs.declared.replies.Reply.TheVariants as replies;
 ghost use Rattle.cluster_record.specs.RecordState.{entry_of};
 ghost use Rattle.node_core.specs.Details.{details_told};
+ghost use Rattle.node_core.specs.Failing.{HoldsEachOnce};
 ghost use Rattle.ckpt_machine.specs.Asking.{MayCome, KeepsToDeclared};
 ghost use Rattle.node_core.specs.Lending.{HasRoomToRead};
 ghost use Rattle.node_core.specs.Nodes.{MayReply, seen_for, served_for};
@@ -15,7 +16,6 @@ ghost use Rattle.node_core.specs.Payloads.{payload_of};
 ghost use Rattle.node_core.specs.Serving.{details_at, done_or_refused, iteration_behind, snapshot_behind};
 ghost use Rattle.ckpt_machine.specs.Holding.{replicas_on};
 ghost use Rattle.ckpt_machine.specs.Nodes.{freed, nodes_left};
-ghost use Rattle.replica.specs.Replicas.{Replica};
 ghost use Rattle.ckpt_machine.specs.Nodes.{node_at, nodes_after, nodes_shown, replica_in, with_added, StandByNumber};
 ghost use Rattle.cluster_nodes.specs.ReplicaLending.{LendsReplica};
 
@@ -156,7 +156,7 @@ impl Nodes {
 
     /// What the failure of a node leaves of all, by the record behind it. It takes no memory.
     pub fn fail(&mut self, seen: &Record, failed: NodeId)
-        requires { (r k : ℕ) → count_by (λ (x : Replica). x.ckpt == k) (replicas_on self.old r) ≤ 1 }
+        requires { (r : ℕ) → HoldsEachOnce (replicas_on self.old r) }
         ensures { self.new ≡ nodes_left seen.now failed self.old }
     {
         fail_nodes(self.list.as_mut_slice(), seen, failed);
@@ -274,7 +274,7 @@ fn free_nodes(nodes: &mut [Node], seen: &Record)
 
 fn fail_nodes(nodes: &mut [Node], seen: &Record, failed: NodeId)
     requires numbered { StandByNumber nodes.old }
-    requires once { (r k : ℕ) → count_by (λ (x : Replica). x.ckpt == k) (replicas_on (nodes_shown nodes.old) r) ≤ 1 }
+    requires once { (r : ℕ) → HoldsEachOnce (replicas_on (nodes_shown nodes.old) r) }
     ensures numbered { StandByNumber nodes.new }
     ensures new { nodes_shown nodes.new ≡ nodes_left seen.now failed (nodes_shown nodes.old) }
 {

@@ -16,4 +16,5 @@ pub mod NoneAbove
 pub mod Rows
 pub mod RecordRows
 pub mod FailRows
+pub mod UpdateRows
 pub mod Walking

@@ -1,6 +1,7 @@
 -- How a call takes a reply: what its driver keeps behind that, and how that ends it.
 use Rattle.std.specs.Prelude.{ℕ, ◌<◌, Option, Some, None, Bool, true, false, if◌then◌else◌}
 use Rattle.ckpt_types.specs.declared.ais_error.AisError.TheVariants.{NotExist, TryAgain}
+use Rattle.ckpt_types.specs.declared.answers.Answer.{Answer}
 use Rattle.ckpt_types.specs.declared.answers.Answer.TheVariants as answers
 use Rattle.ckpt_types.specs.declared.answers.Cause.TheVariants.{Plain, Index, Holder, Generations}
 use Rattle.ckpt_types.specs.declared.answers.Outcome.{Outcome}
@@ -49,10 +50,14 @@ refused_by R reply = refused_end (names_live R (word_of reply)) reply
 
 -- ---- an update of all replicas
 
--- an update that has no slot left is done
+-- an update that does not go on is done with this answer
+abbrev pub answer_unless : Bool → Answer → Option Outcome
+answer_unless true answer = None
+answer_unless false answer = Some (Done answer)
+
+-- the same of one that tells nothing
 abbrev pub ended_unless : Bool → Option Outcome
-ended_unless true = None
-ended_unless false = Some (Done answers.Nothing)
+ended_unless goes_on = answer_unless goes_on answers.Nothing
 
 -- how an update ends by a reply, being as it is behind that
 abbrev pub update_end : StepDone → Reply → UpdateState → Option Outcome

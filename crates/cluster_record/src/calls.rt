@@ -8,6 +8,14 @@ pub enum UpdatePhase {
     Staging,
     /// It commits on the nodes where it has staged, in descending order.
     Committing,
+    /// It has met a slot whose owner is not live, and has claimed none yet.
+    Claiming,
+    /// It has claimed such slots, in ascending order.
+    Claimed,
+    /// It withdraws what it has claimed, in descending order.
+    Withdrawing,
+    /// It commits what it has claimed, in descending order.
+    Resolving,
 }
 
 /// A checkpoint that an open is making.

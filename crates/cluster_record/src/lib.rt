@@ -12,14 +12,16 @@ mod leaders;
 mod opening;
 mod placement;
 mod record;
+mod staging;
 
 pub use by_node::{first_lacking, has_any, last_having};
 pub use calls::{ActiveKind, Making, MarksMade, PulledAt, SyncKind, UpdatePhase};
 pub use clients::{LiveClient, number_of};
 pub use counts::{Counts, UpdateCount};
 pub use deadlines::in_time;
-pub use ends::{is_own, refused_end};
+pub use ends::{count_told, is_own, refused_end};
 pub use entries::{Entry, KeptName, is_active};
 pub use opening::{OpenAnswer, accepts};
 pub use placement::is_collocated;
 pub use record::{Record, RecordRefused};
+pub use staging::Staging;

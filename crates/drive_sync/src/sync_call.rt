@@ -10,12 +10,12 @@ ghost use Rattle.node_msgs.specs.Steps.{verb_of};
 ghost use Rattle.cluster_record.specs.DueSync.{first_unserved, is_unserved, kind_next, lead_next, sync_begun, sync_ended, sync_next, sync_taken, unless_held, unless_stale};
 ghost use Rattle.cluster_record.specs.RecordState.{complete_of, entry_of};
 ghost use Rattle.cluster_record.specs.Ends.{IsAtANode, hold_in, served_done, setting_end, sync_end, sync_outcome, sync_told};
-ghost use Rattle.cluster_record.specs.StepDone.{count_told, counting, done_of};
+ghost use Rattle.cluster_record.specs.StepDone.{counting, done_of};
 
 use ckpt_types::{
     AisError, Answer, CallId, Cause, CkptId, Incarnation, NODES_MAX, NodeId, Outcome,
 };
-use cluster_record::{Entry, PulledAt, Record, SyncKind, in_time, is_own, refused_end};
+use cluster_record::{Entry, PulledAt, Record, SyncKind, count_told, in_time, is_own, refused_end};
 use node_msgs::{Next, RecordStep, Reply, Request, StepReply};
 use std::alloc::{AllocError, Global};
 use std::marker::Model;
@@ -215,16 +215,6 @@ impl SyncCall {
         } else {
             Some(Outcome::Done(Answer::Nothing))
         }
-    }
-}
-
-// The count that a reply tells; 0 where it tells none.
-fn count_told(reply: &Reply) -> u64
-    ensures { result ≡ count_told reply.now }
-{
-    match reply {
-        Reply::Claimed(count) | Reply::Done(Answer::Pulled(count)) => *count,
-        _ => 0,
     }
 }
 

@@ -1,5 +1,5 @@
-//! The driver of an update on all replicas.
-ghost use Rattle.std.specs.Prelude.{◌≡◌, ℕ, ℤ, ◌<◌, IfOk, Some, None, is_some, slice_set, slice_index};
+//! The driver of an update on all replicas, and of the staging of one.
+ghost use Rattle.std.specs.Prelude.{◌≡◌, ℕ, ℤ, ◌<◌, IfOk, IfSome, Some, None, is_some, slice_set, slice_index};
 ghost use Rattle.ckpt_types.specs.declared.identities.CallId.{CallId};
 ghost use Rattle.ckpt_types.specs.Limits.{nodes_max};
 ghost use Rattle.node_msgs.specs.declared.steps.StepReply.TheVariants as words;
@@ -7,21 +7,26 @@ ghost use Rattle.node_msgs.specs.declared.steps.Verb.TheVariants as verbs;
 ghost use Rattle.node_msgs.specs.Requests.{ckpt_of};
 ghost use Rattle.node_msgs.specs.Steps.{verb_of};
 ghost use Rattle.ckpt_types.specs.declared.ais_error.AisError.TheVariants.{NotExist};
+ghost use Rattle.ckpt_types.specs.declared.answers.Answer.{Answer};
 ghost use Rattle.ckpt_types.specs.declared.answers.Answer.TheVariants as answers;
 ghost use Rattle.ckpt_types.specs.declared.answers.Cause.TheVariants.{Plain};
 ghost use Rattle.ckpt_types.specs.declared.answers.Outcome.TheVariants.{Refused};
 ghost use Rattle.node_msgs.specs.declared.next.Next.TheVariants.{Serve, End};
 ghost use Rattle.node_msgs.specs.declared.replies.Reply.TheVariants as replies;
 ghost use Rattle.node_msgs.specs.declared.requests.Request.TheVariants as requests;
-ghost use Rattle.cluster_record.specs.DueUpdate.{update_begun, commit_at, commit_first, stage_at, update_next, update_taken, done_end_by, kept_moment};
-ghost use Rattle.cluster_record.specs.Ends.{IsAtANode, ended_unless, served_done, update_end, update_outcome, update_told};
-ghost use Rattle.cluster_record.specs.declared.calls.UpdatePhase.TheVariants.{Staging};
-ghost use Rattle.cluster_record.specs.RecordState.{entry_of, complete_of};
-ghost use Rattle.cluster_record.specs.StepDone.{done_of, first_lacking, last_having};
-ghost use Rattle.drive_update.specs.UpdateStates.{IsOfUpdate};
+ghost use Rattle.cluster_record.specs.DueUpdate.{update_begun, commit_at, commit_first, claim_at, stage_at, committing, update_next, update_taken, done_end_by, kept_moment, free_phase};
+ghost use Rattle.cluster_record.specs.Ends.{IsAtANode, answer_unless, ended_unless, served_done, update_end, update_outcome, update_told};
+ghost use Rattle.cluster_record.specs.declared.calls.UpdatePhase.TheVariants.{Staging, Withdrawing};
+ghost use Rattle.cluster_record.specs.RecordState.{RecordState, entry_of, complete_of};
+ghost use Rattle.cluster_record.specs.StepDone.{counting, done_of, first_lacking, last_having};
+ghost use Rattle.drive_update.specs.UpdateStates.{IsOfUpdate, IsTurn, IsTurnAtANode};
 
-use ckpt_types::{AisError, Answer, CallId, Cause, CkptId, Moment, NODES_MAX, NodeId, Outcome};
-use cluster_record::{Record, UpdatePhase, first_lacking, has_any, last_having, refused_end};
+use ckpt_types::{
+    AisError, Answer, CallId, Cause, CkptId, Incarnation, Moment, NODES_MAX, NodeId, Outcome,
+};
+use cluster_record::{
+    Record, Staging, UpdatePhase, count_told, first_lacking, has_any, last_having, refused_end,
+};
 use node_msgs::{Next, Reply, Request};
 use std::alloc::{AllocError, Global};
 use std::marker::Model;
@@ -38,6 +43,10 @@ pub struct UpdateCall {
     // The moment of its slots.
     moment: Moment,
     phase: UpdatePhase,
+    // How many updates the replicas had of which it has claimed the slots.
+    count: u64,
+    // Whose slot it has met, which is not live.
+    owner: CallId,
 }
 
 impl Model for UpdateCall {
@@ -52,6 +61,45 @@ impl Model for UpdateCall {
     ghost invariant = { HasNoneAboveTop };
 }
 
+impl Staging for UpdateCall {
+    ghost staging = { λ update. update };
+
+    fn start(&mut self, call: CallId, ckpt: CkptId) {
+        *self = UpdateCall::begin(call, ckpt);
+    }
+
+    fn next(&self, seen: &Record) -> Next {
+        UpdateCall::next(self, seen)
+    }
+
+    fn take(&mut self, seen: &Record, reply: &Reply) -> Option<Outcome> {
+        UpdateCall::take(self, seen, reply)
+    }
+
+    fn all_staged(&self, seen: &Record) -> bool {
+        let UpdatePhase::Staging = self.phase else {
+            return false;
+        };
+        let complete = seen.complete(self.ckpt);
+        if first_lacking(&complete, &self.owned).is_some() {
+            return false;
+        }
+        has_any(&complete, &self.owned, self.top)
+    }
+
+    fn joined(&mut self, node: NodeId, incarnation: Incarnation) {
+        self.own(node, incarnation);
+    }
+
+    fn moment(&self) -> Moment {
+        self.moment
+    }
+
+    fn copy(&self, alloc: Global) -> Result<UpdateCall, AllocError> {
+        UpdateCall::copy(self, alloc)
+    }
+}
+
 impl UpdateCall {
     /// The update of a call that begins: it has staged nowhere.
     pub fn begin(call: CallId, ckpt: CkptId) -> UpdateCall
@@ -64,6 +112,8 @@ impl UpdateCall {
             top: 0,
             moment: 0,
             phase: UpdatePhase::Staging,
+            count: 0,
+            owner: call,
         }
     }
 
@@ -78,6 +128,8 @@ impl UpdateCall {
             top: self.top,
             moment: self.moment,
             phase: self.phase,
+            count: self.count,
+            owner: self.owner,
         })
     }
 
@@ -94,9 +146,39 @@ impl UpdateCall {
         if entry.active.is_none() {
             return not_exist();
         }
+        match self.turn(&entry.complete) {
+            Turn::Stage => self.stage_next(cluster.now(), &entry.complete),
+            Turn::Commit => self.commit_next(&entry.complete),
+            Turn::Claim => self.claim_next(&entry.complete),
+            Turn::Withdraw(r) => Next::Serve(r, Request::Withdraw(self.call, self.ckpt)),
+        }
+    }
+
+    // What it is at by its phase.
+    #[inline(always)]
+    fn turn(&self, complete: &[u32; NODES_MAX]) -> Turn
+        ensures turn { IsTurn self.now (last_having 0 complete.now self.now.owned) result }
+        ensures at { IsTurnAtANode result }
+    {
         match self.phase {
-            UpdatePhase::Staging => self.stage_next(cluster.now(), &entry.complete),
-            UpdatePhase::Committing => self.commit_next(&entry.complete),
+            UpdatePhase::Staging => Turn::Stage,
+            UpdatePhase::Committing => Turn::Commit,
+            _ => self.settling(complete),
+        }
+    }
+
+    // What it is at where it has met the slot of a call that is gone: with none of what it has claimed, or none any more,
+    // it stages its own update.
+    #[inline(never)]
+    fn settling(&self, complete: &[u32; NODES_MAX]) -> Turn
+        ensures turn { IsTurn self.now (last_having 0 complete.now self.now.owned) result }
+        ensures at { IsTurnAtANode result }
+    {
+        match (self.phase, last_having(complete, &self.owned, self.top)) {
+            (UpdatePhase::Claiming, _) | (UpdatePhase::Claimed, Some(_)) => Turn::Claim,
+            (UpdatePhase::Withdrawing, Some(r)) => Turn::Withdraw(r),
+            (UpdatePhase::Committing, _) | (UpdatePhase::Resolving, Some(_)) => Turn::Commit,
+            _ => Turn::Stage,
         }
     }
 
@@ -144,6 +226,28 @@ impl UpdateCall {
         }
     }
 
+    // While it claims: the lowest node that it lacks, and then the first that it commits.
+    #[inline(always)]
+    fn claim_next(&self, complete: &[u32; NODES_MAX]) -> Next
+        ensures next { result ≡ claim_at self.now (first_lacking 0 complete.now self.now.owned) (last_having 0 complete.now self.now.owned) }
+        ensures is { IsOfUpdate result }
+        ensures at { IsAtANode result }
+    {
+        let Some(r) = self.lacked(complete) else {
+            return self.commit_first(complete);
+        };
+        Next::Serve(r, Request::Claim(self.call, self.ckpt, self.owner))
+    }
+
+    // The lowest node that it lacks.
+    #[inline(never)]
+    fn lacked(&self, complete: &[u32; NODES_MAX]) -> Option<NodeId>
+        ensures value { result ≡ first_lacking 0 complete.now self.now.owned }
+        ensures within { IfSome result (λ r. r < nodes_max) }
+    {
+        first_lacking(complete, &self.owned)
+    }
+
     /// A node has staged it.
     #[inline(always)]
     pub fn staged(&mut self, cluster: &Record, ckpt: CkptId, r: NodeId)
@@ -167,31 +271,104 @@ impl UpdateCall {
         if !has_any(complete, &self.owned, self.top) {
             self.moment = now;
         }
-        self.owned[r as usize] = complete[r as usize];
-        if self.top < r {
-            self.top = r;
-        }
+        self.own(r, complete[r as usize]);
         self.phase = UpdatePhase::Staging;
     }
 
-    /// A node has committed it. Whether it has a slot left.
+    // It owns its slot at the node from then on, with this incarnation of the node.
     #[inline(always)]
-    pub fn committed(&mut self, cluster: &Record, ckpt: CkptId, r: NodeId) -> bool
+    fn own(&mut self, r: NodeId, incarnation: Incarnation)
         requires { r < nodes_max }
-        ensures new { self.new ≡ update_taken (done_of cluster.now verbs.Commit (Some ckpt) (Some r) words.Ok) self.old }
-        ensures left { result ≡ is_some (last_having 0 (complete_of (entry_of ckpt cluster.now.entries)) self.new.owned) }
-        ensures told { (call : CallId) → update_next cluster.now self.old ≡ Serve r (requests.Commit call ckpt) → self.new ≡ update_told cluster.now (replies.Done answers.Nothing) self.old }
-        ensures outcome { (call : CallId) → update_next cluster.now self.old ≡ Serve r (requests.Commit call ckpt) → update_outcome cluster.now (replies.Done answers.Nothing) self.old ≡ ended_unless result }
+        ensures { self.new ≡ record self.old { owned = slice_set self.old.owned r incarnation } }
+    {
+        self.owned[r as usize] = incarnation;
+        if self.top < r {
+            self.top = r;
+        }
+    }
+
+    // It owns none at the node from then on.
+    #[inline(always)]
+    fn let_go(&mut self, r: NodeId)
+        requires { r < nodes_max }
+        ensures { self.new ≡ record self.old { owned = slice_set self.old.owned r 0 } }
     {
         self.owned[r as usize] = 0;
         if self.top == r && r > 0 {
             self.top = r - 1;
         }
-        self.phase = UpdatePhase::Committing;
+    }
+
+    /// A node has committed it, or what it has claimed. Whether it goes on: with a slot left, or behind what it has
+    /// claimed.
+    #[inline(always)]
+    pub fn committed(&mut self, cluster: &Record, ckpt: CkptId, r: NodeId) -> bool
+        requires { r < nodes_max }
+        ensures new { self.new ≡ update_taken (done_of cluster.now verbs.Commit (Some ckpt) (Some r) words.Ok) self.old }
+        ensures end { (answer : Answer) → done_end_by (done_of cluster.now verbs.Commit (Some ckpt) (Some r) words.Ok) answer self.new verbs.Commit ≡ answer_unless result answer }
+        ensures told { (call : CallId) → update_next cluster.now self.old ≡ Serve r (requests.Commit call ckpt) → self.new ≡ update_told cluster.now (replies.Done answers.Nothing) self.old }
+        ensures outcome { (call : CallId) → update_next cluster.now self.old ≡ Serve r (requests.Commit call ckpt) → update_outcome cluster.now (replies.Done answers.Nothing) self.old ≡ ended_unless result }
+    {
+        self.let_go(r);
+        self.phase = committing(self.phase);
+        let UpdatePhase::Committing = self.phase else {
+            return true;
+        };
+        self.has_slot(cluster, ckpt)
+    }
+
+    // Whether it has a slot at a complete node.
+    #[inline(always)]
+    fn has_slot(&self, cluster: &Record, ckpt: CkptId) -> bool
+        ensures { result ≡ is_some (last_having 0 (complete_of (entry_of ckpt cluster.now.entries)) self.now.owned) }
+    {
         match cluster.entry(ckpt) {
             None => false,
             Some(entry) => has_any(&entry.complete, &self.owned, self.top),
         }
+    }
+
+    // A node has given it the slot of a call that is gone, and told how many updates the replica has.
+    fn claimed(&mut self, cluster: &Record, ckpt: CkptId, r: NodeId, count: u64)
+        requires { r < nodes_max }
+        ensures { self.new ≡ update_taken (counting count (done_of cluster.now verbs.Claim (Some ckpt) (Some r) words.Ok)) self.old }
+    {
+        self.own(r, cluster.complete(ckpt)[r as usize]);
+        self.count = count;
+        self.phase = UpdatePhase::Claimed;
+    }
+
+    // The slot of another call stands where it was to stage or to claim. It is to claim that one's from then on.
+    fn met(&mut self, request: &Request, by: CallId)
+        ensures { (R : RecordState) (r : ℕ) → self.new ≡ update_taken (done_of R (verb_of request.now) (Some (ckpt_of request.now)) (Some r) (words.Held by)) self.old }
+    {
+        match request {
+            Request::Stage(_, _, _) => {
+                self.phase = UpdatePhase::Claiming;
+                self.owner = by;
+            }
+            Request::Claim(_, _, _) => self.owner = by,
+            _ => {}
+        }
+    }
+
+    // No slot stands where it was to claim, and the replica there has so many updates.
+    fn found_free(&mut self, request: &Request, count: u64)
+        ensures { (R : RecordState) (r : ℕ) → self.new ≡ update_taken (done_of R (verb_of request.now) (Some (ckpt_of request.now)) (Some r) (words.Free count)) self.old }
+    {
+        let Request::Claim(_, _, _) = request else {
+            return
+        };
+        self.phase = free_phase(self.phase, count == self.count);
+    }
+
+    // A node has withdrawn what it has claimed there.
+    fn withdrawn(&mut self, r: NodeId)
+        requires { r < nodes_max }
+        ensures { self.new ≡ record self.old { owned = slice_set self.old.owned r 0; phase = Withdrawing } }
+    {
+        self.let_go(r);
+        self.phase = UpdatePhase::Withdrawing;
     }
 
     /// It takes a reply to what is next. How that ends it, if it does; what the record alone decides ends it so.
@@ -219,43 +396,87 @@ impl UpdateCall {
         ensures end { result ≡ update_end (served_done cluster.now request.now r reply.now) reply.now self.new }
     {
         match reply {
-            Reply::Done(answer) => self.done(cluster, r, request, *answer),
-            // Its word is that of a reply that was done, and nothing comes of it.
-            Reply::Claimed(_) => {
-                self.done(cluster, r, request, Answer::Nothing);
+            Reply::Done(answer) => self.done(cluster, r, request, count_told(reply), *answer),
+            // Its word is that of a reply that was done, and it ends nothing.
+            Reply::Claimed(count) => {
+                self.done(cluster, r, request, *count, Answer::Nothing);
+                None
+            }
+            Reply::Held(by) => {
+                self.met(request, *by);
+                refused_end(cluster, reply)
+            }
+            Reply::Free(count) => {
+                self.found_free(request, *count);
                 None
             }
             _ => refused_end(cluster, reply),
         }
     }
 
-    // It takes what a node has done to a request, and how that ends it.
+    // It takes what a node has done to a request, with the count that was told, and how that ends it.
     #[inline(always)]
     fn done(
         &mut self,
         cluster: &Record,
         r: NodeId,
         request: &Request,
+        count: u64,
         answer: Answer,
     ) -> Option<Outcome>
         requires { r < nodes_max }
-        ensures new { self.new ≡ update_taken (done_of cluster.now (verb_of request.now) (Some (ckpt_of request.now)) (Some r) words.Ok) self.old }
-        ensures end { result ≡ done_end_by (done_of cluster.now (verb_of request.now) (Some (ckpt_of request.now)) (Some r) words.Ok) answer self.new (verb_of request.now) }
+        ensures new { self.new ≡ update_taken (counting count (done_of cluster.now (verb_of request.now) (Some (ckpt_of request.now)) (Some r) words.Ok)) self.old }
+        ensures end { result ≡ done_end_by (counting count (done_of cluster.now (verb_of request.now) (Some (ckpt_of request.now)) (Some r) words.Ok)) answer self.new (verb_of request.now) }
     {
         match request {
-            Request::Stage(_, ckpt, _) => {
-                self.staged(cluster, *ckpt, r);
-                None
-            }
+            Request::Stage(_, ckpt, _) => self.staged(cluster, *ckpt, r),
+            Request::Claim(_, ckpt, _) => self.claimed(cluster, *ckpt, r, count),
+            Request::Withdraw(_, _) => self.withdrawn(r),
             Request::Commit(_, ckpt) => {
-                if self.committed(cluster, *ckpt, r) {
-                    None
-                } else {
-                    Some(Outcome::Done(answer))
+                if !self.committed(cluster, *ckpt, r) {
+                    return Some(Outcome::Done(answer));
                 }
             }
-            _ => None,
+            _ => {}
         }
+        None
+    }
+}
+
+// What an update is at.
+#[derive(Clone, Copy)]
+enum Turn {
+    // It stages where it lacks a node, and else begins to commit.
+    Stage,
+    // It commits.
+    Commit,
+    // It claims.
+    Claim,
+    // It withdraws at this node.
+    Withdraw(NodeId),
+}
+
+// A commit is of its own update where it has staged that, and else of what it has claimed.
+#[inline(always)]
+fn committing(phase: UpdatePhase) -> UpdatePhase
+    ensures { result ≡ committing phase }
+{
+    match phase {
+        UpdatePhase::Staging | UpdatePhase::Committing => UpdatePhase::Committing,
+        _ => UpdatePhase::Resolving,
+    }
+}
+
+// What becomes of the slots that it has claimed, where it comes to a replica without one: with as many updates as theirs
+// had, none has their update, which it withdraws; else that one has it, and it commits. Where it has claimed nothing, it
+// stages its own.
+fn free_phase(phase: UpdatePhase, same: bool) -> UpdatePhase
+    ensures { result ≡ free_phase phase same }
+{
+    match (phase, same) {
+        (UpdatePhase::Claimed, true) => UpdatePhase::Withdrawing,
+        (UpdatePhase::Claimed, false) => UpdatePhase::Resolving,
+        _ => UpdatePhase::Staging,
     }
 }
 

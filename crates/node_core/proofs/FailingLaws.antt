@@ -16,7 +16,7 @@ use Rattle.node_core.specs.Failing.{is_cut_short, is_to_lead, change_due, or_lat
 use Rattle.node_core.specs.Nodes.{NodeState, replica_key, is_there}
 use Rattle.node_core.specs.Payloads.{Payload}
 use Rattle.node_core.specs.Seen.{RecordSeen}
-use Rattle.node_core.proofs.EachOnce.{counted-behind, first-other, counted-change_key, counted-filter}
+use Rattle.node_core.proofs.OnceByKey.{counted-behind, first-other, counted-change_key, counted-filter}
 
 -- ---- how many changes are due
 

@@ -1,5 +1,5 @@
 pub mod AtPlaces
-pub mod EachOnce
+pub mod OnceByKey
 pub mod FailingLaws
 pub mod FailingRows
 pub mod FirstSections

@@ -12,7 +12,7 @@ use Rattle.script_lang.specs.declared.faults.ScriptFault.{ScriptFault}
 use Rattle.script_lines.specs.declared.lines.Line.{Line}
 use Rattle.script_words.specs.Words.{is_graphic, or_else}
 use Rattle.script_lines.specs.Table.{line_in, is_empty, line_said, not_built}
-use Rattle.script_lang.specs.Grammar.{text_lines, is_space, words_of, some_line, reading, fault_of, Progress, start, fault, with_line, if_allowed, after_reading, take_line, take_lines, if_no_fault, fails_beside_all, if_apart, whole_script, script_of, block_of}
+use Rattle.script_lang.specs.Grammar.{text_lines, is_space, words_of, some_line, reading, fault_of, Progress, start, fault, with_line, if_allowed, after_reading, take_line, take_lines, if_no_fault, whole_script, script_of, block_of}
 use Rattle.script_lines.specs.Spelling.{line_words, line_text}
 use Rattle.script_lang.specs.Spelling.{spelling}
 use Rattle.script_lang.specs.Grammar.{marks_of, order_fault, limit_fault, fault_after, asked_in}
@@ -233,20 +233,13 @@ retaken (text ∷ texts) p q e =
     let h = then_ok (take_line p text) (λ s. take_lines s texts) q e in
     one_step p h.0 q (taken_line p h.0 text h.1) (retaken texts h.0 q h.2)
 
--- lines that are taken as a script are taken as they are, and by whatever line a failure is told
-apart_again : (xs s : List Line) (m n : ℕ) → if_apart m xs ≡ Ok s → (xs ≡ s) × (fails_beside_all xs ≡ false) × (if_apart n xs ≡ Ok s)
-apart_again xs s m n e = elim (picked_fault (fails_beside_all xs) (fault m reasons.NotBuilt) (Ok xs) s e) [
-  | inl h ↦ absurd (cc h.1)
-  | inr h ↦ (fine_inj xs s h.1, h.0, rw (h.0) h.1)
-]
-
 finish_again : (q t : Progress) (s : List Line) → t.earlier ≡ q.earlier → whole_script q ≡ Ok s → (s ≡ reverse q.earlier) × (whole_script t ≡ Ok s)
-finish_again q t s same e = elim (picked_fault (is_some (block_of q.earlier)) (fault q.race reasons.Race) (if_apart q.failed (reverse q.earlier)) s e) [
+finish_again q t s same e = elim (picked_fault (is_some (block_of q.earlier)) (fault q.race reasons.Race) (Ok (reverse q.earlier)) s e) [
   | inl h ↦ absurd (cc h.1)
   | inr h ↦
       let closed : is_some (block_of t.earlier) ≡ false = ap (λ l. is_some (block_of l)) same ∙ h.0 in
-      let (is, apart, again) = apart_again (reverse q.earlier) s q.failed t.failed h.1 in
-      (sym is, rw closed (ap (λ l. if_apart t.failed (reverse l)) same ∙ again))
+      let is : reverse q.earlier ≡ s = fine_inj (reverse q.earlier) s h.1 in
+      (sym is, rw closed (ap (λ l. Ok (reverse l)) same ∙ ap (λ l. Ok l) is))
 ]
 
 pub script_again : (bytes : List ℕ) (s : List Line) → script_of bytes ≡ Ok s → length (spelling s) ≤ script_bytes_max → script_of (spelling s) ≡ Ok s
@@ -268,21 +261,20 @@ no_block : (o : Option ℕ) → is_some o ≡ false → o ≡ None
 no_block None h = refl
 no_block (Some n) h = absurd (cc)
 
--- what is read is a script, of no more lines than it may have, and with no failure of a node beside a checkpoint whose updates are on all replicas
-pub script_fits : (bytes : List ℕ) (s : List Line) → script_of bytes ≡ Ok s → IsScript s × (length s ≤ script_lines_max) × (fails_beside_all s ≡ false)
+-- what is read is a script, of no more lines than it may have
+pub script_fits : (bytes : List ℕ) (s : List Line) → script_of bytes ≡ Ok s → IsScript s × (length s ≤ script_lines_max)
 unfolding script_of
 script_fits bytes s e = elim (picked_fault (nat_lt script_bytes_max (length bytes)) (fault 0 reasons.Length) (if_no_fault (take_lines start (text_lines bytes)) whole_script) s e) [
   | inl h ↦ absurd (cc h.1)
   | inr h ↦
       let p = then_ok (take_lines start (text_lines bytes)) whole_script s h.1 in
       let k = retaken (text_lines bytes) start p.0 p.1 in
-      elim (picked_fault (is_some (block_of p.0.earlier)) (fault p.0.race reasons.Race) (if_apart p.0.failed (reverse p.0.earlier)) s p.2) [
+      elim (picked_fault (is_some (block_of p.0.earlier)) (fault p.0.race reasons.Race) (Ok (reverse p.0.earlier)) s p.2) [
         | inl b ↦ absurd (cc b.1)
         | inr b ↦
-            let (whole, apart, again) = apart_again (reverse p.0.earlier) s p.0.failed 0 b.1 in
-            let is : s ≡ k.news = sym whole ∙ ap reverse (k.told ∙ append-nil (reverse k.news)) ∙ reverse-reverse k.news in
+            let is : s ≡ k.news = sym (fine_inj (reverse p.0.earlier) s b.1) ∙ ap reverse (k.told ∙ append-nil (reverse k.news)) ∙ reverse-reverse k.news in
             let all : Orderly [] (joined_to k.news []) = k.orderly [] (no_block (block_of p.0.earlier) b.0) in
             let few : length k.news ≤ script_lines_max = omega (arith, k.count, k.most (omega arith)) in
-            (subst IsScript (sym (is ∙ sym (append-nil k.news))) all, subst (λ xs. length xs ≤ script_lines_max) (sym is) few, subst (λ xs. fails_beside_all xs ≡ false) whole apart)
+            (subst IsScript (sym (is ∙ sym (append-nil k.news))) all, subst (λ xs. length xs ≤ script_lines_max) (sym is) few)
       ]
 ]

@@ -1,6 +1,6 @@
 -- What is read asks for no more than what is built.
-use Rattle.std.proofs.Common.{◌≡◌, refl, ◌^◌, ◌-◌, ◌<◌, ◌≤◌, Bool, true, false, not, List, [], ◌∷◌, length, map, ℤ, pos, negsuc, ◌≤ℤ◌, int_lt, Option, Some, None, option_map, sum_by, arith, subst, sym, ap, ◌∙◌, inl, inr, ◌⊎◌, ◌&&◌, if◌then◌else◌}
-use Rattle.std.specs.List.{All, list_any}
+use Rattle.std.proofs.Common.{◌≡◌, refl, ◌^◌, ◌-◌, ◌<◌, ◌≤◌, Bool, true, false, not, List, [], ◌∷◌, length, map, ℤ, pos, negsuc, ◌≤ℤ◌, int_lt, Option, Some, None, option_map, sum_by, arith, subst, sym, ap, ◌∙◌, inl, inr, if◌then◌else◌}
+use Rattle.std.specs.List.{All}
 use Rattle.std.proofs.lemmas.Int.{ints}
 use Rattle.std.proofs.lemmas.List.{length-map}
 use Rattle.std.proofs.lemmas.List.Elements.{All-nil, All-cons}
@@ -17,7 +17,7 @@ use Rattle.ckpt_types.specs.declared.words.OpWord.TheVariants as calls
 use Rattle.script_lines.specs.declared.lines.Line.{Line}
 use Rattle.script_lines.specs.declared.lines.Line.TheVariants as lines
 use Rattle.script_lines.specs.Table.{Values, LineValues, form, is_later, only_begun, attributes, attributes_of, io_group, io_element, read_group, read_element}
-use Rattle.script_lang.specs.Grammar.{marks_of, moment_behind_all, order_fault, is_nodes, goes_back, asked_in, is_fail, opens_all, fails_beside_all}
+use Rattle.script_lang.specs.Grammar.{marks_of, moment_behind_all, order_fault, is_nodes, goes_back, asked_in}
 use Rattle.script_lines.specs.Fitting.{FitAll, FitMore, FitGroups, FitValues, IsLine}
 use Rattle.script_lang.specs.Scripts.{Orderly, IsScript}
 use Rattle.script_lang.specs.BuiltScripts.{HasNumbersInRange, HaveNumbersInRange, IsIoElement, IsReadElement, AreWrites, AreReads, IsBuiltLine, AreBuiltLines, AreFirstNodes, AreNodesFirst, IsBuiltScript}
@@ -184,10 +184,5 @@ first_built (x ∷ xs) o =
     let n = first_brings_nodes x o.1 in
     (as_node x o.0 n, subst (λ t. AreBuiltLines t xs) (nodes_moment x n) (lines_built x [] xs o.3))
 
--- one of the two holds for no line
-either_none : (a b : Bool) → (a && b) ≡ false → (a ≡ false) ⊎ (b ≡ false)
-either_none false b h = inl refl
-either_none true b h = inr h
-
-pub built_script : (xs : List Line) → IsScript xs → length xs ≤ script_lines_max → fails_beside_all xs ≡ false → IsBuiltScript xs
-built_script xs o few apart = (first_built xs o, few, either_none (list_any is_fail xs) (list_any opens_all xs) apart)
+pub built_script : (xs : List Line) → IsScript xs → length xs ≤ script_lines_max → IsBuiltScript xs
+built_script xs o few = (first_built xs o, few)

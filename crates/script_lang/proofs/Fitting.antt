@@ -18,7 +18,7 @@ parses_script bytes (Err e) h = tt
 
 -- of what is built
 pub parses_built : (bytes : List ℕ) (r : Result (List Line) ParseError) → Parses r (script_of bytes) → IfOk r IsBuiltScript
-parses_built bytes (Ok s) e = let f = script_fits bytes s e in built_script s f.0 f.1 f.2
+parses_built bytes (Ok s) e = let f = script_fits bytes s e in built_script s f.0 f.1
 parses_built bytes (Err e) h = tt
 
 -- a text that is the spelling is read again

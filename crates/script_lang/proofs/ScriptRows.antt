@@ -192,25 +192,25 @@ a_node_may_fail : Read (
 unfolding scripts
 a_node_may_fail = refl
 
--- beside a checkpoint whose updates are on all replicas the first of the failures is not built; other faults come before
-none_fails_beside_all_replicas : Read (
-    fails 4 reasons.NotBuilt "nodes 2\nclient c0 n0 B.2.2 none\nopen c0 h0 'ck 7 end 1 16 0 1 16 8\nfail n1"
-    ∷ fails 2 reasons.NotBuilt "nodes 2\nfail n1\nclient c0 n0 B.2.2 none\nopen c0 h0 'ck 7 end 1 16 0 1 16 8"
-    ∷ fails 4 reasons.NotBuilt "nodes 2\nclient c0 n0 B.2.2 none\nbegin open c0 h0 'ck 7 end 1 16 0 1 16 8\nfail n1"
-    ∷ fails 2 reasons.NotBuilt "nodes 2\nfail n1\nclient c0 n0 B.2.2 none\nbegin open c0 h0 'ck 7 end 1 16 0 1 16 8"
-    ∷ fails 4 reasons.NotBuilt "nodes 2\nclient c0 n0 B.2.2 none\nopenasync c0 h0 5 'ck 7 1 16 0 1 16 8\nfail n1"
-    ∷ fails 2 reasons.NotBuilt "nodes 2\nfail n1\nclient c0 n0 B.2.2 none\nopenasync c0 h0 5 'ck 7 1 16 0 1 16 8"
-    ∷ fails 4 reasons.NotBuilt "nodes 2\nclient c0 n0 B.2.2 none\nbegin openasync c0 h0 5 'ck 7 1 16 0 1 16 8\nfail n1"
-    ∷ fails 2 reasons.NotBuilt "nodes 2\nfail n1\nclient c0 n0 B.2.2 none\nbegin openasync c0 h0 5 'ck 7 1 16 0 1 16 8"
-    ∷ fails 4 reasons.NotBuilt "nodes 2\nclient c0 n0 B.2.2 none\nopen c0 h0 'ck 7 end 1 16 0 1 16 8\nfail n1\nfail n0"
-    ∷ fails 4 reasons.NotBuilt "nodes 2\n\n# a node\nfail n1\nat 1\nfail n0\nclient c0 n0 B.2.2 none\nopen c0 h0 'ck 7 end 1 16 0 1 16 8"
-    ∷ fails 5 reasons.NotBuilt "nodes 2\nclient c0 n0 B.2.2 none\nopen c0 h0 'ck 7 end 2 16 0 1 16 8\nopen c0 h0 'ck 7 end 1 16 0 1 16 8\nfail n1\nopen c0 h0 'ck 7 end 2 16 0 1 16 8"
-    ∷ fails 4 reasons.NotBuilt "nodes 2\nclient c0 n0 B.2.2 none\nopen c0 h0 'ck 7 end 1 16 0 1 16 8\nfail n7"
+-- beside a checkpoint whose updates are on all replicas too, before it is opened and behind
+a_node_may_fail_beside_all_replicas : Read (
+    says 4 "nodes 2\nclient c0 n0 B.2.2 none\nopen c0 h0 'ck 7 end 1 16 0 1 16 8\nfail n1"
+    ∷ says 4 "nodes 2\nfail n1\nclient c0 n0 B.2.2 none\nopen c0 h0 'ck 7 end 1 16 0 1 16 8"
+    ∷ says 4 "nodes 2\nclient c0 n0 B.2.2 none\nbegin open c0 h0 'ck 7 end 1 16 0 1 16 8\nfail n1"
+    ∷ says 4 "nodes 2\nfail n1\nclient c0 n0 B.2.2 none\nbegin open c0 h0 'ck 7 end 1 16 0 1 16 8"
+    ∷ says 4 "nodes 2\nclient c0 n0 B.2.2 none\nopenasync c0 h0 5 'ck 7 1 16 0 1 16 8\nfail n1"
+    ∷ says 4 "nodes 2\nfail n1\nclient c0 n0 B.2.2 none\nopenasync c0 h0 5 'ck 7 1 16 0 1 16 8"
+    ∷ says 4 "nodes 2\nclient c0 n0 B.2.2 none\nbegin openasync c0 h0 5 'ck 7 1 16 0 1 16 8\nfail n1"
+    ∷ says 4 "nodes 2\nfail n1\nclient c0 n0 B.2.2 none\nbegin openasync c0 h0 5 'ck 7 1 16 0 1 16 8"
+    ∷ says 5 "nodes 2\nclient c0 n0 B.2.2 none\nopen c0 h0 'ck 7 end 1 16 0 1 16 8\nfail n1\nfail n0"
+    ∷ says 6 "nodes 2\n\n# a node\nfail n1\nat 1\nfail n0\nclient c0 n0 B.2.2 none\nopen c0 h0 'ck 7 end 1 16 0 1 16 8"
+    ∷ says 6 "nodes 2\nclient c0 n0 B.2.2 none\nopen c0 h0 'ck 7 end 2 16 0 1 16 8\nopen c0 h0 'ck 7 end 1 16 0 1 16 8\nfail n1\nopen c0 h0 'ck 7 end 2 16 0 1 16 8"
+    ∷ says 4 "nodes 2\nclient c0 n0 B.2.2 none\nopen c0 h0 'ck 7 end 1 16 0 1 16 8\nfail n7"
     ∷ fails 5 reasons.Word "nodes 2\nclient c0 n0 B.2.2 none\nopen c0 h0 'ck 7 end 1 16 0 1 16 8\nfail n1\nfoo"
     ∷ fails 5 reasons.NotBuilt "nodes 2\nclient c0 n0 B.2.2 none\nopen c0 h0 'ck 7 end 1 16 0 1 16 8\nfail n1\njoin n1"
     ∷ [])
 unfolding scripts
-none_fails_beside_all_replicas = refl
+a_node_may_fail_beside_all_replicas = refl
 
 faults_of_opens : ReadBehind opened (
     fails 4 reasons.Count "open c0 h0 'ck 7 end 1 16 0 1 16"

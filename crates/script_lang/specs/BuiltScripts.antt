@@ -1,6 +1,6 @@
 -- What is asked for in a script of the forms that are built.
-use Rattle.std.specs.Prelude.{◌≡◌, ◌⊎◌, false, ℕ, ◌^◌, ◌-◌, ◌<◌, ◌≤◌, ⊤, List, [], ◌∷◌, length, ℤ, pos, nat_abs, ◌≤ℤ◌, Option, Some, None, sum_by}
-use Rattle.std.specs.List.{All, list_any}
+use Rattle.std.specs.Prelude.{ℕ, ◌^◌, ◌-◌, ◌<◌, ◌≤◌, ⊤, List, [], ◌∷◌, length, ℤ, pos, nat_abs, ◌≤ℤ◌, Option, Some, None, sum_by}
+use Rattle.std.specs.List.{All}
 use Rattle.ckpt_types.specs.declared.attributes.CreationAttributes.{CreationAttributes}
 use Rattle.ckpt_types.specs.declared.identities.ActorName.TheVariants as actor
 use Rattle.ckpt_types.specs.declared.identities.Who.{Who}
@@ -15,7 +15,7 @@ use Rattle.ckpt_types.specs.Limits.{nodes_max, client_numbers, section_id_max, l
 use Rattle.script_words.specs.Fitting.{IsNewId, IsTime, IsVersion, IsWho}
 use Rattle.script_lines.specs.declared.lines.Line.{Line}
 use Rattle.script_lines.specs.declared.lines.Line.TheVariants as lines
-use Rattle.script_lang.specs.Grammar.{moment_behind, is_fail, opens_all}
+use Rattle.script_lang.specs.Grammar.{moment_behind}
 
 -- flags and a number of sections of 32 bits, and sizes of 64 bits
 pub record HasNumbersInRange (a : CreationAttributes) : Type 0 where
@@ -123,10 +123,6 @@ abbrev pub AreNodesFirst : List Line → Type 0
 AreNodesFirst [] = ⊤
 AreNodesFirst (x ∷ xs) = AreFirstNodes x × AreBuiltLines (pos 0) xs
 
--- no line fails a node, or none opens a checkpoint whose updates are on all replicas
-abbrev pub IsApartWhereNodesFail : List Line → Type 0
-IsApartWhereNodesFail xs = (list_any is_fail xs ≡ false) ⊎ (list_any opens_all xs ≡ false)
-
 -- A SCRIPT OF WHAT IS BUILT, of no more lines than a script may have
 abbrev pub IsBuiltScript : List Line → Type 0
-IsBuiltScript xs = AreNodesFirst xs × (length xs ≤ script_lines_max) × IsApartWhereNodesFail xs
+IsBuiltScript xs = AreNodesFirst xs × (length xs ≤ script_lines_max)

@@ -1,10 +1,8 @@
 -- A script: its lines one after the other, and the first that is at fault.
 use Rattle.std.specs.Prelude.{ℕ, ◌+◌, ◌≤◌, Bool, true, false, not, cond, ◌&&◌, ◌||◌, List, [], ◌∷◌, length, reverse, ℤ, pos, Option, Some, None, is_some, option_map, Result, Ok, Err, nat_le, nat_lt, int_lt, ◌==◌, if◌then◌else◌, sum_by}
-use Rattle.std.specs.List.{slice_split, onto_first, list_any}
-use Rattle.ckpt_types.specs.declared.attributes.CreationAttributes.{CreationAttributes}
+use Rattle.std.specs.List.{slice_split, onto_first}
 use Rattle.ckpt_types.specs.declared.operation.Op.{Op}
 use Rattle.ckpt_types.specs.declared.operation.Op.TheVariants as ops
-use Rattle.ckpt_types.specs.Attributes.{is_all}
 use Rattle.ckpt_types.specs.Limits.{block_lines_max, script_reads_max, script_shows_max, script_lines_max, script_bytes_max}
 use Rattle.script_words.specs.declared.reason.Reason.{Reason}
 use Rattle.script_words.specs.declared.reason.Reason.TheVariants as reasons
@@ -172,44 +170,15 @@ fault_of earlier x = fault_after (marks_of earlier) x
 abbrev pub IsSmall : Marks → Type 0
 IsSmall m = (block_size m.block ≤ block_lines_max) × (m.asked ≤ script_reads_max) × (m.shows ≤ script_shows_max)
 
--- FAILURES OF NODES: they are built for checkpoints whose updates go to the active alone.
-
--- a line that fails a node
-abbrev pub is_fail : Line → Bool
-is_fail (lines.Fail r) = true
-is_fail _ = false
-
--- attributes are given, of a checkpoint whose updates are on all replicas
-abbrev pub declares_all : Option CreationAttributes → Bool
-declares_all None = false
-declares_all (Some a) = is_all a
-
--- a call that opens such a checkpoint, and may make it
-abbrev pub op_opens_all : Op → Bool
-op_opens_all (ops.Open place name flags timeout attributes) = declares_all attributes
-op_opens_all (ops.OpenAsync place invocation name flags attributes) = declares_all attributes
-op_opens_all _ = false
-
--- a line that opens such a checkpoint, by a call that is plain or behind `begin`
-abbrev pub opens_all : Line → Bool
-opens_all (lines.Call client op) = op_opens_all op
-opens_all (lines.Begin actor op) = op_opens_all op
-opens_all _ = false
-
--- some line fails a node, and some line opens such a checkpoint
-abbrev pub fails_beside_all : List Line → Bool
-fails_beside_all xs = list_any is_fail xs && list_any opens_all xs
-
--- HOW FAR A SCRIPT IS READ: the lines counted, the line of the last race, the first line that fails a node, and what was said, the latest first
+-- HOW FAR A SCRIPT IS READ: the lines counted, the line of the last race, and what was said, the latest first
 pub record Progress : Type 0 where
   pub number : ℕ
   pub race : ℕ
-  pub failed : ℕ
   pub earlier : List Line
 
 -- nothing is read yet
 abbrev pub start : Progress
-start = record { number = 0; race = 0; failed = 0; earlier = [] }
+start = record { number = 0; race = 0; earlier = [] }
 
 -- the line of that number is at fault; 0 is the script as a whole
 abbrev pub fault : {X : Type 0} → ℕ → Reason → Result X ScriptFault
@@ -220,18 +189,9 @@ abbrev pub is_race : Line → Bool
 is_race lines.Race = true
 is_race _ = false
 
--- the number of the first line that fails a node, behind the line of this number; 0 where none does
-abbrev pub failed_behind : Line → ℕ → ℕ → ℕ
-failed_behind x number failed = if is_fail x && failed == 0 then number else failed
-
 -- a line more
 abbrev pub with_line : Progress → Line → Progress
-with_line p x = record {
-  number = p.number + 1;
-  race = if is_race x then p.number + 1 else p.race;
-  failed = failed_behind x (p.number + 1) p.failed;
-  earlier = x ∷ p.earlier;
-}
+with_line p x = record { number = p.number + 1; race = if is_race x then p.number + 1 else p.race; earlier = x ∷ p.earlier }
 
 -- a line is taken, unless it has a fault
 abbrev pub if_allowed : Progress → Line → Option Reason → Result Progress ScriptFault
@@ -258,13 +218,9 @@ unfoldable pub take_lines : Progress → List (List ℕ) → Result Progress Scr
 take_lines p [] = Ok p
 take_lines p (text ∷ rest) = if_no_fault (take_line p text) (λ q. take_lines q rest)
 
--- these lines, unless they fail a node beside a checkpoint whose updates are on all replicas: then the first that fails one is not built
-abbrev pub if_apart : ℕ → List Line → Result (List Line) ScriptFault
-if_apart failed xs = if fails_beside_all xs then fault failed reasons.NotBuilt else Ok xs
-
 -- a block that is left open is the fault of its first line
 abbrev pub whole_script : Progress → Result (List Line) ScriptFault
-whole_script p = if is_some (block_of p.earlier) then fault p.race reasons.Race else if_apart p.failed (reverse p.earlier)
+whole_script p = if is_some (block_of p.earlier) then fault p.race reasons.Race else Ok (reverse p.earlier)
 
 -- THE SCRIPT that the bytes spell, or the first line at fault
 unfoldable pub script_of : List ℕ → Result (List Line) ScriptFault

@@ -1,12 +1,9 @@
 //! What the lines so far tell of the next: which may come, and how much is left of each limit.
 ghost use Rattle.std.specs.Prelude.{◌≡◌, ◌<◌, ◌≤◌, ◌+◌, OnOk, IfErr, IfSome, IfNone, IfOk, Some, None, false, sum_by};
 ghost use Rattle.ckpt_types.specs.Limits.{block_lines_max, script_shows_max};
-ghost use Rattle.script_lang.specs.Grammar.{fault_after, marks_after, IsSmall, is_nodes, is_end, is_show, is_race as spec_is_race, is_fail as spec_is_fail, declares_all, op_opens_all, opens_all as spec_opens_all, goes_back, may_race_op as spec_may_race_op, may_race as spec_may_race, breaks_block, asked_in, moment_behind, block_after, block_size, shows_after};
+ghost use Rattle.script_lang.specs.Grammar.{fault_after, marks_after, IsSmall, is_nodes, is_end, is_show, is_race as spec_is_race, goes_back, may_race_op as spec_may_race_op, may_race as spec_may_race, breaks_block, asked_in, moment_behind, block_after, block_size, shows_after};
 
-use ckpt_types::{
-    BLOCK_LINES_MAX, CreationAttributes, Moment, Op, ReadElement, SCRIPT_READS_MAX,
-    SCRIPT_SHOWS_MAX, WR_ALL_REPLICAS,
-};
+use ckpt_types::{BLOCK_LINES_MAX, Moment, Op, ReadElement, SCRIPT_READS_MAX, SCRIPT_SHOWS_MAX};
 use script_lines::Line;
 use script_words::Reason;
 
@@ -64,42 +61,6 @@ pub fn is_race(line: &Line) -> bool
     ensures { result ≡ spec_is_race line.now }
 {
     matches!(line, Line::Race)
-}
-
-/// Whether a node fails by this line.
-pub fn is_fail(line: &Line) -> bool
-    ensures { result ≡ spec_is_fail line.now }
-{
-    matches!(line, Line::Fail(_))
-}
-
-/// Whether the line opens a checkpoint whose updates are on all replicas.
-pub fn opens_all(line: &Line) -> bool
-    ensures { result ≡ spec_opens_all line.now }
-{
-    match line {
-        Line::Call(_, op) | Line::Begin(_, op) => op_opens_all(op),
-        _ => false,
-    }
-}
-
-fn op_opens_all(op: &Op) -> bool
-    ensures { result ≡ op_opens_all op.now }
-{
-    match op {
-        Op::Open(_, _, _, _, attributes) => declares_all(attributes.value()),
-        Op::OpenAsync(_, _, _, _, attributes) => declares_all(attributes.value()),
-        _ => false,
-    }
-}
-
-fn declares_all(attributes: &Option<CreationAttributes>) -> bool
-    ensures { result ≡ declares_all attributes.now }
-{
-    match attributes {
-        Some(attributes) => attributes.creation_flags == WR_ALL_REPLICAS,
-        None => false,
-    }
 }
 
 fn is_nodes_line(line: &Line) -> bool

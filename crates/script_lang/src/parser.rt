@@ -1,18 +1,17 @@
 //! From bytes to a script, line by line, or to the first fault.
 ghost use Rattle.std.specs.Prelude.{◌≡◌, ◌<◌, ◌≤◌, ◌+◌, OnOk, IfErr, IfOk, Ok, None, false};
 ghost use Rattle.std.specs.Bool.{OnTrue};
-ghost use Rattle.std.specs.List.{list_any};
 ghost use Rattle.ckpt_types.specs.Limits.{script_lines_max, script_reads_max};
 ghost use Rattle.script_lang.specs.declared.faults.ParseError.TheVariants as parse_errors;
 ghost use Rattle.script_lang.specs.Faults.{Parses, Misses};
 ghost use Rattle.script_lang.specs.BuiltScripts.{IsBuiltScript};
 ghost use Rattle.script_lang.specs.Scripts.{IsScript};
 ghost use Rattle.script_lines.specs.Table.{line_said};
-ghost use Rattle.script_lang.specs.Grammar.{start, take_line, take_lines, script_of, whole_script, if_allowed, fault_of, text_lines, after_reading, some_line, words_of, is_race as spec_is_race, is_fail as spec_is_fail, opens_all as spec_opens_all, fails_beside_all, failed_behind, IsSmall};
+ghost use Rattle.script_lang.specs.Grammar.{start, take_line, take_lines, script_of, whole_script, if_allowed, fault_of, text_lines, after_reading, some_line, words_of, is_race as spec_is_race, IsSmall};
 ghost use Rattle.script_lang.specs.Plain.{OnlyAsks};
 
 use crate::faults::{ParseError, ScriptFault};
-use crate::marks::{Marks, is_fail, is_race, next_marks, opens_all};
+use crate::marks::{Marks, is_race, next_marks};
 use crate::quick::{Quick, behind_begin, quick_line};
 use crate::reading::{first_line, read_line, says_nothing};
 use crate::script::Script;
@@ -75,7 +74,6 @@ struct Reader {
     lines: Vec<Line>,
     number: u32,
     race: u32,
-    failed: u32,
     marks: Marks,
 }
 
@@ -86,7 +84,7 @@ impl Model for Reader {
 
     ghost Value = { Progress };
 
-    ghost view = { λ r. record { number = r.number; race = r.race; failed = r.failed; earlier = reverse r.lines.items } };
+    ghost view = { λ r. record { number = r.number; race = r.race; earlier = reverse r.lines.items } };
 
     ghost invariant = { λ r. (r.number ≤ script_lines_max) × (length r.lines.items ≤ r.number) × (r.marks ≡ marks_of (reverse r.lines.items)) × IsSmall r.marks };
 }
@@ -101,7 +99,6 @@ impl Reader {
             lines,
             number: 0,
             race: 0,
-            failed: 0,
             marks: Marks {
                 none: true,
                 moment: 0,
@@ -197,7 +194,6 @@ impl Reader {
     fn add_access(&mut self, line: Line, asked: u64) -> Result<(), ParseError>
         requires number { self.old.number < script_lines_max }
         requires race { spec_is_race line ≡ false }
-        requires failure { spec_is_fail line ≡ false }
         requires marks { OnlyAsks line asked }
         ensures ok { OnOk result (if_allowed self.old line (fault_of self.old.earlier line) ≡ Ok self.new) }
         ensures err { IfErr result (λ e. Misses e (if_allowed self.old line (fault_of self.old.earlier line))) }
@@ -249,16 +245,14 @@ impl Reader {
         } else {
             self.race
         };
-        let failed = failed_after(&line, self.number + 1, self.failed);
         self.lines.push_reserved(line);
         self.number += 1;
         self.race = race;
-        self.failed = failed;
         self.marks = marks;
         Ok(())
     }
 
-    // The script, where no block is left open, and no node fails beside a checkpoint whose updates are on all replicas.
+    // The script, where no block is left open.
     #[tactic(auto, unfolding(crate::specs::Grammar::marks_of))]
     fn finish(self) -> Result<Script, ParseError>
         ensures { Parses result (whole_script self) }
@@ -269,47 +263,8 @@ impl Reader {
                 reason: Reason::Race,
             }));
         }
-        if fails_beside_all(&self.lines) {
-            return Err(ParseError::Fault(ScriptFault {
-                line: self.failed,
-                reason: Reason::NotBuilt,
-            }));
-        }
         Ok(Vector::from_vec(self.lines))
     }
-}
-
-// The number of the first line that fails a node, behind this line; 0 where none does.
-fn failed_after(line: &Line, number: u32, failed: u32) -> u32
-    ensures { result ≡ failed_behind line.now number failed }
-{
-    if is_fail(line) && failed == 0 {
-        number
-    } else {
-        failed
-    }
-}
-
-// Whether a node fails, and a checkpoint is opened whose updates are on all replicas.
-fn fails_beside_all(lines: &[Line]) -> bool
-    ensures { result ≡ fails_beside_all lines.now }
-{
-    any_fails(lines) && any_opens_all(lines)
-}
-
-// Whether a node fails by one of the lines.
-fn any_fails(lines: &[Line]) -> bool
-    ensures { result ≡ list_any spec_is_fail lines.now }
-{
-    lines.iter().any(|line| is_fail(line))
-}
-
-// Whether one of the lines opens a checkpoint whose updates are on all replicas.
-#[inline(never)]
-fn any_opens_all(lines: &[Line]) -> bool
-    ensures { result ≡ list_any spec_opens_all lines.now }
-{
-    lines.iter().any(|line| opens_all(line))
 }
 
 // Whether a line stands in no block, and may ask for so many bytes.

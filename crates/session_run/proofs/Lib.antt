@@ -1,5 +1,4 @@
 pub mod Following
-mod Apart
 pub mod Fronts
 pub mod Playable
 pub mod Putting

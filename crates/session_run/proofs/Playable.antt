@@ -1,5 +1,5 @@
 -- Each line of a script of what is built can be played.
-use Rattle.std.proofs.Common.{◌≡◌, ℕ, zero, suc, ◌+◌, ◌-◌, ◌^◌, List, [], ◌∷◌, true, ℤ, pos, ◌≤ℤ◌, refl, sym, subst, arith}
+use Rattle.std.proofs.Common.{◌≡◌, ℕ, zero, suc, ◌+◌, ◌-◌, ◌^◌, List, [], ◌∷◌, ℤ, pos, ◌≤ℤ◌, refl, sym, subst, arith}
 use Rattle.std.proofs.lemmas.Int.{ints}
 use Rattle.ckpt_types.specs.declared.identities.ActorName.TheVariants.{Client, Node}
 use Rattle.ckpt_types.specs.declared.identities.Who.{Who}
@@ -7,14 +7,12 @@ use Rattle.ckpt_types.specs.declared.identities.Who.TheVariants.{Actor, Call}
 use Rattle.run_labels.specs.declared.labels.Label.{Label}
 use Rattle.script_lines.specs.declared.lines.Line.{Line}
 use Rattle.script_lines.specs.declared.lines.Line.TheVariants as lines
-use Rattle.script_lang.specs.BuiltScripts.{IsStepped, IsBuiltLine, AreBuiltLines, AreNodesFirst, IsBuiltScript}
-use Rattle.script_lang.specs.Grammar.{moment_behind, is_fail}
+use Rattle.script_lang.specs.BuiltScripts.{IsStepped, IsBuiltLine, AreBuiltLines, AreNodesFirst}
+use Rattle.script_lang.specs.Grammar.{moment_behind}
 use Rattle.cluster_record.specs.RecordState.{IsMomentFrom}
 use Rattle.session_run.specs.Growing.{AreLeft, CanPlay}
 use Rattle.world_core.specs.Runs.{MayBeStepped}
-use Rattle.session_run.specs.Playable.{IsPlayableLine, ArePlayable, ComeInOrder, IsPlayable}
-use Rattle.ckpt_machine.specs.Entries.{AreApart}
-use Rattle.ckpt_machine.specs.Runs.{last}
+use Rattle.session_run.specs.Playable.{IsPlayableLine, ArePlayable, IsPlayable}
 
 -- a moment that is before 2^63-1 is before the end of time
 is_moment : (t u : ℤ) → t ≤ℤ u → u ≤ℤ pos (2 ^ 63 - 2) → IsMomentFrom t u
@@ -43,26 +41,22 @@ are_playable : (t : ℤ) (xs : List Line) → AreBuiltLines t xs → ArePlayable
 are_playable t [] built = tt
 are_playable t (x ∷ xs) built = (is_playable t x built.0, are_playable (moment_behind t x) xs built.1)
 
-in_order : (xs : List Line) → AreNodesFirst xs → ComeInOrder xs
-in_order [] built = tt
-in_order (x ∷ xs) built = (built.0, are_playable (pos 0) xs built.1)
-
 -- a script of what is built can be played
-pub playable : (xs : List Line) → IsBuiltScript xs → IsPlayable xs
-playable xs built = (in_order xs built.0, built.2)
+pub playable : (xs : List Line) → AreNodesFirst xs → IsPlayable xs
+playable [] built = tt
+playable (x ∷ xs) built = (built.0, are_playable (pos 0) xs built.1)
 
 -- ---- line by line
 
 -- the next line of those that are left
-pub CanPlay-next : (i : ℕ) (t : ℤ) (line : Line) (rest : List Line) (log : List Label) → AreLeft i t (line ∷ rest) → (i ≡ 0 → log ≡ []) → (is_fail line ≡ true → AreApart (last log).cluster.entries) → CanPlay t log line
-CanPlay-next zero t (lines.Nodes count) rest log left first apart = (left.0.0, left.0.1, first refl)
-CanPlay-next zero t line rest log left first apart = absurd left.0
-CanPlay-next (suc i) t (lines.Nodes count) rest log left first apart = absurd left.0
-CanPlay-next (suc i) t (lines.Fail r) rest log left first apart = (left.0, apart refl)
-CanPlay-next (suc i) t line rest log left first apart = left.0
+pub CanPlay-next : (i : ℕ) (t : ℤ) (line : Line) (rest : List Line) (log : List Label) → AreLeft i t (line ∷ rest) → (i ≡ 0 → log ≡ []) → CanPlay t log line
+CanPlay-next zero t (lines.Nodes count) rest log left first = (left.0.0, left.0.1, first refl)
+CanPlay-next zero t line rest log left first = absurd left.0
+CanPlay-next (suc i) t (lines.Nodes count) rest log left first = absurd left.0
+CanPlay-next (suc i) t line rest log left first = left.0
 
 -- the nodes come up at the moment 0, and the moment is 0 behind it
-first_moment : (t : ℤ) (line : Line) (rest : List Line) → t ≡ pos 0 → ComeInOrder (line ∷ rest) → ArePlayable (moment_behind t line) rest
+first_moment : (t : ℤ) (line : Line) (rest : List Line) → t ≡ pos 0 → IsPlayable (line ∷ rest) → ArePlayable (moment_behind t line) rest
 first_moment t (lines.Nodes count) rest start left = subst (λ t. ArePlayable t rest) (sym start) left.1
 first_moment t line rest start left = absurd left.0
 

@@ -5,10 +5,8 @@ use Rattle.script_lines.specs.declared.lines.Line.{Line}
 use Rattle.script_lines.specs.declared.lines.Line.TheVariants as lines
 use Rattle.run_labels.specs.declared.labels.Label.{Label}
 use Rattle.client_calls.specs.declared.in_hand.InHand.{InHand}
-use Rattle.ckpt_machine.specs.Entries.{AreApart}
-use Rattle.ckpt_machine.specs.Runs.{last}
 use Rattle.session_run.specs.Follows.{StepsToEnd, StepsUpTo}
-use Rattle.session_run.specs.Playable.{IsPlayableLine, ArePlayable, ComeInOrder}
+use Rattle.session_run.specs.Playable.{IsPlayableLine, ArePlayable, IsPlayable}
 use Rattle.session_run.specs.Puts.{ArePuts}
 
 -- the log is longer by labels that have this
@@ -35,11 +33,10 @@ IsStepping n (Some h) more = StepsUpTo h.call n None more
 
 -- the lines that are left behind so many, at a moment: all of a script, or those that come with the nodes up
 abbrev pub AreLeft : ℕ → ℤ → List Line → Type 0
-AreLeft zero t lines = ComeInOrder lines
+AreLeft zero t lines = IsPlayable lines
 AreLeft (suc i) t lines = ArePlayable t lines
 
--- the line can be played at a moment, after a log: the nodes come up first, and one fails where no checkpoint has its updates on all replicas
+-- the line can be played at a moment, after a log
 abbrev pub CanPlay : ℤ → List Label → Line → Type 0
 CanPlay t log (lines.Nodes n) = (0 < n) × (n ≤ nodes_max) × (log ≡ [])
-CanPlay t log (lines.Fail r) = (r < nodes_max) × AreApart (last log).cluster.entries
 CanPlay t log line = IsPlayableLine t line

@@ -4,7 +4,7 @@ use Rattle.ckpt_types.specs.Asks.{IsBuilt}
 use Rattle.ckpt_types.specs.Limits.{client_numbers, nodes_max}
 use Rattle.script_lines.specs.declared.lines.Line.{Line}
 use Rattle.script_lines.specs.declared.lines.Line.TheVariants as lines
-use Rattle.script_lang.specs.BuiltScripts.{AreFirstNodes, IsApartWhereNodesFail}
+use Rattle.script_lang.specs.BuiltScripts.{AreFirstNodes}
 use Rattle.script_lang.specs.Grammar.{moment_behind}
 use Rattle.cluster_record.specs.RecordState.{IsMomentFrom}
 use Rattle.world_core.specs.Runs.{IsScriptClient, MayBeStepped}
@@ -29,11 +29,7 @@ abbrev pub ArePlayable : ℤ → List Line → Type 0
 ArePlayable t [] = Unit {0}
 ArePlayable t (line ∷ rest) = IsPlayableLine t line × ArePlayable (moment_behind t line) rest
 
--- the nodes come up first, and then come such lines from the moment 0; or nothing comes
-abbrev pub ComeInOrder : List Line → Type 0
-ComeInOrder [] = Unit {0}
-ComeInOrder (line ∷ rest) = AreFirstNodes line × ArePlayable (pos 0) rest
-
--- A SCRIPT THAT CAN BE PLAYED: lines that come in this order; and where nodes fail, no checkpoint is opened whose updates are on all replicas
+-- A SCRIPT THAT CAN BE PLAYED: the nodes come up first, and then come such lines from the moment 0; or nothing comes
 abbrev pub IsPlayable : List Line → Type 0
-IsPlayable lines = ComeInOrder lines × IsApartWhereNodesFail lines
+IsPlayable [] = Unit {0}
+IsPlayable (line ∷ rest) = AreFirstNodes line × ArePlayable (pos 0) rest

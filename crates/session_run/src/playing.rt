@@ -65,7 +65,6 @@ fn play<W: Cluster>(
     ensures follows { OnOk result (Follows lines.now log.new.labels) }
     ensures front { FollowsFront lines.now log.new.labels }
 {
-    machine_law();
     world_law();
     for line in lines {
         play_line(alloc, line, log, world)?;

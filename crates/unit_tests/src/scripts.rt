@@ -15,7 +15,7 @@ client c9 n7 A.0.9 both
 client c2 n0 B.2.2 open
 begin client c3 n1 B.2.2 sync
 open c7 h1 x 1 9223372036854775807
-open c0 h0 'ck 7 end 2 16 0 1 16 8
+open c0 h0 'ck 7 end 1 16 0 1 16 8
 create c0 h0 'a 5 x4A
 create c0 h1 gen 9223372036854775807 'b
 at 7
@@ -43,7 +43,7 @@ active c9 h8
 sync c9 h8 9223372036854775807
 begin sync c9 h8 0
 openasync c7 h1 18446744073709551615 '~ 7
-begin openasync c7 h2 0 x 2 4 16 9223372036854775807 1 16 8
+begin openasync c7 h2 0 x 2 1 16 9223372036854775807 1 16 8
 syncasync c7 h1 5
 
 dispatch c7 4294967295
@@ -70,7 +70,7 @@ client c9 n7 A.0.9 both
 client c2 n0 B.2.2 open
 begin client c3 n1 B.2.2 sync
 open c7 h1 x 1 end
-open c0 h0 x636b 7 end 2 16 0 1 16 8
+open c0 h0 x636b 7 end 1 16 0 1 16 8
 create c0 h0 x61 5 x4a
 create c0 h1 gen end x62
 at 7
@@ -95,7 +95,7 @@ active c9 h8
 sync c9 h8 end
 begin sync c9 h8 0
 openasync c7 h1 18446744073709551615 x7e 7
-begin openasync c7 h2 0 x 2 4 16 end 1 16 8
+begin openasync c7 h2 0 x 2 1 16 end 1 16 8
 syncasync c7 h1 5
 dispatch c7 4294967295
 begin close c9 h8
@@ -218,13 +218,13 @@ fn each_reason_is_told_of_its_line(rt: HostRuntime) {
 }
 
 #[test]
-fn nodes_fail_where_no_updates_are_on_all_replicas(rt: HostRuntime) {
+fn nodes_fail_beside_checkpoints_of_each_kind(rt: HostRuntime) {
     let alloc = rt.alloc();
     let own = "open c0 h0 'ck 7 end 2 16 0 1 16 8\nfail n1\n";
     let all = "fail n1\nbegin open c0 h0 'ck 7 end 1 16 0 1 16 8\n";
     met(&rt, 1, is_told_of_many(alloc, "fail n0\n", 2, "ok 3"));
     met(&rt, 2, is_told_of_many(alloc, own, 2, "ok 5"));
-    met(&rt, 3, is_told_of_many(alloc, all, 2, "2 not built"));
+    met(&rt, 3, is_told_of_many(alloc, all, 2, "ok 5"));
     met(&rt, 4, is_told_of_many(alloc, "fail n8", 1, "2 word"));
     met(&rt, 5, is_told_of_many(alloc, "begin fail n0", 1, "2 word"));
     met(&rt, 6, is_told_of_many(alloc, "fail", 1, "2 count"));

@@ -26,7 +26,7 @@ shown_without : (b : Bool) (h : History) (v : Who) (o : Option InHand) → shown
 shown_without true h v o = refl
 shown_without false h v o = refl
 
-fits_without : (b : Bool) (h : History) (v : Who) (o : Option InHand) → FitsHand (h.beginnings v) (h.steps v) (h.pulled v) o → FitsHand (h.beginnings v) (h.steps v) (h.pulled v) (cond b None o)
+fits_without : (b : Bool) (h : History) (v : Who) (o : Option InHand) → FitsHand (h.beginnings v) (h.steps v) (h.created v) (h.pulled v) o → FitsHand (h.beginnings v) (h.steps v) (h.created v) (h.pulled v) (cond b None o)
 fits_without true h v o fits = tt
 fits_without false h v o fits = fits
 
@@ -49,7 +49,7 @@ module _ (w : World) (h : History) (c : ℕ) (test : Who → Bool) (hands : Hand
   others_fit fits = record {
     replicas = fits.replicas;
     copies = fits.copies;
-    hands = λ v. subst (FitsHand (h.beginnings v) (h.steps v) (h.pulled v)) (sym (at v)) (fits_without (test v) h v (hand_at w.hands v) (fits.hands v));
+    hands = λ v. subst (FitsHand (h.beginnings v) (h.steps v) (h.created v) (h.pulled v)) (sym (at v)) (fits_without (test v) h v (hand_at w.hands v) (fits.hands v));
   }
 
 left_none : (handle : Option ℕ) → left_over handle no_pending ≡ no_pending

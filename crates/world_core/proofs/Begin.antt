@@ -37,6 +37,7 @@ use Rattle.client_calls.specs.HandRooms.{room_for, copy_room, copy_room_for}
 use Rattle.world_core.specs.HandsState.{HandsState, hand_at}
 use Rattle.world_core.specs.Happenings.{Begins, KeepsOther}
 use Rattle.world_core.specs.Runs.{GoesOn, IsThereIf}
+use Rattle.client_calls.specs.MadeIds.{made_told}
 use Rattle.world_core.specs.Shows.{Beginning, Does, HistoryFits, FitsHand, History, IsShown, machine_of, next_of, tables_of, pending_of, hand_of, shown_hand}
 use Rattle.ckpt_machine.specs.Shown.{IsRoomToCopy}
 use Rattle.world_core.specs.TablesState.{standing_in, kept_by, pending_by, table_changed, at_client}
@@ -94,7 +95,7 @@ module _ (w : World) (call : CallId) (op : Op) (kept : Kept) (end : Option Outco
       ap (λ x. put_who (hand_of h w.hands) name x u) (call_shown (goes_on (word_of_op op) end) o (h.beginnings name).driver refl is) ∙ put_hand h w.hands new name o under (its o h) [] None None u
 
   -- and they fit
-  call_fits : (b : Bool) (o : Option InHand) (driver : Driver) → IsBegunAs b call op kept o → FitsHand (began_as kept o driver) [] None o
+  call_fits : (b : Bool) (o : Option InHand) (driver : Driver) → IsBegunAs b call op kept o → FitsHand (began_as kept o driver) [] None None o
   call_fits b None driver is = tt
   call_fits false (Some hand) driver is = absurd (cc is)
   call_fits true (Some hand) driver is = record {
@@ -102,10 +103,11 @@ module _ (w : World) (call : CallId) (op : Op) (kept : Kept) (end : Option Outco
     iteration = is.iteration ∙ ap (λ op. room_for (asked op) kept.room) (sym is.op_is);
     room = subst (λ (z : Op × Option Snapshot). IsRoomToCopy (asked z.0) kept.declares z.1) (λ i. (sym is.op_is i, sym is.snapshot i)) (room_to_copy (asked op) kept.declares);
     copy = tt;
+    made = λ has creates. ap made_told is.made;
   }
 
-  fit_behind : (o : Option InHand) (h : History) → IsBegunAs (goes_on (word_of_op op) end) call op kept o → HasUnder w.hands name o new → HistoryFits w h → (u : Who) → FitsHand ((later o h).beginnings u) ((later o h).steps u) ((later o h).pulled u) (hand_at new u)
-  fit_behind o h is under fits = fits_hand h w.hands new name o under (its o h) [] None (call_fits (goes_on (word_of_op op) end) o (h.beginnings name).driver is) fits.hands
+  fit_behind : (o : Option InHand) (h : History) → IsBegunAs (goes_on (word_of_op op) end) call op kept o → HasUnder w.hands name o new → HistoryFits w h → (u : Who) → FitsHand ((later o h).beginnings u) ((later o h).steps u) ((later o h).created u) ((later o h).pulled u) (hand_at new u)
+  fit_behind o h is under fits = fits_hand h w.hands new name o under (its o h) [] None None (call_fits (goes_on (word_of_op op) end) o (h.beginnings name).driver is) fits.hands
 
   -- the call is in hand just where it goes on
   there : (b : Bool) (o : Option InHand) → IsBegunAs b call op kept o → IsThereIf b call op o

@@ -18,7 +18,7 @@ use Rattle.ckpt_types.specs.declared.identities.Who.TheVariants.{Actor}
 use Rattle.cluster_record.specs.Calls.{left}
 use Rattle.world_core.proofs.Maps.{HasUnder, under_own, under_other}
 use Rattle.cluster_record.specs.StepDone.{StepDone, done_of, counting}
-use Rattle.ckpt_machine.specs.Driving.{driver_next}
+use Rattle.ckpt_machine.specs.Driving.{driver_next, driver_taken}
 use Rattle.ckpt_machine.specs.Facts.{Facts}
 use Rattle.ckpt_machine.specs.Machine.{Machine, CallState, Effect}
 use Rattle.snap_copy.specs.Snapshots as copies
@@ -30,7 +30,7 @@ use Rattle.world_core.specs.Happenings.{rooms_at, IsStep, KeepsOther}
 use Rattle.world_core.specs.Backgrounds.{HaveRooms}
 use Rattle.ckpt_machine.specs.Holding.{HoldsOnlyWhatStands}
 use Rattle.ckpt_machine.specs.RecordReady.{IsPlain}
-use Rattle.world_core.specs.Shows.{Does, Shows, IsShown, HistoryFits, History, machine_of}
+use Rattle.world_core.specs.Shows.{Does, Shows, IsShown, HistoryFits, History, machine_of, KeepsMade}
 use Rattle.world_core.proofs.Freeing.{DoesBefore}
 use Rattle.world_core.proofs.Held.{state_in, in_hand_at, name_is, actor_is, due_is, IsCopyBehind}
 use Rattle.world_core.specs.HandsState.{hand_at}
@@ -94,8 +94,8 @@ event_pulls m s (events.Hold q) k r reply plain = absurd plain
 event_pulls m s step k r reply plain = refl
 
 -- `behind` shows with the history `later` what the step changes, the call's own steps aside
--- and the call is told this count, has this copy in its hand, and has pulled these effects then
-module _ (w : World) (v : Who) (hand : InHand) (held : hand_at w.hands v ≡ Some hand) (behind : World) (later : History → History) (verb : Verb) (k r : Option ℕ) (reply : StepReply) (end : Option Outcome) (details : Details) (count : ℕ) (copy : Option copies.Snapshot) (pulled : History → Option (List Effect)) where
+-- and the call is told this count, has this copy in its hand, keeps this of what it has made, and has pulled these effects then
+module _ (w : World) (v : Who) (hand : InHand) (held : hand_at w.hands v ≡ Some hand) (behind : World) (later : History → History) (verb : Verb) (k r : Option ℕ) (reply : StepReply) (end : Option Outcome) (details : Details) (count : ℕ) (copy : Option copies.Snapshot) (kept : Option (List (List ℕ))) (pulled : History → Option (List Effect)) where
   abbrev label : Label
   label = Stepped hand.call (word_of_op hand.op) verb k r reply end details
 
@@ -104,7 +104,7 @@ module _ (w : World) (v : Who) (hand : InHand) (held : hand_at w.hands v ≡ Som
 
   -- the world in which the call is told of it
   abbrev pub behind_step : World
-  behind_step = told_world behind v hand copy step_done end
+  behind_step = told_world behind v hand copy kept step_done end
 
   -- with the history that the machine has then
   abbrev history_behind : History → History
@@ -117,6 +117,7 @@ module _ (w : World) (v : Who) (hand : InHand) (held : hand_at w.hands v ≡ Som
     pub fits : HistoryFits behind (later h)
     pub count_is : counted_at (machine_of w h) verb k r reply ≡ count
     pub copy_is : IsCopyBehind (later h) v hand (pulled_by (machine_of w h) (state_in h v hand) verb k r reply) (pulled h) copy
+    pub made_is : KeepsMade hand.op (driver_taken step_done hand.driver) (created_by (machine_of w h) (state_in h v hand) verb k r) kept
 
   module _ (next : Next) (next_is : driver_next w.cluster (rooms_at w (client_by v)) hand.driver ≡ next) (still : hand_at behind.hands v ≡ Some hand) (same : (h : History) → state_in h v hand ≡ state_in (later h) v hand) where
     due_step : (h : History) → IsKnown w h → IsShownBehind next h → IsDue (machine_of w h) label
@@ -134,7 +135,7 @@ module _ (w : World) (v : Who) (hand : InHand) (held : hand_at w.hands v ≡ Som
         let s = state_in h v hand in
         ap (λ (p : Option CallState). step_of m p verb k r reply end) (in_hand_at w h v hand held is.facts)
         ∙ (λ i. stepped (step.change i) (record (same h i) { steps = counting (step.count_is i) (done_of (step.change i).cluster verb k r reply) ∷ (same h i).steps; created = created_by m s verb k r; snapshot = pulled_by m s verb k r reply }) end)
-        ∙ told_is behind (later h) v hand step_done (created_by m s verb k r) (pulled_by m s verb k r reply) (pulled h) copy end (name_is w h v hand held is.facts) (actor_is w h v hand held is.facts) step.fits still step.copy_is
+        ∙ told_is behind (later h) v hand step_done (created_by m s verb k r) (pulled_by m s verb k r reply) (pulled h) copy kept end (name_is w h v hand held is.facts) (actor_is w h v hand held is.facts) step.fits still step.copy_is
 
     -- the step, before the nodes are freed
     pub step_before : ((h : History) → IsKnown w h → IsShownBehind next h) → DoesBefore w behind_step label
@@ -142,5 +143,5 @@ module _ (w : World) (v : Who) (hand : InHand) (held : hand_at w.hands v ≡ Som
       due_is = λ m s f. let is = known_by w m s f in subst (λ (m : Machine). IsDue m label) (sym s.same) (due_step s.history is (step s.history is));
       history = λ m s f. history_behind s.history;
       same = λ m s f. let is = known_by w m s f in ap (λ (m : Machine). after m label) s.same ∙ after_is s.history is (step s.history is);
-      fits = λ m s f. let is = known_by w m s f in told_fits behind (later s.history) v hand step_done _ _ _ copy end (name_is w s.history v hand held is.facts) (actor_is w s.history v hand held is.facts) (step s.history is).fits still (step s.history is).copy_is;
+      fits = λ m s f. let is = known_by w m s f in told_fits behind (later s.history) v hand step_done _ _ _ copy kept end (name_is w s.history v hand held is.facts) (actor_is w s.history v hand held is.facts) (step s.history is).fits still (step s.history is).copy_is (step s.history is).made_is;
     }

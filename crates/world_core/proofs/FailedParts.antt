@@ -19,14 +19,15 @@ use Rattle.cluster_record.specs.Failing.{failed, goes_with_node}
 use Rattle.cluster_record.specs.Identities.{IdentitiesRise}
 use Rattle.cluster_record.specs.Places.{list_or, or_none}
 use Rattle.cluster_record.specs.RecordState.{RecordState, entry_of, is_live_client, swept}
-use Rattle.ckpt_machine.specs.Failing.{enters_on, is_of_node, unless_abandoned}
+use Rattle.ckpt_machine.specs.Failing.{enters_on, is_abandoned, is_of_node, unless_abandoned}
 use Rattle.ckpt_machine.specs.Machine.{no_tables}
 use Rattle.ckpt_machine.specs.Under.{snapshot_under}
+use Rattle.ckpt_machine.proofs.ByNumber.{at_number}
 use Rattle.ckpt_machine.proofs.Actors.{same_call-true}
 use Rattle.ckpt_machine.proofs.FailedClients.{found_then}
 use Rattle.ckpt_machine.proofs.FailedEntries.{found_failed}
 use Rattle.ckpt_machine.proofs.GoesAt.{copied_case}
-use Rattle.client_calls.specs.Abandoning.{calls_left, is_abandoned_hand, place_left, table_gone, table_left}
+use Rattle.client_calls.specs.Abandoning.{calls_left, place_left, table_gone, table_left}
 use Rattle.client_calls.specs.AlonePlaces.{found_alone}
 use Rattle.client_calls.specs.TableState.{TableState, kept_in, next_in, pending_in}
 use Rattle.client_calls.specs.declared.in_hand.InHand.{InHand}
@@ -38,7 +39,6 @@ use Rattle.world_core.specs.Shows.{FitsHand, Beginning, next_of, pending_of, sho
 use Rattle.cluster_record.specs.StepDone.{StepDone}
 use Rattle.ckpt_machine.specs.Machine.{Effect}
 use Rattle.world_core.specs.declared.snapshots.Background.{Background}
-use Rattle.world_core.proofs.ByNumber.{at_number}
 use Rattle.world_core.proofs.Freeing.{rooms_left, snapshot_shown-left}
 use Rattle.world_core.proofs.HandLaws.{found-call}
 use Rattle.world_core.proofs.Recording.{none_pulled}
@@ -105,7 +105,7 @@ module _ (R : RecordState) (r : ℕ) (hands : HandsState) where
       by_found None is = elim (goes_with_node R r c) as (λ b. found_alone (call_of c n) (cond b [] xs) ≡ None) [ true ↦ refl | false ↦ is ]
       by_found (Some h) is =
           let own : is_of_node R r h.call.actor ≡ goes_with_node R r c = ap (λ (z : CallId). is_of_node R r z.actor) (same_call-true h.call (call_of c n) (found-call (call_of c n) xs h is)) in
-          let test : is_abandoned_hand R r h ≡ (goes_with_node R r c || false) = (λ i. own i || alone h is i) in
+          let test : is_abandoned R r h.call h.op ≡ (goes_with_node R r c || false) = (λ i. own i || alone h is i) in
           elim (goes_with_node R r c) as (λ b. found_alone (call_of c n) (cond b [] xs) ≡ cond (b || false) None (Some h)) [ true ↦ refl | false ↦ is ]
           ∙ sym (ap (λ b. cond b None (Some h)) test)
 
@@ -133,12 +133,12 @@ module _ (R : RecordState) (r : ℕ) (hands : HandsState) where
 pub shown_abandoned : (R : RecordState) (r : ℕ) (began : Beginning) (steps : List StepDone) (created : Option (List ℕ)) (pulled : Option (List Effect)) (o : Option InHand) → unless_abandoned R r (shown_hand began steps created pulled o) ≡ shown_hand began steps created pulled (place_left R r o)
 shown_abandoned R r began steps created pulled None = refl
 shown_abandoned R r began steps created pulled (Some h) =
-    elim (is_abandoned_hand R r h) as (λ b. cond b None (shown_hand began steps created pulled (Some h)) ≡ shown_hand began steps created pulled (cond b None (Some h))) [ true ↦ refl | false ↦ refl ]
+    elim (is_abandoned R r h.call h.op) as (λ b. cond b None (shown_hand began steps created pulled (Some h)) ≡ shown_hand began steps created pulled (cond b None (Some h))) [ true ↦ refl | false ↦ refl ]
 
 -- and those that stay are where their steps have led them
-pub fits_abandoned : (R : RecordState) (r : ℕ) (began : Beginning) (steps : List StepDone) (pulled : Option (List Effect)) (o : Option InHand) → FitsHand began steps pulled o → FitsHand began steps pulled (place_left R r o)
-fits_abandoned R r began steps pulled None fits = tt
-fits_abandoned R r began steps pulled (Some h) fits = elim (is_abandoned_hand R r h) as (λ b. FitsHand began steps pulled (cond b None (Some h))) [ true ↦ tt | false ↦ fits ]
+pub fits_abandoned : (R : RecordState) (r : ℕ) (began : Beginning) (steps : List StepDone) (created : Option (List ℕ)) (pulled : Option (List Effect)) (o : Option InHand) → FitsHand began steps created pulled o → FitsHand began steps created pulled (place_left R r o)
+fits_abandoned R r began steps created pulled None fits = tt
+fits_abandoned R r began steps created pulled (Some h) fits = elim (is_abandoned R r h.call h.op) as (λ b. FitsHand began steps created pulled (cond b None (Some h))) [ true ↦ tt | false ↦ fits ]
 
 -- ---- the background snapshots
 

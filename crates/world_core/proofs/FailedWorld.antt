@@ -18,7 +18,6 @@ use Rattle.cluster_record.specs.declared.entries.Entry.{Entry}
 use Rattle.run_labels.specs.declared.labels.Label.TheVariants as labels
 use Rattle.ckpt_machine.specs.CountsTold.{counts_of}
 use Rattle.ckpt_machine.specs.Due.{IsDue, count_in}
-use Rattle.ckpt_machine.specs.Entries.{AreApart}
 use Rattle.ckpt_machine.specs.Facts.{Facts}
 use Rattle.ckpt_machine.specs.Failing.{enters_on, failed_at, is_of_node, replica_left, unless_abandoned}
 use Rattle.ckpt_machine.specs.Machine.{Machine}
@@ -93,15 +92,15 @@ module _ (w : World) (r : ℕ) (h : History) (fits : HistoryFits w h) (facts : F
   failed_fits = record {
     replicas = fits_left told r w.cluster w.nodes facts.rises holds h.effects h.origins fits.replicas;
     copies = λ k. copies_fit (record_left r w).entries w.snapshots k (h.copied k) (fits.copies k);
-    hands = λ v. subst (FitsHand (h.beginnings v) (h.steps v) (h.pulled v)) (sym (hand_left_at w.cluster r w.hands alone v)) (fits_abandoned w.cluster r (h.beginnings v) (h.steps v) (h.pulled v) (hand_at w.hands v) (fits.hands v));
+    hands = λ v. subst (FitsHand (h.beginnings v) (h.steps v) (h.created v) (h.pulled v)) (sym (hand_left_at w.cluster r w.hands alone v)) (fits_abandoned w.cluster r (h.beginnings v) (h.steps v) (h.created v) (h.pulled v) (hand_at w.hands v) (fits.hands v));
   }
 
 -- ---- the label
 
 -- a node that is up fails
-pub failed_does : (w : World) (r : ℕ) → r < nodes_max → is_up r w.cluster ≡ true → AreApart w.cluster.entries → Does w (failed_world r w) (labels.Failed r true)
-failed_does w r node up apart = record {
-  due_is = λ m s f. subst (λ (m : Machine). IsDue m (labels.Failed r true)) (sym s.same) (node, up, apart);
+pub failed_does : (w : World) (r : ℕ) → r < nodes_max → is_up r w.cluster ≡ true → Does w (failed_world r w) (labels.Failed r true)
+failed_does w r node up = record {
+  due_is = λ m s f. subst (λ (m : Machine). IsDue m (labels.Failed r true)) (sym s.same) (node, up);
   shows = λ m s f. let facts = subst Facts s.same f in record {
     history = then_history w r s.history s.fits facts s.holds s.keeps;
     same = ap (failed_at r) s.same ∙ failed_is w r s.history s.fits facts s.holds s.keeps;
@@ -120,13 +119,13 @@ down_does w r node down = record {
 }
 
 -- a node fails, where it is up, with the label as the code names it
-pub fails : (w : World) (r : ℕ) (was_up : Bool) (behind : World) → r < nodes_max → AreApart w.cluster.entries → was_up ≡ is_up r w.cluster → (was_up ≡ true → behind ≡ failed_world r w) → (was_up ≡ false → behind ≡ w) → Fails r w behind (labels.Failed r was_up)
-fails w r true behind node apart is up down = record {
+pub fails : (w : World) (r : ℕ) (was_up : Bool) (behind : World) → r < nodes_max → was_up ≡ is_up r w.cluster → (was_up ≡ true → behind ≡ failed_world r w) → (was_up ≡ false → behind ≡ w) → Fails r w behind (labels.Failed r was_up)
+fails w r true behind node is up down = record {
   label_is = ap (labels.Failed r) is;
   moment = ap (λ (w : World). w.cluster.moment) (up refl);
-  does = subst (λ (v : World). Does w v (labels.Failed r true)) (sym (up refl)) (failed_does w r node (sym is) apart);
+  does = subst (λ (v : World). Does w v (labels.Failed r true)) (sym (up refl)) (failed_does w r node (sym is));
 }
-fails w r false behind node apart is up down = record {
+fails w r false behind node is up down = record {
   label_is = ap (labels.Failed r) is;
   moment = ap (λ (w : World). w.cluster.moment) (down refl);
   does = subst (λ (v : World). Does w v (labels.Failed r false)) (sym (down refl)) (down_does w r node (sym is));

@@ -84,7 +84,7 @@ kind_goes call k (kinds.Weak n) marks = weak_goes call k marks
 kind_goes call k kind marks = tt
 
 asked_goes : (x : Driver) → OfAsked AsksSo x
-asked_goes (drivers.Update u) = (λ r t. tt, λ r. tt)
+asked_goes (drivers.Update u) = (λ r t. tt, λ r. tt, λ r. tt, λ r. tt)
 asked_goes (drivers.Active a) = λ r. kind_goes a.call a.ckpt a.kind a.marks
 asked_goes (drivers.Sync u) = (λ r. tt, λ r. tt, λ r. tt, λ r. tt)
 asked_goes x = tt
@@ -199,10 +199,6 @@ from_there : {X Y : Type 0} (f : X → Option Y) (o : Option X) → IsSome (opti
 from_there f None there = absurd (cc there)
 from_there f (Some x) there = refl
 
-shown_update : (u : Update) (o : CallId) (p : Option Slot) → IsSomeAnd (shown_slot o p) (λ slot. slot.update ≡ u) → IsSomeAnd p (λ slot. slot.update ≡ u)
-shown_update u o None own = absurd own
-shown_update u o (Some slot) own = own
-
 -- the snapshot in a hand is seen as the code has it, once something was pulled
 copy_seen : (pulled : Option (List Effect)) (s : Option copies.Snapshot) (a : CreationAttributes) → IsSome (shown_copy pulled s) → IsSomeAnd s (λ s. s.attributes ≡ a) → FitsCopy pulled s → seen_snapshot (Some a) (shown_copy pulled s) ≡ s
 copy_seen None s a there room counts = absurd (cc there)
@@ -259,9 +255,6 @@ module _ (w : World) (h : History) (v : Who) (r : ℕ) (hand : InHand) (facts : 
 
   -- and what else of its own it uses at a replica
   pub of_call : (request : Request) → due M s ≡ Serve r request → (E : List Effect) (o : CallId) (x : Replica) (e : Entry) → entry_of (ckpt_of request) w.cluster.entries ≡ Some e → x.attributes ≡ e.attributes → M.replicas (ckpt_of request) r ≡ shown_replica E o (Some x) → IsOfCall request hand kept x
-  of_call (requests.Commit call k) is E o x e at same is_shown =
-      let own = facts.commits v s r call k (in_hand_is w h v hand held) is in
-      shown_update (update_of hand.op) o x.slot (subst (λ (y : Option ReplicaState). IsSomeAnd y (λ x. IsSomeAnd x.slot (λ slot. slot.update ≡ update_of hand.op))) is_shown own)
   of_call (requests.Mark call k) is E o x e at same is_shown = facts.marks v s r call k (in_hand_is w h v hand held) is
   of_call (requests.Iterate call k choice) is E o x e at same is_shown =
       let ready = tables_ready (requests.Iterate call k choice) is in

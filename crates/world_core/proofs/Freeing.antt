@@ -18,7 +18,7 @@ use Rattle.ckpt_machine.specs.Shown.{shown_replica, shown_snapshot, FitsReplica,
 use Rattle.ckpt_machine.specs.After.{after, snapshot_under}
 use Rattle.ckpt_machine.specs.Due.{IsDue}
 use Rattle.ckpt_machine.proofs.FreedNodes.{complete_replica-freed, find_key-filter, reserved_in-freed}
-use Rattle.ckpt_machine.proofs.OnceByKey.{counted-filter}
+use Rattle.node_core.proofs.OnceByKey.{counted-filter}
 
 -- ---- the background snapshots
 

@@ -7,7 +7,11 @@ use Rattle.ckpt_types.specs.declared.identities.ActorName.TheVariants.{Client, N
 use Rattle.ckpt_types.specs.declared.identities.Who.TheVariants.{Actor, Call}
 use Rattle.ckpt_types.specs.OpWord.{is_async, word_of_op}
 use Rattle.ckpt_types.specs.declared.answers.Outcome.{Outcome}
+use Rattle.node_msgs.specs.declared.details.Details.{Details}
+use Rattle.node_msgs.specs.declared.replies.Reply.{Reply}
+use Rattle.node_msgs.specs.declared.requests.Request.{Request}
 use Rattle.node_msgs.specs.declared.next.Next.{Next}
+use Rattle.client_calls.specs.MadeIds.{made_behind}
 use Rattle.client_calls.specs.declared.in_hand.InHand.{InHand}
 use Rattle.world_core.specs.declared.world.World.{World}
 use Rattle.cluster_record.specs.Calls.{left, number_of, IsClient}
@@ -26,7 +30,7 @@ use Rattle.ckpt_machine.specs.Facts.{Facts}
 use Rattle.world_core.specs.HandsState.{hand_at}
 use Rattle.client_calls.specs.Names.{client_by, name_of}
 use Rattle.ckpt_types.specs.declared.identities.Who.{Who}
-use Rattle.world_core.specs.Shows.{History, HistoryFits, FitsHand, machine_of, tables_of, shown_hand}
+use Rattle.world_core.specs.Shows.{History, HistoryFits, FitsHand, KeepsMade, machine_of, tables_of, shown_hand}
 use Rattle.ckpt_machine.specs.Shown.{FitsCopy, IsRoomToCopy, shown_copy}
 
 -- the call with its history
@@ -50,11 +54,11 @@ module _ (w : World) (h : History) (v : Who) (hand : InHand) (held : hand_at w.h
 
   -- it is where its steps have led it
   pub driver_is : HistoryFits w h → hand.driver ≡ driver_of (state_in h v hand)
-  driver_is fits = (subst (FitsHand (h.beginnings v) (h.steps v) (h.pulled v)) held (fits.hands v)).driver
+  driver_is fits = (subst (FitsHand (h.beginnings v) (h.steps v) (h.created v) (h.pulled v)) held (fits.hands v)).driver
 
   -- with the room that it took for an iteration
   pub iteration_is : HistoryFits w h → hand.iteration ≡ room_for (asked hand.op) (h.beginnings v).kept.room
-  iteration_is fits = (subst (FitsHand (h.beginnings v) (h.steps v) (h.pulled v)) held (fits.hands v)).iteration
+  iteration_is fits = (subst (FitsHand (h.beginnings v) (h.steps v) (h.created v) (h.pulled v)) held (fits.hands v)).iteration
 
   -- it is in hand under its own name
   pub name_is : Facts (machine_of w h) → name_of hand ≡ v
@@ -81,6 +85,14 @@ next_for w v n hand held next = ap (λ (h : InHand). driver_next w.cluster (room
 abbrev pub with_copy : InHand → Option copies.Snapshot → InHand
 with_copy hand copy = record hand { snapshot = copy }
 
+-- and what a creation keeps of its commits
+abbrev pub with_made : InHand → Option copies.Snapshot → Option (List (List ℕ)) → InHand
+with_made hand copy kept = record hand { snapshot = copy; made = kept }
+
+-- what a creation keeps of the reply to its commit
+abbrev pub hand_made : Request → Reply → Details → InHand → InHand
+hand_made request reply details hand = record hand { made = made_behind hand.op request reply details hand.made }
+
 -- the copy that a call has in hand behind a step, as the machine has it and as the code has it: it has its room still, and counts the effects that the history tells of it
 pub record IsCopyBehind (h : History) (v : Who) (hand : InHand) (shown : Option Snapshot) (pulled : Option (List Effect)) (copy : Option copies.Snapshot) : Type 0 where
   pub same : shown ≡ shown_copy pulled copy
@@ -88,19 +100,19 @@ pub record IsCopyBehind (h : History) (v : Who) (hand : InHand) (shown : Option 
   pub counts : FitsCopy pulled copy
 
 -- it goes on with it, or has ended
-pub left_shown : (h : History) (v : Who) (hand : InHand) (done : StepDone) (made : Option (List ℕ)) (shown : Option Snapshot) (pulled : Option (List Effect)) (copy : Option copies.Snapshot) (end : Option Outcome) → shown ≡ shown_copy pulled copy →
-    left end (record (state_in h v hand) { steps = done ∷ h.steps v; created = made; snapshot = shown }) ≡ shown_hand (h.beginnings v) (done ∷ h.steps v) made pulled (left end (hand_taken done (with_copy hand copy)))
-left_shown h v hand done made shown pulled copy None same = ap (λ (s : Option Snapshot). Some (record (state_in h v hand) { steps = done ∷ h.steps v; created = made; snapshot = s })) same
-left_shown h v hand done made shown pulled copy (Some o) same = refl
+pub left_shown : (h : History) (v : Who) (hand : InHand) (done : StepDone) (made : Option (List ℕ)) (shown : Option Snapshot) (pulled : Option (List Effect)) (copy : Option copies.Snapshot) (kept : Option (List (List ℕ))) (end : Option Outcome) → shown ≡ shown_copy pulled copy →
+    left end (record (state_in h v hand) { steps = done ∷ h.steps v; created = made; snapshot = shown }) ≡ shown_hand (h.beginnings v) (done ∷ h.steps v) made pulled (left end (hand_taken done (with_made hand copy kept)))
+left_shown h v hand done made shown pulled copy kept None same = ap (λ (s : Option Snapshot). Some (record (state_in h v hand) { steps = done ∷ h.steps v; created = made; snapshot = s })) same
+left_shown h v hand done made shown pulled copy kept (Some o) same = refl
 
-pub left_fits : (h : History) (v : Who) (hand : InHand) (done : StepDone) (shown : Option Snapshot) (pulled : Option (List Effect)) (copy : Option copies.Snapshot) (end : Option Outcome) → IsCopyBehind h v hand shown pulled copy →
-    FitsHand (h.beginnings v) (h.steps v) (h.pulled v) (Some hand) → FitsHand (h.beginnings v) (done ∷ h.steps v) pulled (left end (hand_taken done (with_copy hand copy)))
-left_fits h v hand done shown pulled copy None is fits = record { driver = ap (driver_taken done) fits.driver; iteration = fits.iteration; room = is.room; copy = is.counts }
-left_fits h v hand done shown pulled copy (Some o) is fits = tt
+pub left_fits : (h : History) (v : Who) (hand : InHand) (done : StepDone) (made : Option (List ℕ)) (shown : Option Snapshot) (pulled : Option (List Effect)) (copy : Option copies.Snapshot) (kept : Option (List (List ℕ))) (end : Option Outcome) → IsCopyBehind h v hand shown pulled copy → KeepsMade hand.op (driver_taken done hand.driver) made kept →
+    FitsHand (h.beginnings v) (h.steps v) (h.created v) (h.pulled v) (Some hand) → FitsHand (h.beginnings v) (done ∷ h.steps v) made pulled (left end (hand_taken done (with_made hand copy kept)))
+left_fits h v hand done made shown pulled copy kept None is keeps fits = record { driver = ap (driver_taken done) fits.driver; iteration = fits.iteration; room = is.room; copy = is.counts; made = keeps }
+left_fits h v hand done made shown pulled copy kept (Some o) is keeps fits = tt
 
 -- what holds of the hands holds of the one in hand
-pub hand_fits : (w : World) (h : History) (v : Who) (hand : InHand) → hand_at w.hands v ≡ Some hand → HistoryFits w h → FitsHand (h.beginnings v) (h.steps v) (h.pulled v) (Some hand)
-hand_fits w h v hand held fits = subst (FitsHand (h.beginnings v) (h.steps v) (h.pulled v)) held (fits.hands v)
+pub hand_fits : (w : World) (h : History) (v : Who) (hand : InHand) → hand_at w.hands v ≡ Some hand → HistoryFits w h → FitsHand (h.beginnings v) (h.steps v) (h.created v) (h.pulled v) (Some hand)
+hand_fits w h v hand held fits = subst (FitsHand (h.beginnings v) (h.steps v) (h.created v) (h.pulled v)) held (fits.hands v)
 
 -- nothing comes into it by a step that pulls nothing
 pub copy_stays : (w : World) (h : History) (v : Who) (hand : InHand) → hand_at w.hands v ≡ Some hand → HistoryFits w h → IsCopyBehind h v hand (state_in h v hand).snapshot (h.pulled v) hand.snapshot

@@ -26,7 +26,7 @@ use Rattle.weak_marks.specs.Marks.{call_of}
 use Rattle.cluster_record.specs.DueOnce as once
 use Rattle.cluster_record.specs.DueSync.{SyncState}
 use Rattle.cluster_record.specs.RecordState.{RecordState, entry_of, complete_of, hold_set, is_live, swept}
-use Rattle.cluster_record.specs.StepDone.{done_of}
+use Rattle.cluster_record.specs.StepDone.{counting, done_of}
 use Rattle.replica.specs.Replicas.{Replica, pull_result, pulled_from, pulled_unless}
 use Rattle.ckpt_machine.specs.Drivers.{Driver}
 use Rattle.ckpt_machine.specs.Drivers as drivers
@@ -51,6 +51,7 @@ use Rattle.world_core.proofs.EventEnds.{done_ends, done_keeps}
 use Rattle.ckpt_machine.proofs.StepTaking.{is_done, takes_kept_off}
 use Rattle.world_core.proofs.Finding.{copy_declared, replica_shown}
 use Rattle.world_core.proofs.Held.{copy_stays, state_in}
+use Rattle.world_core.proofs.MadeIds.{made_stays}
 use Rattle.world_core.proofs.LiveRooms.{rooms_after}
 use Rattle.world_core.proofs.Maps.{HasUnder, ended_going, hand_left}
 use Rattle.world_core.proofs.RecordEvent.{done_beside, done_does, ended_does, event_asks, event_ready, fits_recorded, recorded, told_so}
@@ -144,7 +145,7 @@ module _ (w : World) (v : Who) (r : ℕ) (base : InHand) (u : SyncState) where
         marks_are = ap (λ y. call_of (marks_on y)) (sym shown_is)
 
         shown_held : length w.nodes ≡ 8 → call_of x.marks ≡ None → (t : copies.Snapshot) → hand.snapshot ≡ Some t →
-            IsShownBehind w v hand held (recorded w v step hand held next) (with_effects w) verbs.Hold (Some k) (Some r) words.Ok None beside.Nothing 0 (Some (pulled_from x t)) (λ h. Some (h.effects k r)) (Event step) h
+            IsShownBehind w v hand held (recorded w v step hand held next) (with_effects w) verbs.Hold (Some k) (Some r) words.Ok None beside.Nothing 0 (Some (pulled_from x t)) hand.made (λ h. Some (h.effects k r)) (Event step) h
         shown_held eight unmarked t had = record {
           done = told_so w v step hand held next h is words.Ok None (subst (λ o. IsEventAnswer o None step (record { verb = verbs.Hold; ckpt = Some k; node = Some r; reply = words.Ok; end = None; details = beside.Nothing })) (sym unmarked ∙ marks_are) (inl (refl, refl)));
           change = done_beside w v step hand held next h is eight refl;
@@ -156,6 +157,7 @@ module _ (w : World) (v : Who) (r : ℕ) (base : InHand) (u : SyncState) where
               (IsRoomToCopy (asked hand.op) (h.beginnings v).kept.declares) (λ s t attributes. room_alike (asked hand.op) (h.beginnings v).kept.declares s t attributes)
               (subst (IsRoomToCopy (asked hand.op) (h.beginnings v).kept.declares) had has.room) in
               record { same = copied.same; room = copied.room; counts = copied.counts };
+          made_is = made_stays w h v hand held is.fits verbs.Hold (Some k) (Some r) (counting 0 (done_of (recorded w v step hand held next).cluster verbs.Hold (Some k) (Some r) words.Ok)) refl tt;
         }
 
     holds_here : IsShown w → Holds w v r hand k

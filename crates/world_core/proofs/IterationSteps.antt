@@ -23,6 +23,7 @@ use Rattle.section_iter.specs.KeptIds.{KeptIds}
 use Rattle.section_iter.specs.Next.{kept_after}
 use Rattle.section_iter.specs.Room.{room_declared, IsRoomFor}
 use Rattle.section_iter.specs.declared.room.Room.{Room}
+use Rattle.node_msgs.specs.declared.details.Details.{Details}
 use Rattle.node_msgs.specs.declared.replies.Reply.{Reply}
 use Rattle.node_msgs.specs.declared.replies.Reply.TheVariants as replies
 use Rattle.node_msgs.specs.declared.requests.Request.{Request}
@@ -50,6 +51,7 @@ use Rattle.world_core.specs.Shows.{History, machine_of}
 use Rattle.client_calls.specs.TableState.{TableState, kept_in, with_client}
 use Rattle.world_core.specs.TablesState.{kept_by, table_changed, at_client}
 use Rattle.ckpt_machine.proofs.GoingOn.{gone_on-told}
+use Rattle.world_core.proofs.Held.{hand_made}
 use Rattle.world_core.proofs.LiveRooms.{rooms_client}
 use Rattle.ckpt_machine.proofs.RequestRows.{tables_moved}
 use Rattle.ckpt_machine.proofs.OptionLemmas.{what_is}
@@ -232,6 +234,12 @@ pub lent_left : (request : Request) (hand : InHand) (d : StepDone) (end : Option
 lent_left (requests.Iterate call k choice) hand d None ends = absurd (cc ends)
 lent_left (requests.Iterate call k choice) hand d (Some end) ends = refl
 lent_left request hand d end ends = refl
+
+-- nor where it keeps what it has made
+pub lent_made : (request : Request) (hand : InHand) (d : StepDone) (reply : Reply) (details : Details) (end : Option Outcome) → EndsIts request end → left end (hand_made request reply details (hand_taken d (hand_lending request hand))) ≡ left end (hand_made request reply details (hand_taken d hand))
+lent_made (requests.Iterate call k choice) hand d reply details None ends = absurd (cc ends)
+lent_made (requests.Iterate call k choice) hand d reply details (Some end) ends = refl
+lent_made request hand d reply details end ends = refl
 
 -- it has its operation and its driver
 pub lent_op : (request : Request) (hand : InHand) → (hand_lending request hand).op ≡ hand.op

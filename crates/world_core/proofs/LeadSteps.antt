@@ -15,6 +15,7 @@ use Rattle.node_msgs.specs.declared.steps.StepReply.TheVariants as words
 use Rattle.node_msgs.specs.declared.steps.Verb.TheVariants as verbs
 use Rattle.run_labels.specs.declared.labels.Label.TheVariants.{Stepped}
 use Rattle.snap_copy.specs.Snapshots as copies
+use Rattle.cluster_record.specs.StepDone.{counting, done_of}
 use Rattle.cluster_record.specs.declared.entries.Entry.{Entry}
 use Rattle.cluster_record.specs.DueSync.{SyncState}
 use Rattle.cluster_record.specs.RecordState.{RecordState, entry_of, complete_of, active_set, swept}
@@ -44,6 +45,7 @@ use Rattle.world_core.proofs.Finding.{copy_room_is, no_slot, replica_shown}
 use Rattle.world_core.proofs.Freeing.{does_before, machine_of-freed, Fits-freed, rooms_left}
 use Rattle.ckpt_machine.proofs.FreedNodes.{replica_in-freed}
 use Rattle.world_core.proofs.Held.{copy_stays, state_in}
+use Rattle.world_core.proofs.MadeIds.{made_stays}
 use Rattle.world_core.proofs.HoldSteps.{activates, by_sync}
 use Rattle.world_core.proofs.Leading.{led_history, shown_led}
 use Rattle.ckpt_machine.proofs.Leads.{HeldAs, held_as, held_is_there}
@@ -165,20 +167,21 @@ module _ (w : World) (v : Who) (r : ℕ) (base : InHand) (u : SyncState) where
       leads : IsShownBy (led_from s.snapshot k r (machine_of cleared (with_effects w h))) (led_world w hand k r) (later h)
       leads = shown_led cleared (with_effects w h) (Fits-freed (record w { cluster = R }) (with_effects w h) (fits_recorded w v step hand held next h is eight refl)) (holds_after w v step hand held next h is eight refl) k r s.snapshot copy has can_lead
 
-      leads_here : IsShownBehind w v hand held (led_world w hand k r) later verbs.Activate (Some k) (Some r) words.Ok (Some (Done answers.Nothing)) beside.Nothing 0 hand.snapshot (pulled_by_client v) (Event step) h
+      leads_here : IsShownBehind w v hand held (led_world w hand k r) later verbs.Activate (Some k) (Some r) words.Ok (Some (Done answers.Nothing)) beside.Nothing 0 hand.snapshot hand.made (pulled_by_client v) (Event step) h
       leads_here = record {
         done = told_so w v step hand held next h is words.Ok (Some (Done answers.Nothing)) (inl (refl, refl));
         change = done_beside w v step hand held next h is eight refl ∙ ap (led_from s.snapshot k r) (sym (machine_of-freed (record w { cluster = R }) (with_effects w h))) ∙ leads.same;
         fits = leads.fits;
         count_is = refl;
         copy_is = let has = copy_stays w h v hand held is.fits in record { same = has.same; room = has.room; counts = has.counts };
+        made_is = made_stays w h v hand held is.fits verbs.Activate (Some k) (Some r) (counting 0 (done_of (led_world w hand k r).cluster verbs.Activate (Some k) (Some r) words.Ok)) refl tt;
       }
 
     lead_does : let end : Option Outcome = Some (Done answers.Nothing) in Does w (ended_at v end (record (led_world w hand k r) { hands = set_at w.hands v None })) (Stepped hand.call (word_of_op hand.op) verbs.Activate (Some k) (Some r) words.Ok end beside.Nothing)
     lead_does =
         let end : Option Outcome = Some (Done answers.Nothing) in
         does_before w (ended_at v end (record (led_world w hand k r) { hands = set_at w.hands v None })) (Stepped hand.call (word_of_op hand.op) verbs.Activate (Some k) (Some r) words.Ok end beside.Nothing)
-        (step_before w v hand held (led_world w hand k r) later verbs.Activate (Some k) (Some r) words.Ok end beside.Nothing 0 hand.snapshot (pulled_by_client v) (Event step) next held (λ h. refl) leads_here)
+        (step_before w v hand held (led_world w hand k r) later verbs.Activate (Some k) (Some r) words.Ok end beside.Nothing 0 hand.snapshot hand.made (pulled_by_client v) (Event step) next held (λ h. refl) leads_here)
         (λ m s f. (leads s.history (known_by w m s f)).holds)
         (λ m s f. let is = known_by w m s f in rooms_left R.entries w.snapshots (event_has w.cluster w.snapshots is.keeps is.facts.rises is.facts.up_to hand.call hand.driver step))
         (λ m s f. rooms_ended w R v end (rooms_after hand.call hand.driver step w.cluster w.tables tt s.rooms))

@@ -15,7 +15,10 @@ pub mod LeadSteps
 pub mod Listings
 pub mod LiveRooms
 pub mod Look
+pub mod LookedEnds
+pub mod MadeIds
 pub mod Maps
+pub mod MostLeft
 pub mod Moving
 pub mod Named
 pub mod New

@@ -10,7 +10,8 @@ use Rattle.node_msgs.specs.declared.next.Next.TheVariants.{Event, End}
 use Rattle.node_msgs.specs.declared.next.RecordStep.TheVariants.{Undo}
 use Rattle.node_msgs.specs.declared.steps.StepReply.{StepReply}
 use Rattle.node_msgs.specs.declared.steps.Verb.TheVariants as verbs
-use Rattle.node_msgs.specs.declared.details.Details.TheVariants as beside
+use Rattle.node_msgs.specs.declared.details.Details.{Details}
+use Rattle.ckpt_types.specs.declared.operation.Op.{Op}
 use Rattle.run_labels.specs.declared.labels.Label.{Label}
 use Rattle.run_labels.specs.declared.labels.Label.TheVariants.{Stepped}
 use Rattle.ckpt_types.specs.declared.words.OpWord.{OpWord}
@@ -20,14 +21,15 @@ use Rattle.cluster_record.specs.declared.entries.Entry.{Entry}
 use Rattle.cluster_record.specs.DueOpen.{making_ckpt, reserve_or_finish, targets_of, on_making, by_making}
 use Rattle.cluster_record.specs.Makings.{making_call, making_of, undone_by, making_undone}
 use Rattle.cluster_record.specs.RecordState.{RecordState, entry_of, swept, undone}
-use Rattle.cluster_record.specs.StepDone.{first_lacking}
+use Rattle.cluster_record.specs.StepDone.{counting, done_of, first_lacking}
 use Rattle.ckpt_types.specs.Asks.{asked}
 use Rattle.ckpt_machine.specs.Drivers.{Driver, Rooms}
 use Rattle.ckpt_machine.specs.Drivers as drivers
 use Rattle.ckpt_machine.specs.Driving.{driver_next, making_in}
 use Rattle.ckpt_machine.specs.Nodes.{replica_in}
 use Rattle.ckpt_machine.specs.After.{changed, without_making}
-use Rattle.ckpt_machine.specs.Due.{look_word}
+use Rattle.ckpt_machine.specs.Due.{IsDone, look_word}
+use Rattle.client_calls.specs.MadeIds.{looked_details, looked_end}
 use Rattle.ckpt_machine.specs.Tables.{handle_closed}
 use Rattle.ckpt_machine.proofs.Deadlines.{in_time-cases}
 use Rattle.ckpt_machine.proofs.OwnMaking.{making_there}
@@ -46,6 +48,8 @@ use Rattle.world_core.proofs.Freeing.{does_before, does_freed}
 use Rattle.ckpt_machine.proofs.FreedNodes.{holds_behind}
 use Rattle.ckpt_machine.proofs.Going.{unmade_goes}
 use Rattle.world_core.proofs.Held.{copy_stays, state_in, in_hand_is, driver_is, name_is, actor_is}
+use Rattle.world_core.proofs.LookedEnds.{ends_as, tells_as, word_as}
+use Rattle.world_core.proofs.MadeIds.{made_stays}
 use Rattle.world_core.proofs.LiveRooms.{rooms_ended, rooms_looked}
 use Rattle.world_core.proofs.Maps.{HasUnder, hand_left, under_other, under_own}
 use Rattle.world_core.proofs.RecordEvent.{closing_shown}
@@ -78,14 +82,26 @@ late_next R room (drivers.Open o) k is = of_making o.making is where
   of_making (Some m) is = in_time-cases IsNoDone o.deadline R.moment (on_making R o.ask m) (λ d is late. tt) (λ before. by_test m m.refused (first_lacking 0 (targets_of o.ask R) m.reserved))
 late_next R room x k is = absurd (cc is)
 
+-- nor where it is ended so
+no_done : (op : Op) (o : Outcome) → IsNoDone (End o) → IsNoDone (End (looked_end op o))
+no_done op (Done answer) is = absurd is
+no_done op o is = tt
+
 -- what is in the making by a call is undone
 undone_made : (k : ℕ) (R : RecordState) (call : CallId) (e : Option Entry) → IsSomeAnd e (λ e. e.making ≡ Some call) → undone_by (making_call e) k R ≡ undone k R
 undone_made k R call None made = absurd made
 undone_made k R call (Some e) made = ap (λ o. undone_by o k R) made
 
 module _ (w : World) (v : Who) (o : Outcome) (hand : InHand) (held : hand_at w.hands v ≡ Some hand) (next : driver_next w.cluster (rooms_at w (client_by v)) hand.driver ≡ End o) where
+  -- how it ends the call, and what is told beside that
+  abbrev e : Outcome
+  e = looked_end hand.op o
+
+  abbrev told : Details
+  told = looked_details e hand.made
+
   abbrev label : Label
-  label = Stepped hand.call (word_of_op hand.op) verbs.Look None None (look_word o) (Some o) beside.Nothing
+  label = Stepped hand.call (word_of_op hand.op) verbs.Look None None (look_word e) (Some e) told
 
   -- the handle that it closes, if it closes one
   abbrev closed : Option ℕ
@@ -113,6 +129,10 @@ module _ (w : World) (v : Who) (o : Outcome) (hand : InHand) (held : hand_at w.h
   makes : (h : History) → IsKnown w h → making_of hand.call w.cluster ≡ making_in hand.driver
   makes h is = is.facts.makes v (state_in h v hand) (in_hand_is w h v hand held) ∙ ap making_in (sym (driver_is w h v hand held is.fits))
 
+  -- as the machine's call is ended
+  told_so : (h : History) → IsKnown w h → IsDone (machine_of w h) (state_in h v hand) (End o) (record { verb = verbs.Look; ckpt = None; node = None; reply = look_word e; end = Some e; details = told })
+  told_so h is = λ i. record { verb = verbs.Look; ckpt = None; node = None; reply = word_as hand.op o i; end = Some (sym (ends_as (state_in h v hand) o) i); details = tells_as w v hand held h is o next i }
+
   -- ---- where the call is making nothing
 
   look_changes : (h : History) → IsKnown w h → making_in hand.driver ≡ None → (end : Outcome) → changed (machine_of w h) (state_in h v hand) verbs.Look None None (look_word end) ≡ machine_of (looked_world end) h
@@ -121,20 +141,21 @@ module _ (w : World) (v : Who) (o : Outcome) (hand : InHand) (held : hand_at w.h
 
   -- the world behind it
   abbrev done_world : World
-  done_world = behind_step w v hand held (looked_world o) (λ h. h) verbs.Look None None (look_word o) (Some o) beside.Nothing 0 hand.snapshot (pulled_by_client v)
+  done_world = behind_step w v hand held (looked_world e) (λ h. h) verbs.Look None None (look_word e) (Some e) told 0 hand.snapshot hand.made (pulled_by_client v)
 
   look_does : making_in hand.driver ≡ None → IsShown w → Does w done_world label
   look_does none shown =
       does_before w done_world label
-      (step_before w v hand held (looked_world o) (λ h. h) verbs.Look None None (look_word o) (Some o) beside.Nothing 0 hand.snapshot (pulled_by_client v) (End o) next (stays_held shown o) (λ h. refl)
+      (step_before w v hand held (looked_world e) (λ h. h) verbs.Look None None (look_word e) (Some e) told 0 hand.snapshot hand.made (pulled_by_client v) (End o) next (stays_held shown e) (λ h. refl)
       (λ h is. record {
-        done = refl;
-        change = look_changes h is none o;
-        fits = let f = is.fits in gone_fits (settled o) (client_by v) closed (going_with_look o) h (record { replicas = f.replicas; copies = f.copies; hands = f.hands });
+        done = told_so h is;
+        change = look_changes h is none e;
+        fits = let f = is.fits in gone_fits (settled e) (client_by v) closed (going_with_look e) h (record { replicas = f.replicas; copies = f.copies; hands = f.hands });
         count_is = refl;
         copy_is = copy_stays w h v hand held is.fits;
+        made_is = made_stays w h v hand held is.fits verbs.Look None None (counting 0 (done_of (looked_world e).cluster verbs.Look None None (look_word e))) refl tt;
       }))
-      (λ m s f. s.holds) (λ m s f. s.keeps) (λ m s f. rooms_ended (looked_world o) w.cluster v (Some o) (rooms_gone (settled o) (client_by v) closed w.cluster (going_with_look o) (rooms_looked w w.cluster (client_by v) o hand.op s.rooms)))
+      (λ m s f. s.holds) (λ m s f. s.keeps) (λ m s f. rooms_ended (looked_world e) w.cluster v (Some e) (rooms_gone (settled e) (client_by v) closed w.cluster (going_with_look e) (rooms_looked w w.cluster (client_by v) e hand.op s.rooms)))
 
   -- ---- where it is making a checkpoint
 
@@ -158,22 +179,23 @@ module _ (w : World) (v : Who) (o : Outcome) (hand : InHand) (held : hand_at w.h
         ∙ ap (λ tables. machine_of (record w { cluster = R; tables = tables }) (with_effects w h)) (sym (client_same w.tables (client_by v) (λ t. t) (λ t. refl)))
 
     abbrev late_world : World
-    late_world = behind_step w v hand held (left_world o) (with_effects w) verbs.Look None None (look_word o) (Some o) beside.Nothing 0 hand.snapshot (pulled_by_client v)
+    late_world = behind_step w v hand held (left_world e) (with_effects w) verbs.Look None None (look_word e) (Some e) told 0 hand.snapshot hand.made (pulled_by_client v)
 
     late_does : IsShown w → Does w (freed_world late_world) label
     late_does shown =
         does_freed w late_world label
-        (step_before w v hand held (left_world o) (with_effects w) verbs.Look None None (look_word o) (Some o) beside.Nothing 0 hand.snapshot (pulled_by_client v) (End o) next (gone_here (settled_there o) (client_by v) closed (going_with_look o) v (closes_own shown o) ∙ held) (λ h. refl)
+        (step_before w v hand held (left_world e) (with_effects w) verbs.Look None None (look_word e) (Some e) told 0 hand.snapshot hand.made (pulled_by_client v) (End o) next (gone_here (settled_there e) (client_by v) closed (going_with_look e) v (closes_own shown e) ∙ held) (λ h. refl)
         (λ h is. record {
-          done = refl;
-          change = late_changes h is o (subst IsNoDone next (late_next w.cluster (rooms_at w (client_by v)) hand.driver k making));
-          fits = let f = record_fits w h R w.nodes w.snapshots (goes h is) refl is.keeps (λ j. refl) is.fits in gone_fits (settled_there o) (client_by v) closed (going_with_look o) (with_effects w h) (record { replicas = f.replicas; copies = f.copies; hands = f.hands });
+          done = told_so h is;
+          change = late_changes h is e (no_done hand.op o (subst IsNoDone next (late_next w.cluster (rooms_at w (client_by v)) hand.driver k making)));
+          fits = let f = record_fits w h R w.nodes w.snapshots (goes h is) refl is.keeps (λ j. refl) is.fits in gone_fits (settled_there e) (client_by v) closed (going_with_look e) (with_effects w h) (record { replicas = f.replicas; copies = f.copies; hands = f.hands });
           count_is = refl;
           copy_is = let stays = copy_stays w h v hand held is.fits in record { same = refl; room = stays.room; counts = stays.counts };
+          made_is = made_stays w h v hand held is.fits verbs.Look None None (counting 0 (done_of (left_world e).cluster verbs.Look None None (look_word e))) refl tt;
         }))
         (λ m s f. holds_behind w.cluster R w.nodes w.nodes refl (goes s.history (known_by w m s f)) s.holds s.holds.once)
         (λ m s f. let is = known_by w m s f in unmade_has w.cluster w.snapshots is.keeps is.facts.rises is.facts.up_to k)
-        (λ m s f. rooms_ended (left_world o) R v (Some o) (rooms_gone (settled_there o) (client_by v) closed R (going_with_look o) (rooms_looked w R (client_by v) o hand.op (λ d live. s.rooms d live))))
+        (λ m s f. rooms_ended (left_world e) R v (Some e) (rooms_gone (settled_there e) (client_by v) closed R (going_with_look e) (rooms_looked w R (client_by v) e hand.op (λ d live. s.rooms d live))))
 
     -- it is in the making by the call
     own_making : IsShown w → making_undone k w.cluster ≡ undone k w.cluster
@@ -186,36 +208,36 @@ module _ (w : World) (v : Who) (o : Outcome) (hand : InHand) (held : hand_at w.h
 
   -- what the code does before the making is undone
   abbrev ended_world : World
-  ended_world = gone_with (going_with_look o) (client_by v) closed (record (settled o) { hands = set_at w.hands v None })
+  ended_world = gone_with (going_with_look e) (client_by v) closed (record (settled e) { hands = set_at w.hands v None })
 
-  ended_is : IsShown w → ended_world ≡ record (looked_world o) { hands = set_at (looked_world o).hands v None }
-  ended_is shown = gone_set (settled o) (client_by v) closed (going_with_look o) v None (closes_own shown o)
+  ended_is : IsShown w → ended_world ≡ record (looked_world e) { hands = set_at (looked_world e).hands v None }
+  ended_is shown = gone_set (settled e) (client_by v) closed (going_with_look e) v None (closes_own shown e)
 
-  look_ends : (making : Option ℕ) → making_in hand.driver ≡ making → IsShown w → Does w (ended_at v (Some o) (without_making_of making ended_world)) label
-  look_ends None none shown = subst (λ (x : World). Does w (ended_at v (Some o) x) label) (sym (ended_is shown)) (look_does none shown)
+  look_ends : (making : Option ℕ) → making_in hand.driver ≡ making → IsShown w → Does w (ended_at v (Some e) (without_making_of making ended_world)) label
+  look_ends None none shown = subst (λ (x : World). Does w (ended_at v (Some e) x) label) (sym (ended_is shown)) (look_does none shown)
   look_ends (Some k) making shown =
-      subst (λ (x : World). Does w (ended_at v (Some o) (freed_world x)) label)
-      (sym ((λ i. record (ended_is shown i) { cluster = swept (own_making k making shown i) }) ∙ ap (λ (x : World). record x { hands = set_at x.hands v None }) (gone_record (settled o) (client_by v) closed (R k making) (going_with_look o)))) (late_does k making shown)
+      subst (λ (x : World). Does w (ended_at v (Some e) (freed_world x)) label)
+      (sym ((λ i. record (ended_is shown i) { cluster = swept (own_making k making shown i) }) ∙ ap (λ (x : World). record x { hands = set_at x.hands v None }) (gone_record (settled e) (client_by v) closed (R k making) (going_with_look e)))) (late_does k making shown)
 
   -- the calls in hand are as they were where a making is undone
   unmade_hands : (making : Option ℕ) (x : World) → (without_making_of making x).hands ≡ x.hands
   unmade_hands None x = refl
   unmade_hands (Some k) x = refl
 
-  under : (making : Option ℕ) → IsShown w → HasUnder (looked_world o).hands v None (ended_at v (Some o) (without_making_of making ended_world)).hands
+  under : (making : Option ℕ) → IsShown w → HasUnder (looked_world e).hands v None (ended_at v (Some e) (without_making_of making ended_world)).hands
   under making shown =
-      subst (λ (hands : HandsState). HasUnder (looked_world o).hands v None (ended_hands v (Some o) hands)) (sym (unmade_hands making ended_world ∙ ap (λ (x : World). x.hands) (ended_is shown)))
-      (hand_left (looked_world o).hands v hand hand (Some o) (stays_held shown o) refl)
+      subst (λ (hands : HandsState). HasUnder (looked_world e).hands v None (ended_hands v (Some e) hands)) (sym (unmade_hands making ended_world ∙ ap (λ (x : World). x.hands) (ended_is shown)))
+      (hand_left (looked_world e).hands v hand hand (Some e) (stays_held shown e) refl)
 
-  look_told : (making : Option ℕ) → making_in hand.driver ≡ making → IsShown w → IsStep v w (ended_at v (Some o) (without_making_of making ended_world)) label
+  look_told : (making : Option ℕ) → making_in hand.driver ≡ making → IsShown w → IsStep v w (ended_at v (Some e) (without_making_of making ended_world)) label
   look_told making making_is shown =
-      let new = ended_at v (Some o) (without_making_of making ended_world) in
-      step_told v w new hand hand (word_of_op hand.op) verbs.Look None None (look_word o) (Some o) beside.Nothing held refl refl
-      (under_own (looked_world o).hands new.hands v None (under making shown))
-      (λ d other. under_other (looked_world o).hands new.hands v None (under making shown) (Actor (Client d)) other ∙ gone_clients (settled o) (client_by v) closed (going_with_look o) d)
+      let new = ended_at v (Some e) (without_making_of making ended_world) in
+      step_told v w new hand hand (word_of_op hand.op) verbs.Look None None (look_word e) (Some e) told held refl refl
+      (under_own (looked_world e).hands new.hands v None (under making shown))
+      (λ d other. under_other (looked_world e).hands new.hands v None (under making shown) (Actor (Client d)) other ∙ gone_clients (settled e) (client_by v) closed (going_with_look e) d)
       (look_ends making making_is shown)
 
   -- the call ends by a look at the record, and what it is making is undone, with the parts as the code names them
-  pub look_is : (new : World) (making : Option ℕ) (tables : List TableState) (c : ℕ) (closed_as : Option ℕ) (op : OpWord) (reply : StepReply) → IsShown w → making ≡ making_in hand.driver → c ≡ client_by v → closed_as ≡ handle_closed (asked hand.op) (kept_by w.tables c) → tables ≡ looked o c hand.op w.tables → op ≡ word_of_op hand.op → reply ≡ look_word o →
-      new ≡ ended_at v (Some o) (without_making_of making (gone_with (going_with_look o) c closed_as (record w { tables = tables; hands = set_at w.hands v None }))) → IsStep v w new (Stepped hand.call op verbs.Look None None reply (Some o) beside.Nothing)
-  look_is new making tables c closed_as op reply shown making_is c_is closed_is tables_are op_is reply_is new_is = rw (new_is, closed_is, tables_are, c_is, op_is, reply_is) (look_told making (sym making_is) shown)
+  pub look_is : (new : World) (making : Option ℕ) (tables : List TableState) (c : ℕ) (closed_as : Option ℕ) (op : OpWord) (reply : StepReply) (end : Outcome) (details : Details) → IsShown w → making ≡ making_in hand.driver → c ≡ client_by v → closed_as ≡ handle_closed (asked hand.op) (kept_by w.tables c) → tables ≡ looked end c hand.op w.tables → op ≡ word_of_op hand.op → reply ≡ look_word end → end ≡ looked_end hand.op o → details ≡ looked_details end hand.made →
+      new ≡ ended_at v (Some end) (without_making_of making (gone_with (going_with_look end) c closed_as (record w { tables = tables; hands = set_at w.hands v None }))) → IsStep v w new (Stepped hand.call op verbs.Look None None reply (Some end) details)
+  look_is new making tables c closed_as op reply end details shown making_is c_is closed_is tables_are op_is reply_is end_is details_is new_is = rw (new_is, closed_is, tables_are, c_is, op_is, reply_is, details_is, end_is) (look_told making (sym making_is) shown)

@@ -56,9 +56,9 @@ hand_case : (b : Bool) (k l : Beginning) (new old : List StepDone) (made before 
 hand_case true k l new old made before copy had p o = refl
 hand_case false k l new old made before copy had p o = refl
 
-fits_hand_case : (b : Bool) (k l : Beginning) (new old : List StepDone) (copy had : Option (List Effect)) (p o : Option InHand) → FitsHand k new copy p → FitsHand l old had o → FitsHand (cond b k l) (cond b new old) (cond b copy had) (cond b p o)
-fits_hand_case true k l new old copy had p o h g = h
-fits_hand_case false k l new old copy had p o h g = g
+fits_hand_case : (b : Bool) (k l : Beginning) (new old : List StepDone) (made before : Option (List ℕ)) (copy had : Option (List Effect)) (p o : Option InHand) → FitsHand k new made copy p → FitsHand l old before had o → FitsHand (cond b k l) (cond b new old) (cond b made before) (cond b copy had) (cond b p o)
+fits_hand_case true k l new old made before copy had p o h g = h
+fits_hand_case false k l new old made before copy had p o h g = g
 
 -- the history in which the call of a name began so, has these steps, has created this, and has pulled these effects
 abbrev pub told_as : History → Who → Beginning → List StepDone → Option (List ℕ) → Option (List Effect) → History
@@ -72,8 +72,8 @@ module _ (h : History) (old new : HandsState) (v : Who) (p : Option InHand) (und
       ∙ ap (shown_hand (put_who h.beginnings v began u) (put_who h.steps v steps u) (put_who h.created v made u) (put_who h.pulled v copy u)) (sym (under u))
 
   -- and how they fit
-  pub fits_hand : (copy : Option (List Effect)) → FitsHand began steps copy p → ((u : Who) → FitsHand (h.beginnings u) (h.steps u) (h.pulled u) (hand_at old u)) →
-      (u : Who) → FitsHand (put_who h.beginnings v began u) (put_who h.steps v steps u) (put_who h.pulled v copy u) (hand_at new u)
-  fits_hand copy one all u =
-      subst (FitsHand (put_who h.beginnings v began u) (put_who h.steps v steps u) (put_who h.pulled v copy u)) (sym (under u))
-      (fits_hand_case (same_who u v) began (h.beginnings u) steps (h.steps u) copy (h.pulled u) p (hand_at old u) one (all u))
+  pub fits_hand : (made : Option (List ℕ)) (copy : Option (List Effect)) → FitsHand began steps made copy p → ((u : Who) → FitsHand (h.beginnings u) (h.steps u) (h.created u) (h.pulled u) (hand_at old u)) →
+      (u : Who) → FitsHand (put_who h.beginnings v began u) (put_who h.steps v steps u) (put_who h.created v made u) (put_who h.pulled v copy u) (hand_at new u)
+  fits_hand made copy one all u =
+      subst (FitsHand (put_who h.beginnings v began u) (put_who h.steps v steps u) (put_who h.created v made u) (put_who h.pulled v copy u)) (sym (under u))
+      (fits_hand_case (same_who u v) began (h.beginnings u) steps (h.steps u) made (h.created u) copy (h.pulled u) p (hand_at old u) one (all u))

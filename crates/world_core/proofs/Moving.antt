@@ -137,7 +137,9 @@ changed-moment : (m : Machine) (s : CallState) (verb : Verb) (reply : StepReply)
 changed-moment m s verbs.Create words.Ok k r = created_for-moment s.call (asked s.op) m.cluster
 changed-moment m s verbs.Retain words.Ok (Some k) r = retained_for-moment (asked s.op) k m.cluster
 changed-moment m s verbs.Stage words.Ok (Some k) (Some r) = change_replica-moment m k r (m.replicas k r) _
+changed-moment m s verbs.Claim words.Ok (Some k) (Some r) = change_replica-moment m k r (m.replicas k r) _
 changed-moment m s verbs.Commit words.Ok (Some k) (Some r) = change_replica-moment m k r (m.replicas k r) _
+changed-moment m s verbs.Withdraw words.Ok (Some k) (Some r) = change_replica-moment m k r (m.replicas k r) _
 changed-moment m s verbs.Apply words.Ok (Some k) (Some r) = change_replica-moment m k r (m.replicas k r) _
 changed-moment m s verbs.Mark words.Ok (Some k) (Some r) = change_replica-moment m k r (m.replicas k r) _
 changed-moment m s verbs.Element words.Ok (Some k) (Some r) = change_replica-moment m k r (m.replicas k r) _

@@ -70,7 +70,7 @@ module _ (w : World) (new : IsNew w) where
   fits_nothing = record {
     replicas = λ k r. subst (FitsReplica k (entry_of k w.cluster.entries) []) (sym (no_replica k r)) tt;
     copies = λ k. subst (λ (backgrounds : List Background). FitsSnapshot [] (pulled_in backgrounds k)) (sym new.snapshots) tt;
-    hands = λ v. subst (FitsHand none_has_begun [] None) (sym (new.hands v)) tt;
+    hands = λ v. subst (FitsHand none_has_begun [] None None) (sym (new.hands v)) tt;
   }
 
   none_live : (c : ℕ) → is_live_client c w.cluster ≡ true → ⊥

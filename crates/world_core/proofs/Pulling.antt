@@ -29,7 +29,7 @@ use Rattle.world_core.specs.Runs.{IsPulledOf}
 use Rattle.world_core.specs.Shows.{Does, IsShown, History, HistoryFits, machine_of, snapshot_shown}
 use Rattle.ckpt_machine.specs.Shown.{FitsReplica, FitsSnapshot, complete_replica, shown_replica, shown_slot, shown_snapshot}
 use Rattle.world_core.proofs.CallSteps.{IsKnown, known, known_by}
-use Rattle.ckpt_machine.proofs.OnceByKey.{counted-change_key}
+use Rattle.node_core.proofs.OnceByKey.{counted-change_key}
 
 -- ---- the snapshots, changed at one
 

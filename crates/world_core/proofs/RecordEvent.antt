@@ -57,6 +57,7 @@ use Rattle.ckpt_machine.proofs.FreedNodes.{holds_behind}
 use Rattle.ckpt_machine.proofs.Going.{event_goes, event_once, event_free}
 use Rattle.ckpt_machine.proofs.KeptEntries.{event_up}
 use Rattle.world_core.proofs.Held.{copy_stays, state_in, in_hand_is, driver_is, name_is, actor_is, due_is}
+use Rattle.world_core.proofs.MadeIds.{event_commits_none, made_stays}
 use Rattle.world_core.specs.LiveRooms.{LiveHaveRoom, room_is_taken}
 use Rattle.world_core.proofs.LiveRooms.{EntersWithRoom, rooms_ended, rooms_settled, rooms_after}
 use Rattle.world_core.proofs.Recording.{with_effects, record_is, record_fits}
@@ -68,7 +69,7 @@ use Rattle.ckpt_types.specs.declared.identities.Who.{Who}
 use Rattle.world_core.proofs.TableFields.{change_is, client_same}
 use Rattle.ckpt_types.specs.declared.words.OpWord.{OpWord}
 use Rattle.cluster_record.specs.Makings.{makings_of}
-use Rattle.cluster_record.specs.StepDone.{done_of}
+use Rattle.cluster_record.specs.StepDone.{counting, done_of}
 use Rattle.client_calls.specs.HandSteps.{hand_taken}
 use Rattle.ckpt_machine.proofs.Granted.{has_found}
 use Rattle.ckpt_machine.proofs.OpenRoom.{open_room}
@@ -237,13 +238,14 @@ module _ (w : World) (v : Who) (step : RecordStep) (hand : InHand) (held : hand_
       fits_recorded = record_fits w h R nodes backgrounds (goes eight granted) up is.keeps pulled is.fits
 
     shown_done : length w.nodes ≡ 8 → event_refusal w.cluster step hand.driver ≡ None → IsPlain step → CanSettle (client_by v) hand.op step w.tables →
-        IsShownBehind w v hand held (settled_world w v hand step) (with_effects w) verb k r words.Ok end beside.Nothing 0 hand.snapshot (pulled_by_client v) (Event step) h
+        IsShownBehind w v hand held (settled_world w v hand step) (with_effects w) verb k r words.Ok end beside.Nothing 0 hand.snapshot hand.made (pulled_by_client v) (Event step) h
     shown_done eight granted plain can = record {
       done = told_so words.Ok end (plain_answer words.Ok end plain (subst (λ o. IsRecordAnswer o step (parts words.Ok end)) (sym granted) (inl (refl, refl))));
       change = done_beside eight granted ∙ settles recorded (with_effects w h) (client_by v) s (actor_is w h v hand held is.facts) step k plain can;
       fits = let f = fits_recorded eight granted in gone_fits (settled_alone w v hand step) (client_by v) (closed_in w v hand) (going_with step) (with_effects w h) (record { replicas = f.replicas; copies = f.copies; hands = f.hands });
       count_is = event_counts m step k r words.Ok;
       copy_is = let copy = copy_stays w h v hand held is.fits in record { same = event_pulls m s step k r words.Ok plain; room = copy.room; counts = copy.counts };
+      made_is = made_stays w h v hand held is.fits verb k r (counting 0 (done_of (settled_world w v hand step).cluster verb k r words.Ok)) refl (event_commits_none step);
     }
 
   -- ---- the whole of a step, with what it tells
@@ -253,10 +255,10 @@ module _ (w : World) (v : Who) (step : RecordStep) (hand : InHand) (held : hand_
     abbrev behind : World
     behind = record recorded { hands = hands; tables = tables }
 
-    pub done_does : length w.nodes ≡ 8 → event_refusal w.cluster step hand.driver ≡ None → hand_at hands v ≡ Some hand → ((h : History) → IsKnown w h → IsShownBehind w v hand held behind (with_effects w) verb k r words.Ok end beside.Nothing 0 copy pulled (Event step) h) →
-        (LiveHaveRoom w.cluster w.tables → LiveHaveRoom R tables) → Does w (freed_world (behind_step w v hand held behind (with_effects w) verb k r words.Ok end beside.Nothing 0 copy pulled)) (told words.Ok end)
-    done_does eight granted still shown rooms = does_freed w (behind_step w v hand held behind (with_effects w) verb k r words.Ok end beside.Nothing 0 copy pulled) (told words.Ok end)
-        (step_before w v hand held behind (with_effects w) verb k r words.Ok end beside.Nothing 0 copy pulled (Event step) next still (λ h. refl) shown)
+    pub done_does : length w.nodes ≡ 8 → event_refusal w.cluster step hand.driver ≡ None → hand_at hands v ≡ Some hand → ((h : History) → IsKnown w h → IsShownBehind w v hand held behind (with_effects w) verb k r words.Ok end beside.Nothing 0 copy hand.made pulled (Event step) h) →
+        (LiveHaveRoom w.cluster w.tables → LiveHaveRoom R tables) → Does w (freed_world (behind_step w v hand held behind (with_effects w) verb k r words.Ok end beside.Nothing 0 copy hand.made pulled)) (told words.Ok end)
+    done_does eight granted still shown rooms = does_freed w (behind_step w v hand held behind (with_effects w) verb k r words.Ok end beside.Nothing 0 copy hand.made pulled) (told words.Ok end)
+        (step_before w v hand held behind (with_effects w) verb k r words.Ok end beside.Nothing 0 copy hand.made pulled (Event step) next still (λ h. refl) shown)
         (λ m s f. holds_after s.history (known_by w m s f) eight granted)
         (λ m s f. let is = known_by w m s f in event_has w.cluster w.snapshots is.keeps is.facts.rises is.facts.up_to hand.call hand.driver step)
         (λ m s f. rooms_ended behind R v end (rooms s.rooms))
@@ -265,12 +267,13 @@ module _ (w : World) (v : Who) (step : RecordStep) (hand : InHand) (held : hand_
   pub ended_does : (reply : StepReply) (end : Outcome) → IsNotOk reply → ((h : History) → IsKnown w h → let m = machine_of w h in let s = state_in h v hand in (pulled_by m s verb k r reply ≡ s.snapshot) × IsEventAnswer (kept_off m k step) (event_refusal w.cluster step hand.driver) step (parts reply (Some end))) →
       Does w (ended_at v (Some end) (record w { hands = set_at w.hands v None })) (told reply (Some end))
   ended_does reply end not_ok answers = does_before w (ended_at v (Some end) (record w { hands = set_at w.hands v None })) (told reply (Some end))
-      (step_before w v hand held w (λ h. h) verb k r reply (Some end) beside.Nothing 0 hand.snapshot (pulled_by_client v) (Event step) next held (λ h. refl) (λ h is. record {
+      (step_before w v hand held w (λ h. h) verb k r reply (Some end) beside.Nothing 0 hand.snapshot hand.made (pulled_by_client v) (Event step) next held (λ h. refl) (λ h is. record {
         done = told_so h is reply (Some end) (answers h is).1;
         change = refused_leaves (machine_of w h) (state_in h v hand) step k r reply not_ok;
         fits = is.fits;
         count_is = event_counts (machine_of w h) step k r reply;
         copy_is = let copy = copy_stays w h v hand held is.fits in record { same = (answers h is).0; room = copy.room; counts = copy.counts };
+        made_is = made_stays w h v hand held is.fits verb k r (counting 0 (done_of w.cluster verb k r reply)) refl (event_commits_none step);
       }))
       (λ m s f. s.holds) (λ m s f. s.keeps) (λ m s f. rooms_ended w w.cluster v (Some end) s.rooms)
 
@@ -301,7 +304,7 @@ module _ (w : World) (v : Who) (step : RecordStep) (hand : InHand) (held : hand_
 
   -- the world behind it, before the nodes are freed
   abbrev pub done_world : World
-  done_world = behind_step w v hand held (settled_world w v hand step) (with_effects w) verb k r words.Ok end beside.Nothing 0 hand.snapshot (pulled_by_client v)
+  done_world = behind_step w v hand held (settled_world w v hand step) (with_effects w) verb k r words.Ok end beside.Nothing 0 hand.snapshot hand.made (pulled_by_client v)
 
   -- the step is done, and the nodes are freed of what is gone
   pub event_does : IsShown w → length w.nodes ≡ 8 → event_refusal w.cluster step hand.driver ≡ None → IsPlain step → CanSettle (client_by v) hand.op step w.tables → (step ≡ events.Enter → room_is_taken (slice_get w.tables (client_by v)) ≡ true) → Does w (freed_world done_world) (told words.Ok end)

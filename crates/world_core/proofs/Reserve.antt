@@ -30,6 +30,7 @@ use Rattle.world_core.specs.Shows.{Does, HistoryFits, History, machine_of}
 use Rattle.ckpt_machine.specs.Shown.{FitsReplica, shown_replica}
 use Rattle.ckpt_machine.proofs.OptionLemmas.{IsSomeAnd-at}
 use Rattle.world_core.proofs.Held.{state_in, driver_is, IsCopyBehind, copy_stays}
+use Rattle.world_core.proofs.MadeIds.{made_stays}
 use Rattle.world_core.proofs.LiveRooms.{rooms_ended}
 use Rattle.ckpt_machine.proofs.HoldingLaws.{opening_there, holds_served}
 use Rattle.ckpt_machine.proofs.NodeMaps.{set_again}
@@ -89,7 +90,7 @@ module _ (w : World) (v : Who) (r k : ℕ) (hand : InHand) (p : Payload) (reply 
   pub reserve_does : Does w (served_world w v r (Reserve k) hand p reply) (served_label w v r (Reserve k) hand p reply)
   reserve_does =
       does_before w (served_world w v r (Reserve k) hand p reply) (served_label w v r (Reserve k) hand p reply)
-      (step_before w v hand held new (λ h. h) verbs.Reserve (Some k) (Some r) (word_of reply) end (ended_details end (its_details w v r (Reserve k) hand p reply)) (count_told reply) (its_copy w v r (Reserve k) hand p reply) (pulled_by_client v) (Serve r (Reserve k)) next held (λ h. refl) (λ h known. record {
+      (step_before w v hand held new (λ h. h) verbs.Reserve (Some k) (Some r) (word_of reply) end (ended_details end (its_details w v r (Reserve k) hand p reply)) (count_told reply) (its_copy w v r (Reserve k) hand p reply) hand.made (pulled_by_client v) (Serve r (Reserve k)) next held (λ h. refl) (λ h known. record {
         done = record {
           answer = reply;
           may = subst (λ (b : Bool). MayReserve b reply) (stands_alike (entry_of k w.cluster.entries) (replica_in w.nodes k r) w.cluster r (finding.ready w h v r (Reserve k) hand known.facts known.fits held next).1) may;
@@ -103,6 +104,7 @@ module _ (w : World) (v : Who) (r k : ℕ) (hand : InHand) (p : Payload) (reply 
         change = (reserves h known).change;
         fits = (reserves h known).fits;
         count_is = no_count;
+        made_is = made_stays w h v hand held known.fits verbs.Reserve (Some k) (Some r) (counting (count_told reply) (done_of new.cluster verbs.Reserve (Some k) (Some r) (word_of reply))) refl tt;
         copy_is = let copy = copy_stays w h v hand held known.fits in subst (IsCopyBehind h v hand (state_in h v hand).snapshot (h.pulled v)) (sym (copy_kept (Reserve k) (λ x s. refl) (replica_there w v r (Reserve k) hand p reply) hand.snapshot)) copy;
       }))
       (λ m s f. let is = known_by w m s f in holds_served w.cluster w.nodes r (Reserve k) p reply is.holds within (λ j e. subst (IsServable (machine_of w s.history) r) e (finding.ready w s.history v r (Reserve k) hand is.facts is.fits held next).1))

@@ -1,6 +1,10 @@
 -- A run goes on by one label, and what the code may rely on in the world after it: by the law of the machine.
 use Rattle.std.proofs.Common.{◌≡◌, ℕ, ◌-◌, ◌<◌, ◌≤◌, ◌^◌, List, [], ◌∷◌, ◌++◌, length, Option, Some, None, refl, sym, ap, subst, ◌∙◌, arith}
+use Rattle.std.specs.Option.{option_map}
 use Rattle.std.proofs.lemmas.Option.{same_Some}
+use Rattle.ckpt_types.specs.declared.identities.CallId.{CallId}
+use Rattle.replica.specs.Replicas.{Replica}
+use Rattle.stage_slot.specs.Slots.{Slot}
 use Rattle.ckpt_types.specs.declared.answers.Outcome.{Outcome}
 use Rattle.ckpt_types.specs.declared.identities.ActorName.TheVariants.{Client}
 use Rattle.ckpt_types.specs.declared.identities.Who.{Who}
@@ -13,14 +17,15 @@ use Rattle.run_labels.specs.declared.labels.Label.{Label}
 use Rattle.run_labels.specs.declared.labels.Label.TheVariants.{Stepped}
 use Rattle.client_calls.specs.declared.in_hand.InHand.{InHand}
 use Rattle.cluster_record.specs.Calls.{left}
-use Rattle.cluster_record.specs.RecordState.{entry_of}
-use Rattle.cluster_record.specs.StepDone.{done_of, counting}
+use Rattle.cluster_record.specs.RecordState.{RecordState, complete_of, entry_of}
+use Rattle.cluster_record.specs.StepDone.{done_of, counting, first_lacking}
 use Rattle.ckpt_machine.specs.Driving.{driver_taken}
 use Rattle.ckpt_machine.specs.Drivers.{Driver}
+use Rattle.ckpt_machine.specs.Drivers as drivers
 use Rattle.ckpt_machine.specs.Invariant.{Invariant}
 use Rattle.ckpt_machine.specs.Laws.{IsLawful, EachRunHas, GivesFacts, BringsNearer, StepsAreFew}
-use Rattle.ckpt_machine.specs.Left.{steps_left}
-use Rattle.ckpt_machine.specs.Machine.{Machine, CallState, who}
+use Rattle.ckpt_machine.specs.Left.{having, lacking, most_steps, owner_met, slot_owner, steps_left, update_left_by}
+use Rattle.ckpt_machine.specs.Machine.{Machine, CallState, Effect, ReplicaState, Staged, who}
 use Rattle.ckpt_machine.specs.Runs.{Counts, last}
 use Rattle.ckpt_machine.specs.After.{changed, kept_behind, step_of, after}
 use Rattle.ckpt_machine.specs.Due.{driver_of, counted_at}
@@ -30,9 +35,9 @@ use Rattle.ckpt_machine.proofs.Whose.{put_who-here}
 use Rattle.world_core.specs.declared.world.World.{World}
 use Rattle.world_core.specs.HandsState.{hand_at}
 use Rattle.world_core.specs.Runs.{IsRunTo}
-use Rattle.world_core.specs.Shows.{Does, Shows, IsShown, HasNumbersLeft, machine_of}
-use Rattle.ckpt_machine.specs.Shown.{FitsReplica, shown_replica}
-use Rattle.world_core.specs.StepsLeft.{hand_left, left_of}
+use Rattle.world_core.specs.Shows.{Does, History, Shows, IsShown, HasNumbersLeft, machine_of}
+use Rattle.ckpt_machine.specs.Shown.{FitsReplica, complete_replica, shown_replica, shown_slot}
+use Rattle.world_core.specs.StepsLeft.{hand_left, hand_most, left_of, most_left, replicas_seen}
 use Rattle.world_core.proofs.Held.{state_in, in_hand_is, driver_is}
 
 -- the world after a log shows the state after it
@@ -46,6 +51,33 @@ goes_on lawful runs facts w w' log l to does =
     let known = facts (last log) inv in
     let due = does.due_is (last log) to.shows known in
     record { run = run_more log l to.run (lawful (last log) l inv due).0 due; shows = subst (Shows w') (sym (last-push log l)) (does.shows (last log) to.shows known) }
+
+-- ---- what is left depends on the owners of slots alone
+
+-- they are the same, whatever effects and origins are shown
+owner_same : (E F : List Effect) (o p : CallId) (y : Option Replica) → slot_owner (shown_replica E o y) ≡ slot_owner (shown_replica F p y)
+owner_same E F o p None = refl
+owner_same E F o p (Some x) = by_slot x.slot where
+  by_slot : (slot : Option Slot) → option_map (λ (z : Staged). z.owner) (shown_slot o slot) ≡ option_map (λ (z : Staged). z.owner) (shown_slot p slot)
+  by_slot None = refl
+  by_slot (Some slot) = refl
+
+met_same : (a b : ℕ → Option ReplicaState) → ((r : ℕ) → slot_owner (a r) ≡ slot_owner (b r)) → (first : Option ℕ) → owner_met a first ≡ owner_met b first
+met_same a b same None = refl
+met_same a b same (Some r) = same r
+
+left_same : (R : RecordState) (a b : ℕ → ℕ → Option ReplicaState) → ((k r : ℕ) → slot_owner (a k r) ≡ slot_owner (b k r)) → (x : Driver) → steps_left R a x ≡ steps_left R b x
+left_same R a b same (drivers.Update u) =
+    let complete : List ℕ = complete_of (entry_of u.ckpt R.entries) in
+    ap (λ met. update_left_by (lacking complete u.owned) (having complete u.owned) u.owner met u.phase) (met_same (a u.ckpt) (b u.ckpt) (same u.ckpt) (first_lacking 0 complete u.owned))
+left_same R a b same (drivers.Once x) = refl
+left_same R a b same (drivers.Open o) = refl
+left_same R a b same (drivers.Active x) = refl
+left_same R a b same (drivers.Sync s) = refl
+
+-- so it is told of the nodes, as of the machine
+left_seen : (w : World) (h : History) (x : Driver) → steps_left w.cluster (machine_of w h).replicas x ≡ steps_left w.cluster (replicas_seen w) x
+left_seen w h x = left_same w.cluster (machine_of w h).replicas (replicas_seen w) (λ k r. owner_same (h.effects k r) [] (h.origins k r) (record { actor = Client 0; number = 0 }) (complete_replica w.cluster w.nodes k r)) x
 
 -- ---- a step brings its call nearer to its end
 
@@ -67,17 +99,18 @@ module _ (runs : EachRunHas) (facts : GivesFacts) (brings : BringsNearer) (few :
   here : m.in_hand v ≡ Some s
   here = ap (λ (m : Machine). m.in_hand v) to.shows.same ∙ in_hand_is w to.shows.history v hand held
 
-  before : steps_left m.cluster (driver_of s) ≡ left_of w v
+  before : steps_left m.cluster m.replicas (driver_of s) ≡ left_of w v
   before =
-      ap (steps_left m.cluster) (sym (driver_is w to.shows.history v hand held to.shows.fits))
-      ∙ ap (λ (m : Machine). steps_left m.cluster hand.driver) to.shows.same
-      ∙ ap (hand_left w.cluster) (sym held)
+      ap (steps_left m.cluster m.replicas) (sym (driver_is w to.shows.history v hand held to.shows.fits))
+      ∙ ap (λ (m : Machine). steps_left m.cluster m.replicas hand.driver) to.shows.same
+      ∙ left_seen w to.shows.history hand.driver
+      ∙ ap (hand_left w.cluster (replicas_seen w)) (sym held)
 
   -- after a step fewer steps are left of its call, and none where it has ended
   pub nearer : (op : OpWord) (verb : Verb) (k r : Option ℕ) (reply : StepReply) (end : Option Outcome) (details : Details) → Does w w' (Stepped hand.call op verb k r reply end details) → hand_at w'.hands v ≡ left end next → left_of w' v < left_of w v
   nearer op verb k r reply (Some o) details does then =
       let some : 1 ≤ left_of w v = subst (λ n. 1 ≤ n) before (few m v s (runs log to.run).0 here).0 in
-      subst (λ p. hand_left w'.cluster p < left_of w v) (sym then) (omega (arith, some))
+      subst (λ p. hand_left w'.cluster (replicas_seen w') p < left_of w v) (sym then) (omega (arith, some))
   nearer op verb k r reply None details does then =
       let known = facts m (runs log to.run).0 in
       let due = does.due_is m to.shows known in
@@ -91,22 +124,23 @@ module _ (runs : EachRunHas) (facts : GivesFacts) (brings : BringsNearer) (few :
       let driver : next.driver ≡ driver_taken told (driver_of s)
       = driver_is w' new.history v next then new.fits
       ∙ ap driver_of (same_Some (state_in new.history v next) (kept_behind m s m'.cluster verb k r reply) (sym (in_hand_is w' new.history v next then) ∙ sym (ap (λ (m : Machine). m.in_hand v) new.same) ∙ goes)) in
-      let now : steps_left m'.cluster (driver_taken told (driver_of s)) ≡ left_of w' v
-      = ap (steps_left m'.cluster) (sym driver) ∙ ap (λ (m : Machine). steps_left m.cluster next.driver) new.same ∙ ap (hand_left w'.cluster) (sym then) in
-      subst (λ n. n < left_of w v) now (subst (λ n. steps_left m'.cluster (driver_taken told (driver_of s)) < n) before (brings m hand.call op verb k r reply details s (runs log to.run).0 due under))
+      let now : steps_left m'.cluster m'.replicas (driver_taken told (driver_of s)) ≡ left_of w' v
+      = ap (steps_left m'.cluster m'.replicas) (sym driver) ∙ ap (λ (m : Machine). steps_left m.cluster m.replicas next.driver) new.same ∙ left_seen w' new.history next.driver ∙ ap (hand_left w'.cluster (replicas_seen w')) (sym then) in
+      subst (λ n. n < left_of w v) now (subst (λ n. steps_left m'.cluster m'.replicas (driver_taken told (driver_of s)) < n) before (brings m hand.call op verb k r reply details s (runs log to.run).0 due under))
 
 -- ---- few steps are left of a call
 
 -- after any run, of the call of a name
-pub few_left : EachRunHas → StepsAreFew → (w : World) (log : List Label) (v : Who) → IsRunTo w log → left_of w v ≤ 66
+pub few_left : EachRunHas → StepsAreFew → (w : World) (log : List Label) (v : Who) → IsRunTo w log → left_of w v ≤ most_left w v
 few_left runs few w log v to = by_hand (hand_at w.hands v) refl
   where
-    by_hand : (o : Option InHand) → hand_at w.hands v ≡ o → left_of w v ≤ 66
-    by_hand None held = subst (λ p. hand_left w.cluster p ≤ 66) (sym held) (omega arith)
+    by_hand : (o : Option InHand) → hand_at w.hands v ≡ o → left_of w v ≤ most_left w v
+    by_hand None held = subst (λ p. hand_left w.cluster (replicas_seen w) p ≤ hand_most p) (sym held) (omega arith)
     by_hand (Some hand) held =
         let h = to.shows.history in
         let few = (few (machine_of w h) v (state_in h v hand) (subst Invariant to.shows.same (runs log to.run).0) (in_hand_is w h v hand held)).1 in
-        subst (λ p. hand_left w.cluster p ≤ 66) (sym held) (subst (λ (d : Driver). steps_left w.cluster d ≤ 66) (sym (driver_is w h v hand held to.shows.fits)) few)
+        subst (λ p. hand_left w.cluster (replicas_seen w) p ≤ hand_most p) (sym held)
+        (subst (λ n. n ≤ most_steps hand.driver) (left_seen w h hand.driver) (subst (λ (d : Driver). steps_left w.cluster (machine_of w h).replicas d ≤ most_steps d) (sym (driver_is w h v hand held to.shows.fits)) few))
 
 -- ---- no count is at its end
 

@@ -38,11 +38,11 @@ use Rattle.world_core.specs.Happenings.{rooms_at}
 use Rattle.world_core.specs.TablesState.{kept_by}
 use Rattle.ckpt_machine.specs.Driving.{driver_next, driver_taken, driver_end}
 use Rattle.ckpt_machine.specs.Machine.{Machine, Effect, ReplicaState, CallState}
-use Rattle.ckpt_machine.specs.After.{changed, pulled_by, staged_moment}
+use Rattle.ckpt_machine.specs.After.{changed, created_by, pulled_by, staged_moment}
 use Rattle.ckpt_machine.specs.Due.{due, driver_of, ended_details, ids_asked, payload_due, counted_at}
 use Rattle.ckpt_machine.specs.Tables.{ids_of, kept_asked}
 use Rattle.ckpt_machine.specs.Facts.{HasNoSlot, IsServable}
-use Rattle.world_core.specs.Shows.{Does, HistoryFits, History, machine_of, tables_of}
+use Rattle.world_core.specs.Shows.{Does, HistoryFits, History, KeepsMade, machine_of, tables_of}
 use Rattle.ckpt_machine.specs.Shown.{shown_replica, shown_slot, complete_replica, FitsReplica, IsRoomToCopy}
 use Rattle.ckpt_machine.proofs.Calls.{IsOwn, own_request}
 use Rattle.world_core.proofs.Carrying.{payload_with}
@@ -56,6 +56,8 @@ use Rattle.world_core.proofs.LiveRooms.{rooms_ended}
 use Rattle.ckpt_machine.proofs.HoldingLaws.{holds_served}
 use Rattle.ckpt_machine.proofs.NodeMaps.{complete_at_node, put_replica, fits_replica, reserved_same}
 use Rattle.ckpt_machine.proofs.RequestRows.{effects_in, effects_after, effects_carried, origin_after, row_moves, row_fits, tables_moved}
+use Rattle.client_calls.specs.MadeIds.{made_behind}
+use Rattle.world_core.proofs.MadeIds.{made_served}
 use Rattle.world_core.proofs.Told.{told_world}
 use Rattle.world_core.proofs.CallSteps.{IsKnown, known_by, IsShownBehind, step_before}
 use Rattle.world_core.specs.HandsState.{hand_at}
@@ -90,12 +92,16 @@ module _ (w : World) (v : Who) (r : ℕ) (request : Request) (hand : InHand) (p 
   abbrev pub its_copy : Option copies.Snapshot
   its_copy = snapshot_behind request replica_there hand.snapshot
 
+  -- and what it keeps of what it has made
+  abbrev pub its_made : Option (List (List ℕ))
+  its_made = made_behind hand.op request reply its_details hand.made
+
   -- the world in which the node has served it, the call being in hand still
   abbrev pub behind : World
   behind = record w { nodes = nodes_after w.cluster w.nodes r request p reply; tables = tables_keeping request (client_by v) hand.op reply its_iteration (tables_lending request (client_by v) hand.op w.tables) }
 
   abbrev pub served_world : World
-  served_world = told_world behind v hand its_copy its_done its_end
+  served_world = told_world behind v hand its_copy its_made its_done its_end
 
   abbrev pub served_label : Label
   served_label = Stepped hand.call (word_of_op hand.op) (verb_of request) (Some (ckpt_of request)) (Some r) (word_of reply) its_end (ended_details its_end its_details)
@@ -234,7 +240,7 @@ module _ (w : World) (v : Who) (r : ℕ) (request : Request) (hand : InHand) (p 
 
     -- the count that it is told is that of the replica
     count_here : counted_at m (verb_of request) (Some k) (Some r) (word_of reply) ≡ count_told reply
-    count_here = subst (λ a. counted_at m (verb_of request) (Some k) (Some r) (word_of a) ≡ count_told a) (sym reply_is) (counts_told m r E o x request q seen goes shown (counts_effects k E x (entry_of k w.cluster.entries) found.fits))
+    count_here = subst (λ a. counted_at m (verb_of request) (Some k) (Some r) (word_of a) ≡ count_told a) (sym reply_is) (counts_told m r E o x request q seen goes shown (counts_effects k E x (entry_of k w.cluster.entries) found.fits) found.fits.3)
 
     -- so it ends as the machine's call does
     its_end_is : end ≡ (let done = counting (counted_at m (verb_of request) (Some k) (Some r) (word_of reply)) (done_of w.cluster (verb_of request) (Some k) (Some r) (word_of reply)) in driver_end hand.op done reply (driver_taken done (driver_of s)))
@@ -249,7 +255,15 @@ module _ (w : World) (v : Who) (r : ℕ) (request : Request) (hand : InHand) (p 
         subst (λ (z : Option Replica × Option Replica). IsCopyBehind (later y h) v hand (pulled_by m s (verb_of request) (Some k) (Some r) (word_of reply)) (pulled_after request z.0 E (h.pulled v)) (snapshot_behind request z.1 hand.snapshot))
         (λ i. (sym found.is i, sym served_is i)) (record { same = same; room = found_copy.room; counts = found_copy.counts })
 
-    is_served : IsShownBehind w v hand held new (later y) (verb_of request) (Some k) (Some r) (word_of reply) end (ended_details end (its_details w v r request hand p reply)) (count_told reply) (its_copy w v r request hand p reply) then_pulled (Serve r request) h
+    -- what comes beside the answer
+    details_are : its_details w v r request hand p reply ≡ details_at request q seen (Some x)
+    details_are = details_carried request p q seen (replica_there w v r request hand p reply) carried ∙ ap (details_at request q seen) served_is
+
+    -- and what it keeps of what it has made
+    made_here : (d : StepDone) → d.verb ≡ verb_of request → KeepsMade hand.op (driver_taken d hand.driver) (created_by m s (verb_of request) (Some k) (Some r)) (its_made w v r request hand p reply)
+    made_here d verb = made_served w h v hand held known.fits r E o x request q seen reply (its_details w v r request hand p reply) d verb reply_is details_are shown (λ call j is. known.facts.commits v s r call j (in_hand_is w h v hand held) (due_here ∙ ap (Serve r) is))
+
+    is_served : IsShownBehind w v hand held new (later y) (verb_of request) (Some k) (Some r) (word_of reply) end (ended_details end (its_details w v r request hand p reply)) (count_told reply) (its_copy w v r request hand p reply) (its_made w v r request hand p reply) then_pulled (Serve r request) h
     is_served = record {
       done = record {
         answer = reply;
@@ -258,13 +272,14 @@ module _ (w : World) (v : Who) (r : ℕ) (request : Request) (hand : InHand) (p 
         ckpt = refl;
         node = refl;
         reply = refl;
-        details = ap (ended_details end) (details_carried request p q seen (replica_there w v r request hand p reply) carried ∙ ap (details_at request q seen) (served_is ∙ sym found.seen));
+        details = ap (ended_details end) (details_are ∙ ap (details_at request q seen) (sym found.seen));
         end = its_end_is;
       };
       change = change;
       fits = fits_behind;
       count_is = count_here;
       copy_is = copy_here;
+      made_is = made_here (counting (count_told reply) (done_of new.cluster (verb_of request) (Some k) (Some r) (word_of reply))) refl;
     }
 
     holds_behind : HoldsOnlyWhatStands w.cluster new.nodes
@@ -274,7 +289,7 @@ module _ (w : World) (v : Who) (r : ℕ) (request : Request) (hand : InHand) (p 
   -- the node serves the request
   pub serve_does : Does w (served_world w v r request hand p reply) (served_label w v r request hand p reply)
   serve_does = does_before w (served_world w v r request hand p reply) (served_label w v r request hand p reply)
-      (step_before w v hand held new (later y) (verb_of request) (Some k) (Some r) (word_of reply) end (ended_details end (its_details w v r request hand p reply)) (count_told reply) (its_copy w v r request hand p reply) then_pulled (Serve r request) next held (λ h. refl) is_served)
+      (step_before w v hand held new (later y) (verb_of request) (Some k) (Some r) (word_of reply) end (ended_details end (its_details w v r request hand p reply)) (count_told reply) (its_copy w v r request hand p reply) (its_made w v r request hand p reply) then_pulled (Serve r request) next held (λ h. refl) is_served)
       (λ m s f. holds_behind s.history (known_by w m s f))
       (λ m s f. s.keeps)
       (λ m s f. rooms_ended new w.cluster v end (rooms_moved w w.cluster (client_by v) hand.op request reply (its_iteration w v r request hand p reply) s.rooms))

@@ -44,11 +44,12 @@ use Rattle.ckpt_machine.specs.Taking.{AsksNode}
 use Rattle.world_core.specs.Happenings.{IsNext, IsStep, rooms_at}
 use Rattle.client_calls.specs.TableState.{TableState}
 use Rattle.world_core.specs.TablesState.{kept_by}
+use Rattle.world_core.specs.CommitLending.{IsLentAt}
 use Rattle.world_core.specs.Shows.{IsShown, HasNumbersLeft}
 use Rattle.world_core.proofs.Carrying.{lent_carries}
-use Rattle.world_core.proofs.IterationSteps.{lent_left, lent_op, lent_end}
-use Rattle.world_core.proofs.Serve.{its_copy, its_done, its_end, its_details, its_iteration, served_world}
-use Rattle.world_core.proofs.Held.{with_copy}
+use Rattle.world_core.proofs.IterationSteps.{lent_made, lent_op, lent_end}
+use Rattle.world_core.proofs.Serve.{its_copy, its_done, its_end, its_details, its_iteration, its_made, served_world}
+use Rattle.world_core.proofs.Held.{hand_made, with_copy, with_made}
 use Rattle.world_core.specs.HandsState.{hand_at, set_at}
 use Rattle.client_calls.specs.Names.{client_by}
 use Rattle.ckpt_types.specs.declared.identities.Who.{Who}
@@ -97,7 +98,7 @@ lent_snapshot request hand = refl
 pub lends_at : (w : World) (v : Who) (r : ℕ) (request : Request) (hand : InHand) → hand_at w.hands v ≡ Some hand → IsNext w v (Serve r request) → IsShown w → (c : ℕ) → c ≡ client_by v → (t : TableState) → slice_get w.tables c ≡ Some t → CanLend request hand.op t.client
 lends_at w v r request hand held next shown c c_is t there = subst (CanLend request hand.op) (ap (kept_by w.tables) (sym c_is) ∙ kept_is w.tables c t there) (lends w v r request hand held next shown)
 
-module _ (w : World) (v : Who) (r : ℕ) (request : Request) (hand : InHand) (held : hand_at w.hands v ≡ Some hand) (next : IsNext w v (Serve r request)) (shown : IsShown w) (room : HasNumbersLeft w) (lent : Lent) (is_lent : IsLentBy hand.op request lent) where
+module _ (w : World) (v : Who) (r : ℕ) (request : Request) (hand : InHand) (held : hand_at w.hands v ≡ Some hand) (next : IsNext w v (Serve r request)) (shown : IsShown w) (room : HasNumbersLeft w) (lent : Lent) (is_lent : IsLentBy hand.op request lent) (lent_there : IsLentAt w.nodes r request lent) where
   abbrev whole : Lent
   whole = with_own w v r request hand held next lent
 
@@ -123,7 +124,7 @@ module _ (w : World) (v : Who) (r : ℕ) (request : Request) (hand : InHand) (he
     whole_is = let copy_is = copy1_is ∙ ap (λ (h : InHand). h.snapshot) hand_is ∙ lent_snapshot request hand in λ i. record lent { iteration = its_it i; snap = copy_is i }
 
     pub fits_at : MayCome w.cluster (node_at w.nodes r) request lent1
-    fits_at = subst (MayCome w.cluster (node_at w.nodes r) request) (sym whole_is) (fits_lent w v r request hand held next shown room lent is_lent)
+    fits_at = subst (MayCome w.cluster (node_at w.nodes r) request) (sym whole_is) (fits_lent w v r request hand held next shown room lent is_lent lent_there)
 
     same_op : hand2.op ≡ hand.op
     same_op = ap (λ (h : InHand). h.op) lent_is ∙ ap (λ (h : InHand). h.op) hand_is ∙ lent_op request hand
@@ -133,11 +134,11 @@ module _ (w : World) (v : Who) (r : ℕ) (request : Request) (hand : InHand) (he
         subst (CanKeep request hand2.op) (kept_is tables1 c t2 there2)
         (subst (λ (z : List TableState × Op × ℕ). CanKeep request z.1 (kept_by z.0 z.2)) (λ i. (sym its_tables i, sym same_op i, sym c_is i)) (keeps w v r request hand held next shown room))
 
-    pub step_is : (reply : Reply) (nodes : List (List Replica)) (back : Lent) (it : Option KeptIds) (copy : Option Snapshot) (t2 t3 : TableState) (taken : InHand) (place : Option InHand) (end : Option Outcome) (word : OpWord) (verb : Verb) (k : ℕ) (said : StepReply) (details : Details) → IsValidFor request t.client → ServedAs w r request lent1 back reply nodes →
-        slice_get tables1 c ≡ Some t2 → it ≡ back.iteration → copy ≡ back.snap → t3 ≡ table_keeping request hand2.op reply it t2 → taken ≡ hand_taken (served_done w.cluster request r reply) (with_copy hand2 copy) → end ≡ hand_end (served_done w.cluster request r reply) reply taken → place ≡ left end taken →
+    pub step_is : (reply : Reply) (nodes : List (List Replica)) (back : Lent) (it : Option KeptIds) (copy : Option Snapshot) (t2 t3 : TableState) (taken then_taken : InHand) (place : Option InHand) (end : Option Outcome) (word : OpWord) (verb : Verb) (k : ℕ) (said : StepReply) (details : Details) → IsValidFor request t.client → ServedAs w r request lent1 back reply nodes →
+        slice_get tables1 c ≡ Some t2 → it ≡ back.iteration → copy ≡ back.snap → t3 ≡ table_keeping request hand2.op reply it t2 → taken ≡ hand_taken (served_done w.cluster request r reply) (with_copy hand2 copy) → end ≡ hand_end (served_done w.cluster request r reply) reply taken → left end then_taken ≡ left end (hand_made request reply (details_told reply back) taken) → place ≡ left end then_taken →
         word ≡ word_of_op hand.op → verb ≡ verb_of request → k ≡ ckpt_of request → said ≡ word_of reply → details ≡ ended_details end (details_told reply back) →
         IsStep v w (ended_at v end (record w { nodes = nodes; tables = slice_set tables1 c t3; hands = set_at w.hands v place })) (Stepped hand.call word verb (Some k) (Some r) said end details)
-    step_is reply nodes back it copy t2 t3 taken place end word verb k said details valid served there2 it_is copy_is kept_are taken_is end_is place_is word_is verb_is k_is said_is details_are =
+    step_is reply nodes back it copy t2 t3 taken then_taken place end word verb k said details valid served there2 it_is copy_is kept_are taken_is end_is then_is place_is word_is verb_is k_is said_is details_are =
         let p : Payload = payload_of whole in
         let done : StepDone = its_done w v r request hand p reply in
         let got : ServedAs w r request whole back reply nodes = subst (λ (z : Lent). ServedAs w r request z back reply nodes) whole_is served in
@@ -148,8 +149,9 @@ module _ (w : World) (v : Who) (r : ℕ) (request : Request) (hand : InHand) (he
         let copied : copy ≡ its = copy_is ∙ got.snapshot in
         let takes : taken ≡ hand_taken done (hand_lending request (with_copy hand its)) = taken_is ∙ ap (λ (h : InHand). hand_taken done (with_copy h copy)) lent_is ∙ (λ i. hand_taken done (with_copy (hand_is i) (copied i))) ∙ ap (hand_taken done) (lent_copy request hand its) in
         let ends : end ≡ its_end w v r request hand p reply = end_is ∙ ap (hand_end done reply) takes ∙ lent_end request (with_copy hand its) done reply in
-        let left_is : place ≡ left (its_end w v r request hand p reply) (hand_taken done (with_copy hand its))
-        = place_is ∙ (λ i. left (ends i) (takes i)) ∙ lent_left request (with_copy hand its) done (its_end w v r request hand p reply) (ends_its w v r request hand held next shown p reply got.may) in
+        let left_is : place ≡ left (its_end w v r request hand p reply) (hand_taken done (with_made hand its (its_made w v r request hand p reply)))
+        = place_is ∙ then_is ∙ (λ i. left (ends i) (hand_made request reply (got.details i) (takes i)))
+        ∙ lent_made request (with_copy hand its) done reply (its_details w v r request hand p reply) (its_end w v r request hand p reply) (ends_its w v r request hand held next shown p reply got.may) in
         let new_is : ended_at v end (record w { nodes = nodes; tables = slice_set tables1 c t3; hands = set_at w.hands v place }) ≡ served_world w v r request hand p reply = λ i. ended_at v (ends i) (record w { nodes = got.nodes_are i; tables = then_tables i; hands = set_at w.hands v (left_is i) }) in
         let told : details ≡ ended_details (its_end w v r request hand p reply) (its_details w v r request hand p reply) = details_are ∙ (λ i. ended_details (ends i) (got.details i)) in
         subst (λ (z : World × OpWord × Verb × ℕ × StepReply × Option Outcome × Details). IsStep v w z.0 (Stepped hand.call z.1 z.2 (Some z.3) (Some r) z.4 z.5 z.6))

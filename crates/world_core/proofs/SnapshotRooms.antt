@@ -21,7 +21,7 @@ use Rattle.ckpt_machine.specs.RecordAfter.{event_after}
 use Rattle.ckpt_machine.proofs.KeptEntries.{IsKept, Keeps, kept_filter, undone_stays, swept_stays, declared, with_created, created_there, created_rises, event_declared}
 use Rattle.node_msgs.specs.declared.next.RecordStep.TheVariants as events
 use Rattle.ckpt_machine.specs.Drivers as drivers
-use Rattle.ckpt_machine.proofs.OnceByKey.{counted-push}
+use Rattle.node_core.proofs.OnceByKey.{counted-push}
 
 -- ---- a creation
 

@@ -1,5 +1,5 @@
 -- The steps of an update, as the code takes them: a stage, the refusal of one, and a commit.
-use Rattle.std.proofs.Common.{◌≡◌, ℕ, ℤ, Bool, false, List, refl, sym, ap, subst, ◌∙◌}
+use Rattle.std.proofs.Common.{◌≡◌, ◌⊎◌, inl, inr, ℕ, ℤ, Bool, true, false, List, refl, sym, ap, subst, ◌∙◌}
 use Rattle.std.specs.Prelude.{Option, Some, None, Result, Ok, Err, IfSome, IsSomeAnd}
 use Rattle.ckpt_types.specs.declared.answers.Answer.{Answer}
 use Rattle.ckpt_types.specs.declared.answers.Answer.TheVariants as answers
@@ -25,13 +25,19 @@ use Rattle.ckpt_types.specs.declared.words.OpWord.{OpWord}
 use Rattle.ckpt_types.specs.OpWord.{word_of_op}
 use Rattle.cluster_record.specs.Calls.{left}
 use Rattle.cluster_record.specs.RecordState.{RecordState}
-use Rattle.cluster_record.specs.StepDone.{done_of}
+use Rattle.cluster_record.specs.declared.calls.UpdatePhase.{UpdatePhase}
+use Rattle.cluster_record.specs.declared.calls.UpdatePhase.TheVariants.{Staging, Committing, Claiming, Claimed, Withdrawing, Resolving}
+use Rattle.cluster_record.specs.DueUpdate.{UpdateState, commit_end, committing}
+use Rattle.cluster_record.specs.StepDone.{StepDone, done_of, last_having, set_node}
 use Rattle.node_msgs.specs.Requests.{ckpt_of}
 use Rattle.node_msgs.specs.Steps.{verb_of, word_of}
 use Rattle.ckpt_machine.specs.Drivers.{Driver}
 use Rattle.ckpt_machine.specs.Drivers as drivers
 use Rattle.ckpt_machine.specs.Driving.{driver_taken, done_end}
-use Rattle.ckpt_machine.specs.Due.{ended_details}
+use Rattle.ckpt_machine.specs.Due.{driver_of, ended_details}
+use Rattle.ckpt_machine.specs.Facts.{IsOwnStaged, IsOwnWhere, IsToCommit}
+use Rattle.ckpt_machine.specs.Machine.{CallState, Staged}
+use Rattle.ckpt_machine.specs.Shown.{shown_slot}
 use Rattle.replica.specs.declared.replica.StageRefused.{StageRefused}
 use Rattle.replica.specs.Replicas.{Replica, answer_unless, committed, outcome_on, staged}
 use Rattle.stage_slot.specs.Slots.{Slot, IsOwnedBy, owner_of}
@@ -39,7 +45,7 @@ use Rattle.node_core.specs.Fitting.{TakesUpdate}
 use Rattle.node_core.specs.Nodes.{MayReply, replica_served}
 use Rattle.node_core.specs.Payloads.{Payload, no_payload, update_alone}
 use Rattle.node_core.specs.Seen.{RecordSeen, record_seen}
-use Rattle.node_core.specs.Serving.{reply_at, details_at, commit_answer, slot_id, stage_reply}
+use Rattle.node_core.specs.Serving.{reply_at, details_at, commit_answer, slot_id, stage_reply, update_answer}
 use Rattle.node_core.specs.StageReplies.{reply_refused, reply_told}
 use Rattle.client_calls.specs.declared.in_hand.InHand.{InHand}
 use Rattle.world_core.specs.declared.world.World.{World}
@@ -49,13 +55,15 @@ use Rattle.world_core.specs.TablesLending.{tables_lending, tables_keeping}
 use Rattle.world_core.specs.Happenings.{IsNext, IsStep}
 use Rattle.cluster_record.specs.Ends.{ended_unless, served_done}
 use Rattle.client_calls.specs.HandSteps.{hand_taken, hand_end, end_by}
-use Rattle.world_core.specs.Shows.{IsShown, HasNumbersLeft}
+use Rattle.world_core.specs.Shows.{History, IsShown, HasNumbersLeft}
 use Rattle.world_core.specs.TablesState.{kept_by}
 use Rattle.client_calls.specs.UpdateSteps.{IsUpdate, is_creation}
 use Rattle.world_core.proofs.Carrying.{payload_with}
 use Rattle.ckpt_machine.proofs.Carried.{GoesToReplica, Carries}
-use Rattle.world_core.proofs.Serve.{its_copy, its_end, its_details, its_iteration, served_world}
-use Rattle.world_core.proofs.Held.{with_copy}
+use Rattle.world_core.proofs.Serve.{its_copy, its_end, its_details, its_iteration, its_made, served_world}
+use Rattle.world_core.proofs.CallSteps.{known}
+use Rattle.world_core.proofs.Held.{driver_is, state_in, with_made}
+use Rattle.world_core.proofs.MadeIds.{made_plain}
 use Rattle.ckpt_machine.proofs.Reserving.{copy_kept}
 use Rattle.world_core.specs.HandsState.{HandsState, hand_at, set_at}
 use Rattle.ckpt_types.specs.declared.identities.ActorName.TheVariants.{Client}
@@ -63,7 +71,7 @@ use Rattle.ckpt_types.specs.declared.identities.Who.{Who}
 use Rattle.ckpt_types.specs.declared.identities.Who.TheVariants.{Actor}
 use Rattle.client_calls.specs.Names.{client_by}
 use Rattle.world_core.specs.Alone.{ended_at}
-use Rattle.world_core.proofs.Stepping.{its_nodes, its_own, its_ready, its_replica, its_room, its_served, its_there, answered_is}
+use Rattle.world_core.proofs.Stepping.{its_nodes, its_ready, its_replica, its_room, its_served, its_staged, its_there, answered_is}
 
 -- ---- what is answered, and told beside it
 
@@ -82,16 +90,46 @@ stage_told (Ok sections) None = refl
 stage_told (Err why) None = refl
 stage_told after (Some slot) = refl
 
--- the commit of an update that makes no section tells none
-tells_none : (u : Update) (sections : List Section) (slot : Slot) → slot.update ≡ u → is_creation u ≡ false → (commit_answer (Some slot) ≡ answers.Nothing) × (slot_id sections (Some slot) ≡ beside.Nothing)
-tells_none u sections slot own is = by_update slot.update (ap is_creation own ∙ is) where
-  by_update : (v : Update) → is_creation v ≡ false → (commit_answer (Some (record slot { update = v })) ≡ answers.Nothing) × (slot_id sections (Some (record slot { update = v })) ≡ beside.Nothing)
-  by_update (updates.Create new expiration bytes) is = absurd (cc is)
-  by_update v is = (refl, refl)
+-- a commit answers that a section is made, or nothing
+answer_either : (o : Option Slot) → (commit_answer o ≡ answers.Nothing) ⊎ (commit_answer o ≡ answers.Created)
+answer_either None = inl refl
+answer_either (Some slot) = by_update slot.update where
+  by_update : (u : Update) → (update_answer u ≡ answers.Nothing) ⊎ (update_answer u ≡ answers.Created)
+  by_update (updates.Create new expiration bytes) = inr refl
+  by_update u = inl refl
 
-by_slot : (u : Update) (sections : List Section) (o : Option Slot) → IsSomeAnd o (λ slot. slot.update ≡ u) → is_creation u ≡ false → (commit_answer o ≡ answers.Nothing) × (slot_id sections o ≡ beside.Nothing)
-by_slot u sections None own is = absurd own
-by_slot u sections (Some slot) own is = tells_none u sections slot own is
+-- and then it tells no identifier
+tells_none : (sections : List Section) (o : Option Slot) → commit_answer o ≡ answers.Nothing → slot_id sections o ≡ beside.Nothing
+tells_none sections None is = refl
+tells_none sections (Some slot) is = by_update slot.update is where
+  by_update : (u : Update) → update_answer u ≡ answers.Nothing → slot_id sections (Some (record slot { update = u })) ≡ beside.Nothing
+  by_update (updates.Create new expiration bytes) is = absurd (cc is)
+  by_update u is = refl
+
+makes_section : (u : Update) → update_answer u ≡ answers.Created → is_creation u ≡ true
+makes_section (updates.Create new expiration bytes) is = refl
+makes_section (updates.Delete id) is = absurd (cc is)
+makes_section (updates.SetExpiration id expiration) is = absurd (cc is)
+makes_section (updates.Write elements) is = absurd (cc is)
+makes_section (updates.Overwrite id bytes) is = absurd (cc is)
+makes_section updates.Nothing is = absurd (cc is)
+
+-- the commit of a section by an update that makes none is of what it has claimed, and ends nothing
+module _ (R : RecordState) (k r : Option ℕ) (a : Answer) (s : CallState) (staged : Staged) (plain : is_creation (update_of s.op) ≡ false) (made : is_creation staged.update ≡ true) where
+  not_own : {X : Type 0} → IsOwnStaged s staged → X
+  not_own own = let bad : true ≡ false = sym made ∙ ap is_creation own.update ∙ plain in absurd (cc bad)
+
+  resolves_by : (u : UpdateState) (phase : UpdatePhase) → IsOwnWhere s phase staged → let d = done_of R verbs.Commit k r words.Ok in commit_end (committing phase) a (last_having 0 d.complete (set_node d.node u.owned 0)) ≡ None
+  resolves_by u Staging own = not_own own
+  resolves_by u Committing own = not_own own
+  resolves_by u Claiming own = refl
+  resolves_by u Claimed own = refl
+  resolves_by u Withdrawing own = refl
+  resolves_by u Resolving own = refl
+
+  resolves : (x : Driver) → IsUpdate x → IsToCommit s x staged → let d = done_of R verbs.Commit k r words.Ok in done_end d a (driver_taken d x) ≡ None
+  resolves (drivers.Update u) is own = resolves_by u u.phase own
+  resolves x is own = absurd is
 
 -- a stage that was done ends no update
 stage_goes_on : (R : RecordState) (k r : Option ℕ) (a : Answer) (x : Driver) → IsUpdate x → None ≡ done_end (done_of R verbs.Stage k r words.Ok) a (driver_taken (done_of R verbs.Stage k r words.Ok) x)
@@ -103,10 +141,10 @@ stage_goes_on R k r a x is = absurd is
 -- a request that lends nothing of a table and pulls nothing is answered, with the parts of the step as the code names them
 module _ (w : World) (v : Who) (r : ℕ) (request : Request) (hand : InHand) (held : hand_at w.hands v ≡ Some hand) (next : IsNext w v (Serve r request)) (shown : IsShown w) (goes : GoesToReplica request) (p : Payload) (carries : Carries request p (payload_with hand (kept_by w.tables (client_by v)))) (valid : IsValidFor request (kept_by w.tables (client_by v))) (nodes : List (List Replica)) (word : OpWord) (word_is : word ≡ word_of_op hand.op) where
   pub named_is : (reply : Reply) (hands : HandsState) (end : Option Outcome) (details : Details) → MayReply (record_seen w.cluster (ckpt_of request) r) (node_at w.nodes r) request p reply → nodes ≡ nodes_after w.cluster w.nodes r request p reply →
-      tables_keeping request (client_by v) hand.op reply (its_iteration w v r request hand p reply) (tables_lending request (client_by v) hand.op w.tables) ≡ w.tables → end ≡ its_end w v r request hand p reply → hands ≡ set_at w.hands v (left end (hand_taken (served_done w.cluster request r reply) hand)) → its_copy w v r request hand p reply ≡ hand.snapshot →
+      tables_keeping request (client_by v) hand.op reply (its_iteration w v r request hand p reply) (tables_lending request (client_by v) hand.op w.tables) ≡ w.tables → end ≡ its_end w v r request hand p reply → hands ≡ set_at w.hands v (left end (hand_taken (served_done w.cluster request r reply) hand)) → its_copy w v r request hand p reply ≡ hand.snapshot → its_made w v r request hand p reply ≡ hand.made →
       details ≡ ended_details (its_end w v r request hand p reply) (its_details w v r request hand p reply) → IsStep v w (ended_at v end (record w { nodes = nodes; hands = hands })) (Stepped hand.call word (verb_of request) (Some (ckpt_of request)) (Some r) (word_of reply) end details)
-  named_is reply hands end details may nodes_are tables end_is hands_are copy details_are =
-      let then_hands = hands_are ∙ (λ i. set_at w.hands v (left (end_is i) (hand_taken (served_done w.cluster request r reply) (with_copy hand (sym copy i))))) in
+  named_is reply hands end details may nodes_are tables end_is hands_are copy made details_are =
+      let then_hands = hands_are ∙ (λ i. set_at w.hands v (left (end_is i) (hand_taken (served_done w.cluster request r reply) (with_made hand (sym copy i) (sym made i))))) in
       let new_is : ended_at v end (record w { nodes = nodes; hands = hands }) ≡ served_world w v r request hand p reply = λ i. ended_at v (end_is i) (record w { nodes = nodes_are i; tables = sym tables i; hands = then_hands i }) in
       subst (λ (z : World × OpWord × Option Outcome × Details). IsStep v w z.0 (Stepped hand.call z.1 (verb_of request) (Some (ckpt_of request)) (Some r) (word_of reply) z.2 z.3)) (λ i. (sym new_is i, sym word_is i, sym end_is i, sym details_are i))
       (answered_is w v r request hand held next shown goes p reply carries may valid)
@@ -140,7 +178,7 @@ module _ (w : World) (c : ℕ) (r : ℕ) (call : CallId) (k : ℕ) (t : ℤ) (ha
     told_so : (reply : Reply) (hands : HandsState) (end : Option Outcome) → reply_told answers.Nothing told ≡ reply → end ≡ its_end w (Actor (Client c)) r stage hand lent reply → hands ≡ set_at w.hands (Actor (Client c)) (left end (hand_taken (served_done w.cluster stage r reply) hand)) →
         IsStep (Actor (Client c)) w (record w { nodes = nodes; hands = hands }) (Stepped hand.call word verbs.Stage (Some k) (Some r) (word_of reply) end beside.Nothing)
     told_so reply hands end so end_is hands_are =
-        named_is w (Actor (Client c)) r stage hand held next shown tt lent update_is tt nodes word word_is reply hands end beside.Nothing (answered reply so) (nodes_are ∙ its_nodes w (Actor (Client c)) r stage hand held next shown tt lent reply) refl end_is hands_are (copy_kept stage (λ x s. refl) (replica_served (record_seen w.cluster k r) (node_at w.nodes r) k) hand.snapshot)
+        named_is w (Actor (Client c)) r stage hand held next shown tt lent update_is tt nodes word word_is reply hands end beside.Nothing (answered reply so) (nodes_are ∙ its_nodes w (Actor (Client c)) r stage hand held next shown tt lent reply) refl end_is hands_are (copy_kept stage (λ x s. refl) (replica_served (record_seen w.cluster k r) (node_at w.nodes r) k) hand.snapshot) refl
         (ended_none (its_end w (Actor (Client c)) r stage hand lent reply) (its_details w (Actor (Client c)) r stage hand lent reply) (nothing reply))
 
     -- it is staged
@@ -170,25 +208,52 @@ module _ (w : World) (c : ℕ) (r : ℕ) (call : CallId) (k : ℕ) (hand : InHan
   owns = subst (λ (o : Option Replica). IsSomeAnd o (λ x. IsOwnedBy call x.slot)) (sym (its_there w (Actor (Client c)) r commit hand held next shown tt)) (its_ready w (Actor (Client c)) r commit hand held next shown tt)
 
   module _ (plain : is_creation (update_of hand.op) ≡ false) (nodes : List (List Replica)) (nodes_are : nodes ≡ with_changed k r (λ x. committed x x.slot) w.nodes) (word : OpWord) (word_is : word ≡ word_of_op hand.op) where
-    -- so it tells no identifier
-    tells : (commit_answer its.slot ≡ answers.Nothing) × (slot_id its.sections its.slot ≡ beside.Nothing)
-    tells = by_slot (update_of hand.op) its.sections its.slot (its_own w (Actor (Client c)) r commit hand held next shown tt) plain
+    abbrev client : Who
+    client = Actor (Client c)
 
-    abbrev done : Reply
-    done = replies.Done answers.Nothing
+    abbrev h : History
+    h = shown.shows.history
 
-    done_by : done ≡ reply_at commit no_payload (record_seen w.cluster k r) (replica_served (record_seen w.cluster k r) (node_at w.nodes r) k)
-    done_by = sym (ap (reply_at commit no_payload (record_seen w.cluster k r)) (its_served w (Actor (Client c)) r commit hand held next shown tt) ∙ ap replies.Done tells.0)
+    abbrev d : StepDone
+    d = done_of w.cluster verbs.Commit (Some k) (Some r) words.Ok
 
-    none_told : beside.Nothing ≡ its_details w (Actor (Client c)) r commit hand no_payload done
-    none_told = sym (ap (details_at commit no_payload (record_seen w.cluster k r)) (its_served w (Actor (Client c)) r commit hand held next shown tt) ∙ tells.1)
+    done_by : (a : Answer) → commit_answer its.slot ≡ a → replies.Done a ≡ reply_at commit no_payload (record_seen w.cluster k r) (replica_served (record_seen w.cluster k r) (node_at w.nodes r) k)
+    done_by a is = sym (ap (reply_at commit no_payload (record_seen w.cluster k r)) (its_served w client r commit hand held next shown tt) ∙ ap replies.Done is)
 
-    -- it is committed; the call goes on while it has a slot
-    pub commit_is : (goes_on : Bool) (taken : InHand) (place : Option InHand) (label : Label) → (let d = done_of w.cluster verbs.Commit (Some k) (Some r) words.Ok in (taken ≡ hand_taken d hand) × (ended_unless goes_on ≡ hand_end d (replies.Done answers.Nothing) taken)) →
-        place ≡ left (ended_unless goes_on) taken → label ≡ Stepped hand.call word verbs.Commit (Some k) (Some r) words.Ok (ended_unless goes_on) beside.Nothing → IsStep (Actor (Client c)) w (record w { nodes = nodes; hands = set_at w.hands (Actor (Client c)) place }) label
-    commit_is goes_on taken place label (taken_is, end_is) place_is label_is =
-        let d = done_of w.cluster verbs.Commit (Some k) (Some r) words.Ok in
-        subst (IsStep (Actor (Client c)) w (record w { nodes = nodes; hands = set_at w.hands (Actor (Client c)) place })) (sym label_is)
-        (named_is w (Actor (Client c)) r commit hand held next shown tt no_payload tt tt nodes word word_is done (set_at w.hands (Actor (Client c)) place) (ended_unless goes_on) beside.Nothing done_by (nodes_are ∙ its_nodes w (Actor (Client c)) r commit hand held next shown tt no_payload done) refl
-        (end_is ∙ ap (hand_end d (replies.Done answers.Nothing)) taken_is) (ap (set_at w.hands (Actor (Client c))) (place_is ∙ ap (left (ended_unless goes_on)) taken_is)) (copy_kept commit (λ x s. refl) (replica_served (record_seen w.cluster k r) (node_at w.nodes r) k) hand.snapshot)
-        (ended_none (its_end w (Actor (Client c)) r commit hand no_payload done) (its_details w (Actor (Client c)) r commit hand no_payload done) none_told))
+    none_told : (reply : Reply) → commit_answer its.slot ≡ answers.Nothing → beside.Nothing ≡ its_details w client r commit hand no_payload reply
+    none_told reply is = sym (ap (details_at commit no_payload (record_seen w.cluster k r)) (its_served w client r commit hand held next shown tt) ∙ tells_none its.sections its.slot is)
+
+    -- where it makes a section it ends nothing
+    none_ends : IsUpdate hand.driver → commit_answer its.slot ≡ answers.Created → (a : Answer) → hand_end d (replies.Done a) (hand_taken d hand) ≡ None
+    none_ends update made a = by_slot its.slot made (its_staged w client r commit hand held next shown tt call k refl) where
+      by_slot : (p : Option Slot) → commit_answer p ≡ answers.Created → IsSomeAnd (shown_slot (h.origins k r) p) (IsToCommit (state_in h client hand) (driver_of (state_in h client hand))) → hand_end d (replies.Done a) (hand_taken d hand) ≡ None
+      by_slot None made there = absurd there
+      by_slot (Some slot) made there =
+          let staged : Staged = record { owner = slot.owner; origin = h.origins k r; update = slot.update; moment = slot.moment } in
+          resolves w.cluster (Some k) (Some r) a (state_in h client hand) staged plain (makes_section slot.update made) hand.driver update
+          (subst (λ x. IsToCommit (state_in h client hand) x staged) (sym (driver_is w h client hand held (known w shown).fits)) there)
+
+    -- it is committed, with this answer
+    committed_as : (a : Answer) → commit_answer its.slot ≡ a → served_done w.cluster commit r (replies.Done a) ≡ d → (goes_on : Bool) (taken : InHand) (place : Option InHand) (label : Label) → taken ≡ hand_taken d hand → ended_unless goes_on ≡ hand_end d (replies.Done a) taken →
+        beside.Nothing ≡ ended_details (its_end w client r commit hand no_payload (replies.Done a)) (its_details w client r commit hand no_payload (replies.Done a)) → place ≡ left (ended_unless goes_on) taken →
+        label ≡ Stepped hand.call word verbs.Commit (Some k) (Some r) words.Ok (ended_unless goes_on) beside.Nothing → IsStep client w (record w { nodes = nodes; hands = set_at w.hands client place }) label
+    committed_as a answer same goes_on taken place label taken_is end_is details_is place_is label_is =
+        subst (IsStep client w (record w { nodes = nodes; hands = set_at w.hands client place })) (sym label_is)
+        (named_is w client r commit hand held next shown tt no_payload tt tt nodes word word_is (replies.Done a) (set_at w.hands client place) (ended_unless goes_on) beside.Nothing (done_by a answer) (nodes_are ∙ its_nodes w client r commit hand held next shown tt no_payload (replies.Done a)) refl
+        (end_is ∙ ap (hand_end d (replies.Done a)) taken_is ∙ ap (λ e. hand_end e (replies.Done a) (hand_taken e hand)) (sym same))
+        (ap (set_at w.hands client) (place_is ∙ ap (left (ended_unless goes_on)) (taken_is ∙ ap (λ e. hand_taken e hand) (sym same))))
+        (copy_kept commit (λ x s. refl) (replica_served (record_seen w.cluster k r) (node_at w.nodes r) k) hand.snapshot)
+        (made_plain hand.op commit (replies.Done a) (its_details w client r commit hand no_payload (replies.Done a)) hand.made plain) details_is)
+
+    -- it is committed; the call goes on while it has a slot, and behind what it has claimed
+    pub commit_is : (goes_on : Bool) (taken : InHand) (place : Option InHand) (label : Label) → IsUpdate hand.driver → (taken ≡ hand_taken d hand) × (ended_unless goes_on ≡ hand_end d (replies.Done answers.Nothing) taken) →
+        place ≡ left (ended_unless goes_on) taken → label ≡ Stepped hand.call word verbs.Commit (Some k) (Some r) words.Ok (ended_unless goes_on) beside.Nothing → IsStep client w (record w { nodes = nodes; hands = set_at w.hands client place }) label
+    commit_is goes_on taken place label update (taken_is, end_is) place_is label_is = elim (answer_either its.slot) [
+      | inl nothing ↦
+          let reply : Reply = replies.Done answers.Nothing in
+          committed_as answers.Nothing nothing refl goes_on taken place label taken_is end_is (ended_none (its_end w client r commit hand no_payload reply) (its_details w client r commit hand no_payload reply) (none_told reply nothing)) place_is label_is
+      | inr made ↦
+          let none = none_ends update made in
+          let end : ended_unless goes_on ≡ hand_end d (replies.Done answers.Created) taken = end_is ∙ ap (hand_end d (replies.Done answers.Nothing)) taken_is ∙ none answers.Nothing ∙ sym (ap (hand_end d (replies.Done answers.Created)) taken_is ∙ none answers.Created) in
+          committed_as answers.Created made refl goes_on taken place label taken_is end (sym (ap (λ e. ended_details e (its_details w client r commit hand no_payload (replies.Done answers.Created))) (none answers.Created))) place_is label_is
+    ]

@@ -33,8 +33,10 @@ use Rattle.node_core.specs.Serving.{reply_at, replica_after}
 use Rattle.ckpt_machine.specs.Drivers.{Driver}
 use Rattle.ckpt_machine.specs.Drivers as drivers
 use Rattle.ckpt_machine.specs.Driving.{driver_next, driver_taken, driver_end}
-use Rattle.ckpt_machine.specs.Facts.{Facts, IsActive, IsReservable, IsServable}
-use Rattle.ckpt_machine.specs.Machine.{Machine, CallState}
+use Rattle.ckpt_machine.specs.Facts.{Facts, IsActive, IsReservable, IsServable, IsToCommit}
+use Rattle.ckpt_machine.specs.Machine.{Machine, CallState, ReplicaState}
+use Rattle.ckpt_machine.specs.Shown.{shown_slot}
+use Rattle.ckpt_types.specs.declared.identities.CallId.{CallId}
 use Rattle.ckpt_machine.specs.Due.{due, driver_of, ended_details}
 use Rattle.ckpt_machine.specs.Nodes.{node_at, nodes_after, replica_in, with_changed}
 use Rattle.client_calls.specs.Lending.{IsLentBy, IsValidFor, CanLend, CanKeep}
@@ -42,14 +44,15 @@ use Rattle.world_core.specs.TablesLending.{tables_lending}
 use Rattle.cluster_record.specs.Ends.{served_done}
 use Rattle.client_calls.specs.HandSteps.{hand_taken}
 use Rattle.world_core.specs.TablesState.{kept_by}
+use Rattle.world_core.specs.CommitLending.{IsLentAt}
 use Rattle.world_core.specs.Shows.{Does, IsShown, HasNumbersLeft, History, HistoryFits, machine_of}
 use Rattle.world_core.specs.Happenings.{rooms_at, IsNext, IsStep}
 use Rattle.world_core.proofs.CallSteps.{IsKnown, known, step_under}
-use Rattle.world_core.proofs.Carrying.{IsOfCall, lent_with, payload_with, has_lent}
+use Rattle.world_core.proofs.Carrying.{IsOfCall, lent_on, lent_with, payload_with, has_lent}
 use Rattle.ckpt_machine.proofs.Carried.{GoesToReplica, Carries, reserves_none}
 use Rattle.world_core.proofs.Finding.{IsReservationOr}
 use Rattle.world_core.proofs.Finding as finding
-use Rattle.world_core.proofs.Held.{state_in, in_hand_is, driver_is, next_for, with_copy}
+use Rattle.world_core.proofs.Held.{state_in, in_hand_is, driver_is, next_for, with_made}
 use Rattle.ckpt_machine.proofs.HoldingLaws.{replicas_served}
 use Rattle.world_core.proofs.IterationSteps.{TablesReady, HasIterationRoom, EndsIts, can_lend, can_keep}
 use Rattle.world_core.proofs.Maps.{hand_left}
@@ -58,7 +61,7 @@ use Rattle.world_core.proofs.Reserve.{reserve_does}
 use Rattle.world_core.specs.HandsState.{hand_at}
 use Rattle.client_calls.specs.Names.{client_by}
 use Rattle.ckpt_types.specs.declared.identities.Who.{Who}
-use Rattle.world_core.proofs.Serve.{its_copy, its_done, its_end, its_details, served_world, served_label, serve_does}
+use Rattle.world_core.proofs.Serve.{its_copy, its_done, its_end, its_details, served_world, served_label, serve_does, its_made}
 
 -- ---- a step that a node serves
 
@@ -156,8 +159,8 @@ module _ (w : World) (v : Who) (r : ℕ) (request : Request) (hand : InHand) (he
     -- THE STEP
     told_so : (p : Payload) (reply : Reply) → Does w (served_world w v r request hand p reply) (served_label w v r request hand p reply) → IsStep v w (served_world w v r request hand p reply) (served_label w v r request hand p reply)
     told_so p reply does =
-        step_under v w (served_world w v r request hand p reply) hand (hand_taken (its_done w v r request hand p reply) (with_copy hand (its_copy w v r request hand p reply))) (word_of_op hand.op) (verb_of request) (Some (ckpt_of request)) (Some r) (word_of reply) (its_end w v r request hand p reply) (ended_details (its_end w v r request hand p reply) (its_details w v r request hand p reply))
-        held refl refl (hand_left w.hands v hand (hand_taken (its_done w v r request hand p reply) (with_copy hand (its_copy w v r request hand p reply))) (its_end w v r request hand p reply) held refl) does
+        step_under v w (served_world w v r request hand p reply) hand (hand_taken (its_done w v r request hand p reply) (with_made hand (its_copy w v r request hand p reply) (its_made w v r request hand p reply))) (word_of_op hand.op) (verb_of request) (Some (ckpt_of request)) (Some r) (word_of reply) (its_end w v r request hand p reply) (ended_details (its_end w v r request hand p reply) (its_details w v r request hand p reply))
+        held refl refl (hand_left w.hands v hand (hand_taken (its_done w v r request hand p reply) (with_made hand (its_copy w v r request hand p reply) (its_made w v r request hand p reply))) (its_end w v r request hand p reply) held refl) does
 
     pub serve_is : (p : Payload) (reply : Reply) → Carries request p (payload_with hand kept) → MayReply (record_seen w.cluster (ckpt_of request) r) (node_at w.nodes r) request p reply → IsValidFor request kept → r < length w.nodes →
         IsStep v w (served_world w v r request hand p reply) (served_label w v r request hand p reply)
@@ -195,6 +198,12 @@ module _ (w : World) (v : Who) (r : ℕ) (request : Request) (hand : InHand) (he
           let f = finding.found w h v r request hand facts fitting held its_next to in
           finding.of_call w h v r hand facts fitting held request due_here (h.effects (ckpt_of request) r) (h.origins (ckpt_of request) r) f.replica f.entry f.at f.attributes (finding.shown w h v r request hand facts fitting held its_next to)
 
+      -- and what a commit finds staged there
+      pub its_staged : (call : CallId) (k : ℕ) → request ≡ requests.Commit call k → IsSomeAnd (shown_slot (h.origins (ckpt_of request) r) its_replica.slot) (IsToCommit s (driver_of s))
+      its_staged call k is =
+          subst (λ (y : Option ReplicaState). IsSomeAnd y (λ y. IsSomeAnd y.slot (IsToCommit s (driver_of s)))) (finding.shown w h v r request hand facts fitting held its_next to)
+          (subst (λ (q : Request). IsSomeAnd (m.replicas (ckpt_of q) r) (λ y. IsSomeAnd y.slot (IsToCommit s (driver_of s)))) (sym is) (facts.commits v s r call k (in_hand_is w h v hand held) (due_here ∙ ap (Serve r) is)))
+
       -- and a number left for an update
       pub its_room : HasNumbersLeft w → its_replica.count < 2 ^ 64 - 1
       its_room room = room.updates (ckpt_of request) r its_replica (finding.complete_is w h v r request hand facts fitting held its_next to)
@@ -204,13 +213,13 @@ module _ (w : World) (v : Who) (r : ℕ) (request : Request) (hand : InHand) (he
       answered_is p reply carries may valid = told_so p reply (serve_does w v r request hand p reply to held its_next carries may valid)
 
     -- the request may come, with what is lent
-    pub fits_lent : HasNumbersLeft w → (lent : Lent) → IsLentBy hand.op request lent → MayCome w.cluster (node_at w.nodes r) request (with_own lent)
-    fits_lent room lent is = fits_by request m r (node_at w.nodes r) (with_own lent) goes (finding.ready w h v r request hand facts fitting held its_next).1 to_replica where
+    pub fits_lent : HasNumbersLeft w → (lent : Lent) → IsLentBy hand.op request lent → IsLentAt w.nodes r request lent → MayCome w.cluster (node_at w.nodes r) request (with_own lent)
+    fits_lent room lent is at = fits_by request m r (node_at w.nodes r) (with_own lent) goes (finding.ready w h v r request hand facts fitting held its_next).1 to_replica where
       to_replica : GoesToReplica request → ReplicaMayBeAsked (is_complete (record_seen w.cluster (ckpt_of request) r)) request (with_own lent) (replica_in w.nodes (ckpt_of request) r)
       to_replica to =
           subst (λ (z : Bool × Option Replica). ReplicaMayBeAsked z.0 request (with_own lent) z.1)
           (λ i. (sym (finding.seen_complete w h v r request hand facts fitting held its_next to) i, sym (its_there to) i)) (record {
             ready = its_ready to;
             room = count_left request (its_replica to) (its_room to room);
-            beside = has_lent request hand kept lent (its_replica to) to is (its_own to);
+            beside = has_lent request hand kept lent (its_replica to) to is (lent_on w.nodes r request lent (its_replica to) (its_there to) at) (its_own to);
           })

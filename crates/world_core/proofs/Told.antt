@@ -24,8 +24,9 @@ use Rattle.world_core.specs.TablesState.{kept_by, pending_by}
 use Rattle.client_calls.specs.TableState.{kept_in, pending_in}
 use Rattle.world_core.proofs.TableFields.{calls_are}
 use Rattle.client_calls.specs.HandSteps.{hand_taken}
-use Rattle.world_core.specs.Shows.{HistoryFits, History, machine_of}
-use Rattle.world_core.proofs.Held.{state_in, with_copy, IsCopyBehind, left_shown, left_fits, hand_fits}
+use Rattle.ckpt_machine.specs.Driving.{driver_taken}
+use Rattle.world_core.specs.Shows.{HistoryFits, History, machine_of, KeepsMade}
+use Rattle.world_core.proofs.Held.{state_in, with_made, IsCopyBehind, left_shown, left_fits, hand_fits}
 use Rattle.world_core.specs.HandsState.{HandsState, hand_at, set_at}
 use Rattle.client_calls.specs.Names.{client_by, name_of}
 use Rattle.ckpt_types.specs.declared.identities.Who.{Who}
@@ -35,9 +36,9 @@ use Rattle.world_core.proofs.Maps.{HasUnder, hand_left, told_as, put_hand, fits_
 abbrev pub with_step : History → Who → StepDone → Option (List ℕ) → Option (List Effect) → History
 with_step h v done made pulled = told_as h v (h.beginnings v) (done ∷ h.steps v) made pulled
 
--- the world in which the call of a name is told of a step, which left this copy in its hand; where it has ended an asynchronous call, its client is to be told
-abbrev pub told_world : World → Who → InHand → Option copies.Snapshot → StepDone → Option Outcome → World
-told_world w v hand copy done end = ended_at v end (record w { hands = set_at w.hands v (left end (hand_taken done (with_copy hand copy))) })
+-- the world in which the call of a name is told of a step, which left this copy in its hand, and this of what a creation has made; where it has ended an asynchronous call, its client is to be told
+abbrev pub told_world : World → Who → InHand → Option copies.Snapshot → Option (List (List ℕ)) → StepDone → Option Outcome → World
+told_world w v hand copy kept done end = ended_at v end (record w { hands = set_at w.hands v (left end (hand_taken done (with_made hand copy kept))) })
 
 -- ---- what is told of an end
 
@@ -74,7 +75,7 @@ module _ (w : World) (h : History) (s : CallState) where
       ∙ calls_are w h c (ended_in call (handle_opened end (kept_by w.tables c)) end (pending_by w.tables c)) (table_ended call end) (λ t. record { next = refl; client = refl })
       (λ table. ap (λ o. ended_in call (handle_opened end (kept_in o)) end (pending_in o)) table) (λ t table. ap (λ o. ended_in call (handle_opened end (kept_in o)) end (pending_in o)) table)
 
-module _ (w : World) (h : History) (v : Who) (hand : InHand) (done : StepDone) (made : Option (List ℕ)) (shown : Option Snapshot) (pulled : Option (List Effect)) (copy : Option copies.Snapshot) (end : Option Outcome) (name : name_of hand ≡ v) (actor : hand.call.actor ≡ Client (client_by v)) (fits : HistoryFits w h) (held : hand_at w.hands v ≡ Some hand) (is : IsCopyBehind h v hand shown pulled copy) where
+module _ (w : World) (h : History) (v : Who) (hand : InHand) (done : StepDone) (made : Option (List ℕ)) (shown : Option Snapshot) (pulled : Option (List Effect)) (copy : Option copies.Snapshot) (kept : Option (List (List ℕ))) (end : Option Outcome) (name : name_of hand ≡ v) (actor : hand.call.actor ≡ Client (client_by v)) (fits : HistoryFits w h) (held : hand_at w.hands v ≡ Some hand) (is : IsCopyBehind h v hand shown pulled copy) where
   abbrev m : Machine
   m = machine_of w h
 
@@ -83,23 +84,23 @@ module _ (w : World) (h : History) (v : Who) (hand : InHand) (done : StepDone) (
   told = record (state_in h v hand) { steps = done ∷ h.steps v; created = made; snapshot = shown }
 
   abbrev hands_told : HandsState
-  hands_told = ended_hands v end (set_at w.hands v (left end (hand_taken done (with_copy hand copy))))
+  hands_told = ended_hands v end (set_at w.hands v (left end (hand_taken done (with_made hand copy kept))))
 
-  under : HasUnder w.hands v (left end (hand_taken done (with_copy hand copy))) hands_told
-  under = hand_left w.hands v hand (hand_taken done (with_copy hand copy)) end held refl
+  under : HasUnder w.hands v (left end (hand_taken done (with_made hand copy kept))) hands_told
+  under = hand_left w.hands v hand (hand_taken done (with_made hand copy kept)) end held refl
 
   in_hand_told : left_in_hand m told end ≡ machine_of (record w { hands = hands_told }) (with_step h v done made pulled)
   in_hand_told =
-      let hands = put_hand h w.hands hands_told v (left end (hand_taken done (with_copy hand copy))) under (h.beginnings v) (done ∷ h.steps v) made pulled in
-      (λ i. record m { in_hand = put_who m.in_hand (name i) (left_shown h v hand done made shown pulled copy end is.same i) })
+      let hands = put_hand h w.hands hands_told v (left end (hand_taken done (with_made hand copy kept))) under (h.beginnings v) (done ∷ h.steps v) made pulled in
+      (λ i. record m { in_hand = put_who m.in_hand (name i) (left_shown h v hand done made shown pulled copy kept end is.same i) })
       ∙ (λ i. record (machine_of (record w { hands = hands_told }) (with_step h v done made pulled)) { in_hand = λ u. hands u i })
 
-  pub told_is : stepped m told end ≡ machine_of (told_world w v hand copy done end) (with_step h v done made pulled)
+  pub told_is : stepped m told end ≡ machine_of (told_world w v hand copy kept done end) (with_step h v done made pulled)
   told_is = ap (with_pending hand.call.actor (ended_calls told end (m.tables hand.call.actor))) in_hand_told ∙ ended_is (record w { hands = hands_told }) (with_step h v done made pulled) told v end name actor
 
-  pub told_fits : HistoryFits (told_world w v hand copy done end) (with_step h v done made pulled)
-  told_fits = record {
+  pub told_fits : KeepsMade hand.op (driver_taken done hand.driver) made kept → HistoryFits (told_world w v hand copy kept done end) (with_step h v done made pulled)
+  told_fits keeps = record {
     replicas = fits.replicas;
     copies = fits.copies;
-    hands = fits_hand h w.hands hands_told v (left end (hand_taken done (with_copy hand copy))) under (h.beginnings v) (done ∷ h.steps v) pulled (left_fits h v hand done shown pulled copy end is (hand_fits w h v hand held fits)) fits.hands;
+    hands = fits_hand h w.hands hands_told v (left end (hand_taken done (with_made hand copy kept))) under (h.beginnings v) (done ∷ h.steps v) made pulled (left_fits h v hand done made shown pulled copy kept end is keeps (hand_fits w h v hand held fits)) fits.hands;
   }

@@ -64,13 +64,14 @@ next_begun w c number op h live due end client table built none may number_is ha
 }
 
 -- the call in hand
-pub hand_begun : (call : CallId) (op : Op) (kept : Kept) (hand : InHand) (iteration : Option KeptIds) (snapshot : Option Snapshot) → hand ≡ record hand { call = call; op = op; iteration = iteration; snapshot = snapshot } → iteration ≡ room_for (asked op) kept.room → snapshot ≡ copy_room_for (asked op) kept.declares
+pub hand_begun : (call : CallId) (op : Op) (kept : Kept) (hand : InHand) (iteration : Option KeptIds) (snapshot : Option Snapshot) → hand ≡ record hand { call = call; op = op; iteration = iteration; snapshot = snapshot; made = None } → iteration ≡ room_for (asked op) kept.room → snapshot ≡ copy_room_for (asked op) kept.declares
     → driver_start call (asked op) kept ≡ Some hand.driver → IsHandBegun call op kept hand
 hand_begun call op kept hand iteration snapshot is room copy driven = record {
   call_is = ap (λ (h : InHand). h.call) is;
   op_is = ap (λ (h : InHand). h.op) is;
   iteration = ap (λ (h : InHand). h.iteration) is ∙ room;
   snapshot = ap (λ (h : InHand). h.snapshot) is ∙ copy;
+  made = ap (λ (h : InHand). h.made) is;
   driven = driven;
 }
 

@@ -8,7 +8,7 @@ use Rattle.ckpt_machine.specs.Nodes.{nodes_left}
 use Rattle.client_calls.specs.Abandoning.{calls_left, place_left, table_left}
 use Rattle.client_calls.specs.TableState.{TableState}
 use Rattle.world_core.specs.Backgrounds.{backgrounds_left}
-use Rattle.world_core.specs.ByNumber.{each_by_number}
+use Rattle.ckpt_machine.specs.ByNumber.{each_by_number}
 use Rattle.world_core.specs.HandsState.{HandsState}
 use Rattle.world_core.specs.declared.world.World.{World}
 

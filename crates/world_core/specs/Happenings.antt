@@ -26,7 +26,6 @@ use Rattle.world_core.specs.declared.world.World.{World}
 use Rattle.cluster_record.specs.Calls.{left}
 use Rattle.cluster_record.specs.RecordState.{empty_record, is_up, IsMomentFrom}
 use Rattle.ckpt_machine.specs.Driving.{driver_next}
-use Rattle.ckpt_machine.specs.Entries.{AreApart}
 use Rattle.ckpt_types.specs.Asks.{IsBuilt}
 use Rattle.ckpt_machine.specs.Tables.{rooms_in}
 use Rattle.client_calls.specs.Names.{client_by}
@@ -136,7 +135,7 @@ ComesNow w (happenings.Show k) = Unit {0}
 ComesNow w (happenings.At t) = IsMomentFrom w.cluster.moment t
 ComesNow w (happenings.Pull k) = Unit {0}
 ComesNow w (happenings.Put k r) = r < nodes_max
-ComesNow w (happenings.Fail r) = (r < nodes_max) × AreApart w.cluster.entries
+ComesNow w (happenings.Fail r) = r < nodes_max
 ComesNow w event = ⊥
 
 -- what the event does, with the label that answers it

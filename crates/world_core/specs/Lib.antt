@@ -15,8 +15,8 @@ pub mod Alone
 pub mod Answering
 pub mod Runs
 pub mod StepsLeft
+pub mod CommitLending
 pub mod Happenings
 pub mod TablesState
 pub mod TablesLending
-pub mod ByNumber
 pub mod Failing

@@ -24,7 +24,6 @@ use Rattle.cluster_record.specs.RecordState.{empty_record, is_up, IsMomentFrom}
 use Rattle.call_dispatch.specs.PendingCalls.{no_pending}
 use Rattle.client_calls.specs.TableState.{next_in}
 use Rattle.world_core.specs.TablesState.{kept_by, pending_by}
-use Rattle.ckpt_machine.specs.Entries.{AreApart}
 use Rattle.ckpt_types.specs.Asks.{IsBuilt}
 use Rattle.ckpt_machine.specs.Machine.{no_tables}
 use Rattle.world_core.specs.HandsState.{hand_at}
@@ -66,7 +65,7 @@ MayBeStepped (whos.Actor (Client c)) = c < client_numbers
 MayBeStepped who = Unit {0}
 
 -- the events that may come: up to eight nodes first, then calls of clients that begin and are stepped in any order, moments, shows, pulls and puts, and
--- failures of nodes, where the updates of each checkpoint go to its active alone
+-- failures of nodes
 abbrev pub Comes : World → List Label → Event → Type 0
 Comes w log (happenings.Nodes n) = (0 < n) × (n ≤ nodes_max) × (log ≡ [])
 Comes w log (happenings.Begin a op) = IsScriptClient a × IsBuilt op
@@ -75,7 +74,7 @@ Comes w log (happenings.At t) = IsMomentFrom w.cluster.moment t
 Comes w log (happenings.Show k) = Unit {0}
 Comes w log (happenings.Pull k) = Unit {0}
 Comes w log (happenings.Put k r) = r < nodes_max
-Comes w log (happenings.Fail r) = (r < nodes_max) × AreApart w.cluster.entries
+Comes w log (happenings.Fail r) = r < nodes_max
 
 -- this call is in hand
 abbrev pub IsThere : CallId → Op → Option InHand → Type 0

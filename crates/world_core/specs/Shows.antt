@@ -1,5 +1,5 @@
 -- How the world shows the machine's state.
-use Rattle.std.specs.Prelude.{◌≡◌, ℕ, ◌-◌, ◌^◌, ◌<◌, List, Option, Some, None, slice_get, slice_index}
+use Rattle.std.specs.Prelude.{◌≡◌, ℕ, ◌-◌, ◌^◌, ◌<◌, List, Option, Some, None, true, slice_get, slice_index}
 use Rattle.ckpt_types.specs.declared.identities.ActorName.{ActorName}
 use Rattle.ckpt_types.specs.declared.identities.ActorName.TheVariants.{Client, Node}
 use Rattle.ckpt_types.specs.declared.identities.CallId.{CallId}
@@ -11,6 +11,12 @@ use Rattle.client_handles.specs.ClientState.{ClientState}
 use Rattle.client_calls.specs.declared.in_hand.InHand.{InHand}
 use Rattle.cluster_record.specs.declared.entries.Entry.{Entry}
 use Rattle.ckpt_machine.specs.Drivers.{Driver}
+use Rattle.ckpt_machine.specs.Drivers as drivers
+use Rattle.cluster_record.specs.declared.calls.UpdatePhase.TheVariants.{Committing}
+use Rattle.ckpt_types.specs.declared.operation.Op.{Op}
+use Rattle.node_core.specs.Serving.{id_told}
+use Rattle.client_calls.specs.MadeIds.{made_told}
+use Rattle.client_calls.specs.UpdateSteps.{is_creation}
 use Rattle.replica.specs.Replicas.{Replica}
 use Rattle.world_core.specs.declared.world.World.{World}
 use Rattle.cluster_record.specs.RecordState.{RecordState, entry_of}
@@ -23,7 +29,7 @@ use Rattle.world_core.specs.LiveRooms.{LiveHaveRoom}
 use Rattle.cluster_record.specs.StepDone.{StepDone}
 use Rattle.ckpt_machine.specs.Driving.{Kept, driver_state}
 use Rattle.ckpt_machine.specs.Facts.{Facts}
-use Rattle.ckpt_types.specs.Asks.{asked}
+use Rattle.ckpt_types.specs.Asks.{asked, update_of}
 use Rattle.client_calls.specs.HandRooms.{room_for}
 use Rattle.ckpt_machine.specs.Machine.{Machine, Effect, CallState, no_tables}
 use Rattle.ckpt_machine.specs.Machine as snapshots
@@ -109,23 +115,33 @@ machine_of w h = record {
   in_hand = hand_of h w.hands;
 }
 
+-- what drives the call has committed the call's own update
+abbrev pub HasCommitted : Driver → Type 0
+HasCommitted (drivers.Update u) = u.phase ≡ Committing
+HasCommitted driver = ⊥
+
+-- a creation that has committed keeps the identifier that its commits have made
+abbrev pub KeepsMade : Op → Driver → Option (List ℕ) → Option (List (List ℕ)) → Type 0
+KeepsMade op x created made = HasCommitted x → is_creation (update_of op) ≡ true → made_told made ≡ id_told created
+
 -- a call is where its steps have led it, and has the room that it took
-pub record IsWhereLed (began : Beginning) (steps : List StepDone) (pulled : Option (List Effect)) (h : InHand) : Type 0 where
+pub record IsWhereLed (began : Beginning) (steps : List StepDone) (created : Option (List ℕ)) (pulled : Option (List Effect)) (h : InHand) : Type 0 where
   pub driver : h.driver ≡ driver_state began.driver steps
   pub iteration : h.iteration ≡ room_for (asked h.op) began.kept.room
   pub room : IsRoomToCopy (asked h.op) began.kept.declares h.snapshot
   pub copy : FitsCopy pulled h.snapshot
+  pub made : KeepsMade h.op h.driver created h.made
 
 -- so it is where one is in hand
-abbrev pub FitsHand : Beginning → List StepDone → Option (List Effect) → Option InHand → Type 0
-FitsHand began steps pulled None = Unit {0}
-FitsHand began steps pulled (Some h) = IsWhereLed began steps pulled h
+abbrev pub FitsHand : Beginning → List StepDone → Option (List ℕ) → Option (List Effect) → Option InHand → Type 0
+FitsHand began steps created pulled None = Unit {0}
+FitsHand began steps created pulled (Some h) = IsWhereLed began steps created pulled h
 
 -- the history fits the world: replicas and snapshots have as many effects as they count, and calls are where their steps have led them
 pub record HistoryFits (w : World) (h : History) : Type 0 where
   pub replicas : (k r : ℕ) → FitsReplica k (entry_of k w.cluster.entries) (h.effects k r) (complete_replica w.cluster w.nodes k r)
   pub copies : (k : ℕ) → FitsSnapshot (h.copied k) (pulled_in w.snapshots k)
-  pub hands : (v : Who) → FitsHand (h.beginnings v) (h.steps v) (h.pulled v) (hand_at w.hands v)
+  pub hands : (v : Who) → FitsHand (h.beginnings v) (h.steps v) (h.created v) (h.pulled v) (hand_at w.hands v)
 
 -- the machine's state is the world's, with some history that fits; the nodes have no other replicas, and the checkpoints have the room for their
 -- snapshots, and the live clients theirs

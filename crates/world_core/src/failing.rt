@@ -2,7 +2,6 @@
 ghost use Rattle.std.specs.Prelude.{◌≡◌, ◌<◌, ◌≤◌, true};
 ghost use Rattle.ckpt_types.specs.Limits.{nodes_max};
 ghost use Rattle.cluster_record.specs.RecordState.{is_up};
-ghost use Rattle.ckpt_machine.specs.Entries.{AreApart};
 ghost use Rattle.world_core.specs.Failing.{failed_world};
 ghost use Rattle.world_core.specs.Happenings.{Adds, Fails};
 ghost use Rattle.world_core.specs.Shows.{IsShown, HasNumbersLeft};
@@ -16,7 +15,6 @@ impl World {
     /// A node fails, where it is up: its clients go with it, and its replicas. It takes no memory.
     pub(crate) fn fail(&mut self, r: NodeId, log: &mut RunLog)
         requires node { r < nodes_max }
-        requires apart { AreApart self.old.cluster.entries }
         requires shown { IsShown self.old }
         requires roomy { HasNumbersLeft self.old }
         requires spare { 1 ≤ log.old.spare }

@@ -10,7 +10,7 @@ ghost use Rattle.cluster_record.specs.Places.{or_none};
 ghost use Rattle.ckpt_machine.specs.After.{goes_with};
 ghost use Rattle.client_calls.specs.Abandoning.{calls_left, place_left};
 ghost use Rattle.cluster_record.specs.Failing.{goes_with_node};
-ghost use Rattle.world_core.specs.ByNumber.{each_by_number};
+ghost use Rattle.ckpt_machine.specs.ByNumber.{each_by_number};
 ghost use Rattle.world_core.specs.Failing.{hands_left};
 ghost use Rattle.world_core.specs.HandsState.{alone_in, hand_at, with_alone, without_all, without_call, without_those, HasAlone};
 ghost use Rattle.client_calls.specs.AlonePlaces.{found_alone};

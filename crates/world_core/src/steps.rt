@@ -1,5 +1,5 @@
 //! The event by which a call takes its next step.
-ghost use Rattle.std.specs.Prelude.{◌≡◌, ◌≢◌, ◌⊎◌, ◌<◌, ◌≤◌, Some, None, true, OnOk, OnErr, slice_get};
+ghost use Rattle.std.specs.Prelude.{◌≡◌, ◌≢◌, ◌⊎◌, ◌<◌, ◌≤◌, Some, None, true, IfOk, OnOk, OnErr, slice_get};
 ghost use Rattle.ckpt_types.specs.declared.identities.ActorName.TheVariants.{Client};
 ghost use Rattle.ckpt_types.specs.declared.identities.Who.TheVariants as whos;
 ghost use Rattle.node_msgs.specs.declared.next.Next.TheVariants as nexts;
@@ -19,19 +19,23 @@ ghost use Rattle.world_core.specs.HandsState.{hand_at, without_those};
 ghost use Rattle.world_core.specs.Shows.{IsShown, HasNumbersLeft};
 ghost use Rattle.world_core.specs.Happenings.{Adds, IsNext, IsStep, IsIdle};
 ghost use Rattle.ckpt_types.specs.declared.identities.CallId.{CallId};
-ghost use Rattle.ckpt_types.specs.Limits.{client_numbers};
+ghost use Rattle.ckpt_types.specs.Limits.{client_numbers, nodes_max};
+ghost use Rattle.client_calls.specs.Lending.{IsLentBy};
+ghost use Rattle.world_core.specs.CommitLending.{IsLentAt};
 
 use crate::applying::apply;
 use crate::gone::gone_by;
 use crate::hands::Hands;
 use crate::world::World;
-use ckpt_types::{ActorName, CallId, CkptId, NodeId, Outcome, Who};
+use ckpt_types::{ActorName, CallId, CkptId, NodeId, Op, Outcome, Who};
 use client_calls::{
-    DriverKind, Table, clear, client_by, elements_in, event_ckpt, event_granted, event_node,
-    hand_over, idle_label, keep_iteration, lend_iteration, lent_by, let_go, look_word,
-    refusal_word, reserve_for, served, settle, settle_look, stepped, told_details, told_read,
+    DriverKind, Table, clear, client_by, commit_lent, elements_in, event_ckpt, event_granted,
+    event_node, hand_over, idle_label, keep_iteration, lend_iteration, lent_by, let_go, look_word,
+    looked, refusal_word, reserve_for, served, settle, settle_look, stepped, told_read,
 };
-use node_msgs::{Next, RecordStep, Reply, Request, StepReply, Verb};
+use cluster_nodes::Nodes;
+use node_core::Lent;
+use node_msgs::{Next, RecordStep, Reply, Request, StepReply};
 use run_labels::RunLog;
 use std::alloc::{AllocError, Global};
 
@@ -179,7 +183,7 @@ impl World {
         let call = hand.call;
         let op = hand.word();
         let c = client_by(who);
-        let mut lent = lent_by(alloc, &hand.op, request)?;
+        let mut lent = lend(alloc, &hand.op, request, &self.nodes, r)?;
         lent.iteration = lend_iteration(self.tables.at(c), hand, request);
         hand_over(&mut hand.snapshot, &mut lent.snap);
         let reply = self
@@ -194,9 +198,9 @@ impl World {
         );
         hand_over(&mut lent.snap, &mut hand.snapshot);
         let end = hand.take(&self.cluster, &reply);
+        let details = hand.tell(request, &reply, &end, lent);
         let_go(slot, &end);
         self.end_alone(who, &end);
-        let details = told_details(&end, &reply, lent);
         log.push(served(call, op, request, r, &reply, end, details));
         Ok(())
     }
@@ -292,8 +296,8 @@ impl World {
     }
 
     /// The record alone decides how the call ends; what it is making is undone.
-    pub(crate) fn look_step(&mut self, who: Who, end: Outcome, log: &mut RunLog)
-        requires next { IsNext self.old who (nexts.End end) }
+    pub(crate) fn look_step(&mut self, who: Who, due: Outcome, log: &mut RunLog)
+        requires next { IsNext self.old who (nexts.End due) }
         requires client { IsClientName who }
         requires shown { IsShown self.old }
         requires spare { 1 ≤ log.old.spare }
@@ -303,6 +307,7 @@ impl World {
         let Some(hand) = slot else { unreachable!() };
         let call = hand.call;
         let op = hand.word();
+        let (end, details) = hand.look(due);
         let reply = look_word(&end);
         let making = hand.driver.making();
         let c = client_by(who);
@@ -312,9 +317,8 @@ impl World {
         clear(slot);
         self.let_go_with_look(c, &end, closed);
         self.unmake(making);
-        let end = Some(end);
-        self.end_alone(who, &end);
-        log.push(stepped(call, op, Verb::Look, None, None, reply, end));
+        self.end_alone(who, &Some(end));
+        log.push(looked(call, op, reply, end, details));
     }
 
     // An asynchronous call that has ended is in hand no more, and its client is to be told.
@@ -381,6 +385,28 @@ impl World {
             self.cluster.sweep();
             self.free_gone();
         }
+    }
+}
+
+// What a call of this operation lends to a request at a node, an iteration aside.
+fn lend(
+    alloc: Global,
+    op: &Op,
+    request: &Request,
+    nodes: &Nodes,
+    r: NodeId,
+) -> Result<Lent, AllocError>
+    requires { r < nodes_max }
+    ensures lent { IfOk result (IsLentBy op.now request.now) }
+    ensures there { IfOk result (IsLentAt nodes.now r request.now) }
+    ensures iteration { IfOk result (λ lent. lent.iteration ≡ None) }
+{
+    let Request::Commit(_, ckpt) = request else {
+        return lent_by(alloc, op, request);
+    };
+    match nodes.find(r, *ckpt) {
+        None => Ok(Lent::nothing()),
+        Some(replica) => commit_lent(alloc, replica.slot()),
     }
 }
 

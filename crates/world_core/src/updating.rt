@@ -32,7 +32,8 @@ use run_labels::RunLog;
 use std::alloc::{AllocError, Global};
 
 impl World {
-    /// An update stages at a node or commits there, or the record alone decides how it ends.
+    /// An update stages at a node or commits there, or claims or withdraws what a call has left there that is gone, or the
+    /// record alone decides how it ends.
     #[inline(always)]
     pub(crate) fn update_step(
         &mut self,
@@ -62,7 +63,10 @@ impl World {
                 self.look_step(Who::Actor(ActorName::Client(c)), end, log);
                 Ok(())
             }
-            _ => unreachable!(),
+            Next::Serve(r, request) => {
+                self.serve_step(alloc, Who::Actor(ActorName::Client(c)), r, &request, log)
+            }
+            Next::Event(_) => unreachable!(),
         }
     }
 

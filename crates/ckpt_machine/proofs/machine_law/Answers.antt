@@ -1,15 +1,14 @@
 use Rattle.ckpt_machine.proofs.Counting.{counts_empty, counts_up}
 use Rattle.ckpt_machine.proofs.Endings.{ends_as_it_may}
 use Rattle.ckpt_machine.proofs.Facts.{facts}
-use Rattle.ckpt_machine.proofs.FailureApart.{failures_keep_apart}
 use Rattle.ckpt_machine.proofs.FailureLaw.{failures_keep}
 use Rattle.ckpt_machine.proofs.FewSteps.{steps_are_few}
 use Rattle.ckpt_machine.proofs.Lawful.{lawful}
 use Rattle.ckpt_machine.proofs.Nearer.{step_nearer}
-use Rattle.ckpt_machine.proofs.OpensApart.{stays_apart}
 use Rattle.ckpt_machine.proofs.Promises.{promises_kept}
 use Rattle.ckpt_machine.proofs.Refusing.{refusal_leaves}
 use Rattle.ckpt_machine.proofs.RunLaws.{run_has}
+use Rattle.ckpt_machine.proofs.SixFacts.{six_facts}
 use Rattle.ckpt_machine.proofs.Start.{invariant_empty}
 use Rattle.ckpt_machine.proofs.machine_law.Goals as goal
 
@@ -24,6 +23,9 @@ returns-clause-runs c = run_has
 
 pub returns-clause-facts : goal.returns-clause-facts
 returns-clause-facts c = facts
+
+pub returns-clause-slots : goal.returns-clause-slots
+returns-clause-slots c = six_facts
 
 pub returns-clause-counts : goal.returns-clause-counts
 returns-clause-counts c = counts_up
@@ -42,12 +44,6 @@ returns-clause-ends c = ends_as_it_may
 
 pub returns-clause-failures : goal.returns-clause-failures
 returns-clause-failures c = failures_keep
-
-pub returns-clause-failures_apart : goal.returns-clause-failures_apart
-returns-clause-failures_apart c = failures_keep_apart
-
-pub returns-clause-apart : goal.returns-clause-apart
-returns-clause-apart c = stays_apart
 
 pub returns-clause-promises : goal.returns-clause-promises
 returns-clause-promises c = promises_kept

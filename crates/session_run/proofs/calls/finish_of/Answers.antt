@@ -1,6 +1,7 @@
 use Rattle.std.proofs.Common.{◌≤◌, true, sym, ◌∙◌, arith}
 use Rattle.world_core.specs.HandsState.{hand_at}
 use Rattle.world_core.specs.StepsLeft.{left_of}
+use Rattle.world_core.proofs.MostLeft.{few_of_any}
 use Rattle.session_run.proofs.Following.{are_finishing, idle_alone, none_if_not, OnOk-map, GrowsBy-map}
 use Rattle.session_run.proofs.Fronts.{towards_idle, towards_map, fault_leaves}
 use Rattle.session_run.proofs.calls.finish_of.Goals as goal
@@ -21,12 +22,12 @@ returns-then-not-in_hand-clause-front g c =
 
 pub finish-requires-clause-room : goal.finish-requires-clause-room
 finish-requires-clause-room g c =
-    let few : left_of (g.W.Cluster.shown c.args.world.now) c.args.who ≤ 66 = c.world_law.ensures.few (g.W.Cluster.shown c.args.world.now) c.args.log.now.labels c.args.who c.requires.run in
+    let few : left_of (g.W.Cluster.shown c.args.world.now) c.args.who ≤ 66 = few_of_any c.world_law.ensures.few (g.W.Cluster.shown c.args.world.now) c.args.log.now.labels c.args.who c.requires.run in
     omega (arith, few, c.requires.room)
 
 pub returns-clause-few : goal.returns-clause-few
 returns-clause-few g c =
-    let few : left_of (g.W.Cluster.shown c.args.world.now) c.args.who ≤ 66 = c.world_law.ensures.few (g.W.Cluster.shown c.args.world.now) c.args.log.now.labels c.args.who c.requires.run in
+    let few : left_of (g.W.Cluster.shown c.args.world.now) c.args.who ≤ 66 = few_of_any c.world_law.ensures.few (g.W.Cluster.shown c.args.world.now) c.args.log.now.labels c.args.who c.requires.run in
     omega (arith, few, c.finish.ensures.few)
 
 pub returns-clause-answers : goal.returns-clause-answers

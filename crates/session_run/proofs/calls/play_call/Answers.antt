@@ -3,6 +3,7 @@ use Rattle.ckpt_types.specs.declared.identities.ActorName.TheVariants.{Client}
 use Rattle.ckpt_types.specs.declared.identities.Who.TheVariants.{Actor}
 use Rattle.ckpt_machine.specs.Runs.{last}
 use Rattle.world_core.specs.HandsState.{hand_at}
+use Rattle.world_core.proofs.MostLeft.{few_of_any}
 use Rattle.session_run.proofs.Following.{begin_grows, busy_alone, GrowsBy-begin, OnOk-map, none_if_not}
 use Rattle.session_run.proofs.Fronts.{towards_begin, towards_begun, towards_one, could_begin, could_begin-whole}
 use Rattle.session_run.proofs.calls.play_call.Goals as goal
@@ -28,14 +29,14 @@ pub finish-requires-clause-room : goal.finish-requires-clause-room
 finish-requires-clause-room g c =
     let h = c.in_ok-begin.ensures.happens in
     let longer : length c.begin-2.new.log.labels ≡ length c.args.log.now.labels + 1 = ap length h.grows ∙ length-append c.args.log.now.labels (h.label ∷ []) in
-    let few = c.world_law.ensures.few (g.W.Cluster.shown c.begin-2.new.world) c.begin-2.new.log.labels (Actor (Client c.args.client)) c.begin-2.ensures.run in
+    let few = few_of_any c.world_law.ensures.few (g.W.Cluster.shown c.begin-2.new.world) c.begin-2.new.log.labels (Actor (Client c.args.client)) c.begin-2.ensures.run in
     omega (arith, c.requires.room, few)
 
 pub returns-clause-few : goal.returns-clause-few
 returns-clause-few g c =
     let h = c.in_ok-begin.ensures.happens in
     let longer : length c.begin-2.new.log.labels ≡ length c.args.log.now.labels + 1 = ap length h.grows ∙ length-append c.args.log.now.labels (h.label ∷ []) in
-    let few = c.world_law.ensures.few (g.W.Cluster.shown c.begin-2.new.world) c.begin-2.new.log.labels (Actor (Client c.args.client)) c.begin-2.ensures.run in
+    let few = few_of_any c.world_law.ensures.few (g.W.Cluster.shown c.begin-2.new.world) c.begin-2.new.log.labels (Actor (Client c.args.client)) c.begin-2.ensures.run in
     omega (arith, c.finish.ensures.few, few)
 
 pub returns-clause-answers : goal.returns-clause-answers

@@ -5,8 +5,6 @@ use Rattle.cluster_record.specs.RecordState.{RecordState}
 use Rattle.ckpt_machine.specs.Runs.{last}
 use Rattle.world_core.specs.Runs.{IsRunTo}
 use Rattle.session_run.specs.Follows.{FollowsFrom, Follows}
-use Rattle.ckpt_machine.specs.OpensApart.{AllBeginApart}
-use Rattle.session_run.proofs.Apart.{apart_behind, apart_at_failure}
 use Rattle.session_run.proofs.Following.{follows_line, follows_end, drop_item}
 use Rattle.session_run.specs.Growing.{AreLeft}
 use Rattle.session_run.proofs.Playable.{CanPlay-next, AreLeft-next}
@@ -17,10 +15,9 @@ pub loop-line-init : goal.loop-line-init
 loop-line-init g c = record {
   run = subst (IsRunTo (g.W.Cluster.shown c.args.world.now)) (sym c.requires.log) (c.world_law.ensures.begins (g.W.Cluster.shown c.args.world.now) c.requires.world);
   few = omega (arith, ap length c.requires.log);
-  form = c.requires.form.0;
+  form = c.requires.form;
   start = λ e. ap (λ (R : RecordState). R.moment) c.requires.world.cluster;
   first = λ e. c.requires.log;
-  apart = λ none. subst AllBeginApart (sym c.requires.log) tt;
   follows = λ more. subst (λ (xs : List Label). FollowsFrom (last xs) c.args.lines.now more → Follows c.args.lines.now (xs ++ more)) (sym c.requires.log) (λ f. f);
 }
 
@@ -30,7 +27,6 @@ play_line-requires-clause-comes g c =
     let next = drop_item c.args.lines.now i c.line-item.result c.loop-line-test.true c.line-item.is in
     let left = subst (AreLeft i (g.W.Cluster.shown c.loop-line.world).cluster.moment) next c.loop-line.invariant.form in
     CanPlay-next i (g.W.Cluster.shown c.loop-line.world).cluster.moment c.line-item.result (drop (i + 1) c.args.lines.now) c.loop-line.log.labels left c.loop-line.invariant.first
-    (λ fails. c.machine_law.ensures.apart c.loop-line.log.labels c.loop-line.invariant.run.run (apart_at_failure c.args.lines.now i c.line-item.result (drop (i + 1) c.args.lines.now) c.loop-line.log.labels next c.requires.form.1 c.loop-line.invariant.apart fails))
 
 pub play_line-requires-clause-room : goal.play_line-requires-clause-room
 play_line-requires-clause-room g c = omega (arith, c.loop-line.invariant.few, c.loop-line-test.true, c.requires.lines)
@@ -47,7 +43,6 @@ loop-line-preserved g c =
       form = AreLeft-next i (g.W.Cluster.shown c.loop-line.world).cluster.moment (g.W.Cluster.shown c.play_line.new.world).cluster.moment c.line-item.result (drop (i + 1) c.args.lines.now) left c.loop-line.invariant.start done.moment;
       start = λ e. absurd (omega (arith, e));
       first = λ e. absurd (omega (arith, e));
-      apart = apart_behind c.args.lines.now i c.line-item.result (drop (i + 1) c.args.lines.now) (last c.loop-line.log.labels) c.loop-line.log.labels c.play_line.new.log.labels next done.answers c.loop-line.invariant.apart;
       follows = follows_line c.args.lines.now (drop i c.args.lines.now) c.line-item.result (drop (i + 1) c.args.lines.now) c.loop-line.log.labels c.play_line.new.log.labels next done.answers c.play_line.ensures.few c.loop-line.invariant.follows;
     }
 

@@ -1,10 +1,6 @@
 use Rattle.std.proofs.Common.{◌≡◌, ◌*◌, ◌≤◌, List, [], ◌++◌, length, drop, pos}
 use Rattle.ckpt_types.specs.Limits.{built_line_labels}
 use Rattle.run_labels.specs.declared.labels.Label.{Label}
-use Rattle.std.specs.List.{list_any}
-use Rattle.std.specs.Prelude.{false}
-use Rattle.script_lang.specs.Grammar.{opens_all}
-use Rattle.ckpt_machine.specs.OpensApart.{AllBeginApart}
 use Rattle.ckpt_machine.specs.Runs.{last}
 use Rattle.world_core.specs.Runs.{IsRunTo}
 use Rattle.session_run.specs.Follows.{FollowsFrom, Follows}
@@ -18,6 +14,5 @@ invariant-loop-line g l = record {
   form : AreLeft l.line-index (g.W.Cluster.shown l.world).cluster.moment (drop l.line-index l.lines);
   start : l.line-index ≡ 0 → (g.W.Cluster.shown l.world).cluster.moment ≡ pos 0;
   first : l.line-index ≡ 0 → l.log.labels ≡ [];
-  apart : list_any opens_all l.lines ≡ false → AllBeginApart l.log.labels;
   follows : (more : List Label) → FollowsFrom (last l.log.labels) (drop l.line-index l.lines) more → Follows l.lines (l.log.labels ++ more);
 }

@@ -1,4 +1,4 @@
-use Rattle.std.proofs.Common.{◌<◌, arith, rules, w64, ◌++◌, [], ◌∷◌, refl, sym, ap, subst, ◌∙◌}
+use Rattle.std.proofs.Common.{rules, w64, ◌++◌, [], ◌∷◌, refl, sym, ap, subst, ◌∙◌}
 use Rattle.std.proofs.lemmas.Int.{to_z-of_z}
 use Rattle.std.specs.Int.RustNames.{FitsSigned}
 use Rattle.std.specs.Prelude.{None}
@@ -11,9 +11,7 @@ use Rattle.cluster_record.specs.RecordState.{is_up}
 use Rattle.ckpt_machine.specs.Machine.{Machine}
 use Rattle.ckpt_machine.specs.Runs.{last}
 use Rattle.session_run.specs.Follows.{AnswersLine}
-use Rattle.ckpt_types.specs.Limits.{nodes_max}
-use Rattle.ckpt_machine.specs.Entries.{AreApart}
-use Rattle.session_run.specs.Growing.{CanPlay, GrowsTowards}
+use Rattle.session_run.specs.Growing.{GrowsTowards}
 use Rattle.session_run.proofs.Following.{OnOk-map, listing_alone}
 use Rattle.session_run.proofs.Putting.{pull_alone, put_before}
 use Rattle.session_run.proofs.Fronts.{towards_label, towards_begun, fault_leaves}
@@ -40,17 +38,6 @@ returns-in-At-clause-front g c =
     let grows = OnOk-map c.event-in-At.result c.event-in-At.ensures.happens (λ h. h.grows ∙ ap (λ (l : Label). old ++ l ∷ []) h.answers.0) in
     subst (λ (line : Line). GrowsTowards old c.event-in-At.new.log.labels (AnswersLine (last old) line)) (sym c.in-At.is)
     (towards_label _ c.event-in-At.result old c.event-in-At.new.log.labels label refl (simp to_z-of_z at grows) c.event-in-At.ensures.err)
-
-pub event-requires-in-Fail : goal.event-requires-in-Fail
-event-requires-in-Fail g c =
-    let w = g.W.Cluster.shown c.args.world.now in
-    let old = c.args.log.now.labels in
-    let may : (c.in-Fail.node < nodes_max) × AreApart (last old).cluster.entries = subst (CanPlay w.cluster.moment old) c.in-Fail.is c.requires.comes in
-    record {
-      run = c.requires.run;
-      few = omega (arith, c.requires.room);
-      comes = (may.0, subst (λ (m : Machine). AreApart m.cluster.entries) c.requires.run.shows.same may.1);
-    }
 
 pub returns-in-Fail-clause-front : goal.returns-in-Fail-clause-front
 returns-in-Fail-clause-front g c =

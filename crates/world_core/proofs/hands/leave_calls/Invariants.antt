@@ -1,7 +1,7 @@
 use Rattle.std.proofs.Common.{◌≡◌, length}
 use Rattle.client_calls.specs.Abandoning.{calls_left}
 use Rattle.cluster_record.specs.Failing.{goes_with_node}
-use Rattle.world_core.specs.ByNumber.{each_by_number}
+use Rattle.ckpt_machine.specs.ByNumber.{each_by_number}
 use Rattle.world_core.proofs.ByNumber.{left_from}
 use Rattle.world_core.proofs.hands.leave_calls.Given as goal
 

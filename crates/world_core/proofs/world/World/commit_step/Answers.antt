@@ -52,7 +52,7 @@ returns-then-committed-clause-ok c =
       label = _;
       labels = c.push.ensures.labels;
       is = commit_is c.args.self.now c.args.c c.args.r c.args.asked c.args.ckpt c.in-Some.hand (c.at_client-slot.ensures.value ∙ c.in-Some.is) c.requires.next c.requires.shown (sym c.creates.ensures ∙ c.if-creates.false) (with_changed c.args.ckpt c.args.r (λ z. c.commit.new.self) c.args.self.now.nodes) (left_as c.args.self.now.nodes c.args.ckpt c.args.r c.at.result.now c.at.ensures.value (λ x. committed x x.slot) c.commit.new.self c.commit.ensures) c.word-op.result c.word-op.ensures
-          c.committed.result c.committed.new.self (Some c.committed.new.self) _ (c.committed.ensures.new, c.committed.ensures.end) (ap (λ (b : Bool). left (ended_unless b) c.committed.new.self) (sym c.if-committed.true))
+          c.committed.result c.committed.new.self (Some c.committed.new.self) _ (c.requires.update c.in-Some.hand (c.at_client-slot.ensures.value ∙ c.in-Some.is)) (c.committed.ensures.new, c.committed.ensures.end) (ap (λ (b : Bool). left (ended_unless b) c.committed.new.self) (sym c.if-committed.true))
           (c.goes_on.ensures ∙ ap (λ (b : Bool). Stepped c.in-Some.hand.call c.word-op.result verbs.Commit (Some c.args.ckpt) (Some c.args.r) words.Ok (ended_unless b) beside.Nothing) (sym c.if-committed.true));
     }
 
@@ -62,6 +62,6 @@ returns-else-committed-clause-ok c =
       label = _;
       labels = c.push-else-committed.ensures.labels;
       is = commit_is c.args.self.now c.args.c c.args.r c.args.asked c.args.ckpt c.in-Some.hand (c.at_client-slot.ensures.value ∙ c.in-Some.is) c.requires.next c.requires.shown (sym c.creates.ensures ∙ c.if-creates.false) (with_changed c.args.ckpt c.args.r (λ z. c.commit.new.self) c.args.self.now.nodes) (left_as c.args.self.now.nodes c.args.ckpt c.args.r c.at.result.now c.at.ensures.value (λ x. committed x x.slot) c.commit.new.self c.commit.ensures) c.word-op.result c.word-op.ensures
-          c.committed.result c.committed.new.self c.clear.new.slot _ (c.committed.ensures.new, c.committed.ensures.end) (c.clear.ensures ∙ ap (λ (b : Bool). left (ended_unless b) c.committed.new.self) (sym c.if-committed.false))
+          c.committed.result c.committed.new.self c.clear.new.slot _ (c.requires.update c.in-Some.hand (c.at_client-slot.ensures.value ∙ c.in-Some.is)) (c.committed.ensures.new, c.committed.ensures.end) (c.clear.ensures ∙ ap (λ (b : Bool). left (ended_unless b) c.committed.new.self) (sym c.if-committed.false))
           (c.done.ensures ∙ ap (λ (b : Bool). Stepped c.in-Some.hand.call c.word-op.result verbs.Commit (Some c.args.ckpt) (Some c.args.r) words.Ok (ended_unless b) beside.Nothing) (sym c.if-committed.false));
     }
