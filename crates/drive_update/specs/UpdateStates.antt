@@ -1,14 +1,14 @@
 -- What the driver of an update keeps, as its fields have it, and what it may ask.
-use Rattle.std.specs.Prelude.{◌<◌, ◌≡◌, ℕ, ℤ, Option}
+use Rattle.std.specs.Prelude.{◌<◌, Bool, true, false}
 use Rattle.ckpt_types.specs.Limits.{nodes_max}
 use Rattle.node_msgs.specs.declared.next.Next.{Next}
 use Rattle.node_msgs.specs.declared.next.Next.TheVariants as nexts
 use Rattle.node_msgs.specs.declared.requests.Request.TheVariants as requests
-use Rattle.cluster_record.specs.DueUpdate.{UpdateState, by_phase, claim_at, commit_at, stage_at, withdraw_at}
+use Rattle.cluster_record.specs.declared.calls.UpdatePhase.{UpdatePhase}
+use Rattle.cluster_record.specs.declared.calls.UpdatePhase.TheVariants.{Staging, Committing}
+use Rattle.cluster_record.specs.DueUpdate.{UpdateState}
 use Rattle.cluster_record.specs.StepDone.{HasNoneAbove}
 use Rattle.drive_update.specs.declared.update_call.UpdateCall.TheInside as updating
-use Rattle.drive_update.specs.declared.update_call.Turn.{Turn}
-use Rattle.drive_update.specs.declared.update_call.Turn.TheVariants as turns
 
 -- an update as contracts see it; the highest node is no part of it
 abbrev pub update_state : updating.Inside → UpdateState
@@ -28,18 +28,8 @@ IsOfUpdate (nexts.Serve r (requests.Withdraw call k)) = Unit {0}
 IsOfUpdate (nexts.End end) = Unit {0}
 IsOfUpdate next = ⊥
 
--- what is next by what the update is at
-abbrev pub next_by : UpdateState → ℤ → Option ℕ → Option ℕ → Turn → Next
-next_by u now first last turns.Stage = stage_at u now first last
-next_by u now first last turns.Commit = commit_at u last
-next_by u now first last turns.Claim = claim_at u first last
-next_by u now first last (turns.Withdraw r) = withdraw_at u r
-
--- the update is at this, with `last` the highest complete node that it has
-abbrev pub IsTurn : UpdateState → Option ℕ → Turn → Type 0
-IsTurn u last turn = (now : ℤ) (first : Option ℕ) → by_phase u now first last u.phase ≡ next_by u now first last turn
-
--- what it withdraws is at a node that there may be
-abbrev pub IsTurnAtANode : Turn → Type 0
-IsTurnAtANode (turns.Withdraw r) = r < nodes_max
-IsTurnAtANode turn = Unit {0}
+-- it has met the slot of a call that is gone, and has not come to stage its own update behind that
+abbrev pub settles : UpdatePhase → Bool
+settles Staging = false
+settles Committing = false
+settles phase = true

@@ -14,12 +14,12 @@ ghost use Rattle.ckpt_types.specs.declared.answers.Outcome.TheVariants.{Refused}
 ghost use Rattle.node_msgs.specs.declared.next.Next.TheVariants.{Serve, End};
 ghost use Rattle.node_msgs.specs.declared.replies.Reply.TheVariants as replies;
 ghost use Rattle.node_msgs.specs.declared.requests.Request.TheVariants as requests;
-ghost use Rattle.cluster_record.specs.DueUpdate.{update_begun, commit_at, commit_first, claim_at, stage_at, committing, update_next, update_taken, done_end_by, kept_moment, free_phase};
+ghost use Rattle.cluster_record.specs.DueUpdate.{update_begun, by_phase, commit_at, commit_first, claim_at, stage_at, committing, update_next, update_taken, done_end_by, kept_moment, free_phase};
 ghost use Rattle.cluster_record.specs.Ends.{IsAtANode, answer_unless, ended_unless, served_done, update_end, update_outcome, update_told};
 ghost use Rattle.cluster_record.specs.declared.calls.UpdatePhase.TheVariants.{Staging, Withdrawing};
 ghost use Rattle.cluster_record.specs.RecordState.{RecordState, entry_of, complete_of};
 ghost use Rattle.cluster_record.specs.StepDone.{counting, done_of, first_lacking, last_having};
-ghost use Rattle.drive_update.specs.UpdateStates.{IsOfUpdate, IsTurn, IsTurnAtANode};
+ghost use Rattle.drive_update.specs.UpdateStates.{IsOfUpdate, settles};
 
 use ckpt_types::{
     AisError, Answer, CallId, Cause, CkptId, Incarnation, Moment, NODES_MAX, NodeId, Outcome,
@@ -146,39 +146,43 @@ impl UpdateCall {
         if entry.active.is_none() {
             return not_exist();
         }
-        match self.turn(&entry.complete) {
-            Turn::Stage => self.stage_next(cluster.now(), &entry.complete),
-            Turn::Commit => self.commit_next(&entry.complete),
-            Turn::Claim => self.claim_next(&entry.complete),
-            Turn::Withdraw(r) => Next::Serve(r, Request::Withdraw(self.call, self.ckpt)),
+        match self.phase {
+            UpdatePhase::Staging => self.stage_next(cluster.now(), &entry.complete),
+            UpdatePhase::Committing => self.commit_next(&entry.complete),
+            _ => self.settle_next(cluster.now(), &entry.complete),
         }
     }
 
-    // What it is at by its phase.
+    /// Whether it has met the slot of a call that is gone, and has not come to stage its own update behind that.
     #[inline(always)]
-    fn turn(&self, complete: &[u32; NODES_MAX]) -> Turn
-        ensures turn { IsTurn self.now (last_having 0 complete.now self.now.owned) result }
-        ensures at { IsTurnAtANode result }
+    pub fn settles(&self) -> bool
+        ensures { result ≡ settles self.now.phase }
     {
         match self.phase {
-            UpdatePhase::Staging => Turn::Stage,
-            UpdatePhase::Committing => Turn::Commit,
-            _ => self.settling(complete),
+            UpdatePhase::Staging | UpdatePhase::Committing => false,
+            _ => true,
         }
     }
 
-    // What it is at where it has met the slot of a call that is gone: with none of what it has claimed, or none any more,
-    // it stages its own update.
+    // Where it has met the slot of a call that is gone: it claims, and then withdraws what it has claimed, or commits it;
+    // with none of it, or none any more, it stages its own update.
     #[inline(never)]
-    fn settling(&self, complete: &[u32; NODES_MAX]) -> Turn
-        ensures turn { IsTurn self.now (last_having 0 complete.now self.now.owned) result }
-        ensures at { IsTurnAtANode result }
+    fn settle_next(&self, now: Moment, complete: &[u32; NODES_MAX]) -> Next
+        ensures next { result ≡ by_phase self.now now (first_lacking 0 complete.now self.now.owned) (last_having 0 complete.now self.now.owned) self.now.phase }
+        ensures is { IsOfUpdate result }
+        ensures at { IsAtANode result }
     {
         match (self.phase, last_having(complete, &self.owned, self.top)) {
-            (UpdatePhase::Claiming, _) | (UpdatePhase::Claimed, Some(_)) => Turn::Claim,
-            (UpdatePhase::Withdrawing, Some(r)) => Turn::Withdraw(r),
-            (UpdatePhase::Committing, _) | (UpdatePhase::Resolving, Some(_)) => Turn::Commit,
-            _ => Turn::Stage,
+            (UpdatePhase::Claiming, _) | (UpdatePhase::Claimed, Some(_)) => {
+                self.claim_next(complete)
+            }
+            (UpdatePhase::Withdrawing, Some(r)) => {
+                Next::Serve(r, Request::Withdraw(self.call, self.ckpt))
+            }
+            (UpdatePhase::Committing, _) | (UpdatePhase::Resolving, Some(_)) => {
+                self.commit_next(complete)
+            }
+            _ => self.stage_next(now, complete),
         }
     }
 
@@ -441,19 +445,6 @@ impl UpdateCall {
         }
         None
     }
-}
-
-// What an update is at.
-#[derive(Clone, Copy)]
-enum Turn {
-    // It stages where it lacks a node, and else begins to commit.
-    Stage,
-    // It commits.
-    Commit,
-    // It claims.
-    Claim,
-    // It withdraws at this node.
-    Withdraw(NodeId),
 }
 
 // A commit is of its own update where it has staged that, and else of what it has claimed.

@@ -1,5 +1,5 @@
 //! The event by which a call takes its next step.
-ghost use Rattle.std.specs.Prelude.{◌≡◌, ◌≢◌, ◌⊎◌, ◌<◌, ◌≤◌, Some, None, true, IfOk, OnOk, OnErr, slice_get};
+ghost use Rattle.std.specs.Prelude.{◌≡◌, ◌≢◌, ◌⊎◌, ◌<◌, ◌≤◌, Some, None, true, IfOk, IsSome, OnOk, OnErr, slice_get};
 ghost use Rattle.ckpt_types.specs.declared.identities.ActorName.TheVariants.{Client};
 ghost use Rattle.ckpt_types.specs.declared.identities.Who.TheVariants as whos;
 ghost use Rattle.node_msgs.specs.declared.next.Next.TheVariants as nexts;
@@ -62,6 +62,9 @@ impl World {
             return Ok(());
         };
         if let DriverKind::Update(update) = &hand.driver.kind {
+            if update.settles() {
+                return self.driven_step(alloc, c, log);
+            }
             let next = update.next(&self.cluster);
             return self.update_step(alloc, c, next, log);
         }
@@ -92,6 +95,30 @@ impl World {
         let c = client_by(who);
         let next = hand.driver.next(&self.cluster, self.tables.get(c), c);
         self.take_next(alloc, who, next, log)
+    }
+
+    /// A call that its client waits for takes the step that its driver tells. What is told of that by a reference lies
+    /// here, so that the steps which are taken most clear no room for it.
+    #[inline(never)]
+    pub(crate) fn driven_step(
+        &mut self,
+        alloc: Global,
+        c: u8,
+        log: &mut RunLog,
+    ) -> Result<(), AllocError>
+        requires client { c < client_numbers }
+        requires held { IsSome (hand_at self.old.hands (whos.Actor (Client c))) }
+        requires shown { IsShown self.old }
+        requires roomy { HasNumbersLeft self.old }
+        requires spare { 1 ≤ log.old.spare }
+        ensures ok { OnOk result (Adds log.old log.new (IsStep (whos.Actor (Client c)) self.old self.new)) }
+        ensures err { OnErr result ((self.new ≡ self.old) × (log.new.labels ≡ log.old.labels)) }
+    {
+        let Some(hand) = self.hands.of_client(c) else {
+            unreachable!()
+        };
+        let next = hand.driver.next(&self.cluster, self.tables.get(c), c);
+        self.take_next(alloc, Who::Actor(ActorName::Client(c)), next, log)
     }
 
     // The call takes the step that is next for it.

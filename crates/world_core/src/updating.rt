@@ -63,9 +63,7 @@ impl World {
                 self.look_step(Who::Actor(ActorName::Client(c)), end, log);
                 Ok(())
             }
-            Next::Serve(r, request) => {
-                self.serve_step(alloc, Who::Actor(ActorName::Client(c)), r, &request, log)
-            }
+            Next::Serve(_, _) => self.driven_step(alloc, c, log),
             Next::Event(_) => unreachable!(),
         }
     }
@@ -130,13 +128,7 @@ impl World {
         let slot = self.hands.at_client(c);
         let Some(hand) = slot else { unreachable!() };
         if creates(&hand.op) {
-            return self.serve_step(
-                alloc,
-                Who::Actor(ActorName::Client(c)),
-                r,
-                &Request::Commit(asked, ckpt),
-                log,
-            );
+            return self.driven_step(alloc, c, log);
         }
         let call = hand.call;
         let op = hand.word();

@@ -1,5 +1,5 @@
-use Rattle.std.proofs.Common.{◌≡◌, Some, sym, ap, subst, ◌∙◌}
-use Rattle.std.specs.Prelude.{Bool, OnOk, OnErr}
+use Rattle.std.proofs.Common.{◌≡◌, Some, refl, sym, ap, subst, ◌∙◌}
+use Rattle.std.specs.Prelude.{Bool, IsSome, OnOk, OnErr}
 use Rattle.node_msgs.specs.declared.steps.StepReply.TheVariants as words
 use Rattle.node_msgs.specs.declared.steps.Verb.TheVariants as verbs
 use Rattle.node_msgs.specs.declared.details.Details.TheVariants as beside
@@ -9,6 +9,7 @@ use Rattle.ckpt_types.specs.declared.identities.Who.TheVariants.{Actor}
 use Rattle.cluster_record.specs.Calls.{left}
 use Rattle.world_core.specs.declared.world.World.{World}
 use Rattle.world_core.specs.Happenings.{Adds, IsStep}
+use Rattle.world_core.specs.HandsState.{hand_at}
 use Rattle.world_core.specs.Shows.{IsShown}
 use Rattle.cluster_record.specs.Ends.{ended_unless}
 use Rattle.world_core.proofs.HandLaws.{same_world}
@@ -21,16 +22,21 @@ use Rattle.world_core.proofs.Stepping.{node_there}
 use Rattle.world_core.proofs.world.World.commit_step.Goals as goal
 
 -- a creation goes on as it was
-pub serve_step-requires-clause-shown : goal.serve_step-requires-clause-shown
-serve_step-requires-clause-shown c = subst IsShown (sym (same_world c.args.self.now (Actor (Client c.args.c)) (Some c.in-Some.hand) (c.at_client-slot.ensures.value ∙ c.in-Some.is))) c.requires.shown
+pub driven_step-requires-clause-shown : goal.driven_step-requires-clause-shown
+driven_step-requires-clause-shown c = subst IsShown (sym (same_world c.args.self.now (Actor (Client c.args.c)) (Some c.in-Some.hand) (c.at_client-slot.ensures.value ∙ c.in-Some.is))) c.requires.shown
+
+pub driven_step-requires-clause-held : goal.driven_step-requires-clause-held
+driven_step-requires-clause-held c =
+    let held : hand_at c.args.self.now.hands (Actor (Client c.args.c)) ≡ Some c.in-Some.hand = c.at_client-slot.ensures.value ∙ c.in-Some.is in
+    subst (λ (w : World). IsSome (hand_at w.hands (Actor (Client c.args.c)))) (sym (same_world c.args.self.now (Actor (Client c.args.c)) (Some c.in-Some.hand) held)) (subst IsSome (sym held) refl)
 
 pub returns-then-creates-clause-ok : goal.returns-then-creates-clause-ok
 returns-then-creates-clause-ok c =
-    subst (λ (w : World). OnOk c.serve_step.result (Adds c.args.log.now c.serve_step.new.log (IsStep (Actor (Client c.args.c)) w c.serve_step.new.self))) (same_world c.args.self.now (Actor (Client c.args.c)) (Some c.in-Some.hand) (c.at_client-slot.ensures.value ∙ c.in-Some.is)) c.serve_step.ensures.ok
+    subst (λ (w : World). OnOk c.driven_step.result (Adds c.args.log.now c.driven_step.new.log (IsStep (Actor (Client c.args.c)) w c.driven_step.new.self))) (same_world c.args.self.now (Actor (Client c.args.c)) (Some c.in-Some.hand) (c.at_client-slot.ensures.value ∙ c.in-Some.is)) c.driven_step.ensures.ok
 
 pub returns-then-creates-clause-err : goal.returns-then-creates-clause-err
 returns-then-creates-clause-err c =
-    subst (λ (w : World). OnErr c.serve_step.result ((c.serve_step.new.self ≡ w) × (c.serve_step.new.log.labels ≡ c.args.log.now.labels))) (same_world c.args.self.now (Actor (Client c.args.c)) (Some c.in-Some.hand) (c.at_client-slot.ensures.value ∙ c.in-Some.is)) c.serve_step.ensures.err
+    subst (λ (w : World). OnErr c.driven_step.result ((c.driven_step.new.self ≡ w) × (c.driven_step.new.log.labels ≡ c.args.log.now.labels))) (same_world c.args.self.now (Actor (Client c.args.c)) (Some c.in-Some.hand) (c.at_client-slot.ensures.value ∙ c.in-Some.is)) c.driven_step.ensures.err
 
 pub at-requires-clause-node : goal.at-requires-clause-node
 at-requires-clause-node c = node_there c.args.self.now (Actor (Client c.args.c)) c.args.r _ c.in-Some.hand (c.at_client-slot.ensures.value ∙ c.in-Some.is) c.requires.next c.requires.shown
