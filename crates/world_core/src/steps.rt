@@ -56,20 +56,18 @@ impl World {
         ensures ok { OnOk result (Adds log.old log.new (λ label. IsStep (whos.Actor (Client c)) self.old self.new label ⊎ IsIdle (whos.Actor (Client c)) finish self.old self.new label)) }
         ensures err { OnErr result ((self.new ≡ self.old) × (log.new.labels ≡ log.old.labels)) }
     {
-        let who = Who::Actor(ActorName::Client(c));
         let Some(hand) = self.hands.of_client(c) else {
-            log.push(idle_label(who, finish));
+            log.push(idle_label(Who::Actor(ActorName::Client(c)), finish));
             return Ok(());
         };
-        if let DriverKind::Update(update) = &hand.driver.kind {
-            if update.settles() {
-                return self.driven_step(alloc, c, log);
-            }
-            let next = update.next(&self.cluster);
-            return self.update_step(alloc, c, next, log);
+        let DriverKind::Update(update) = &hand.driver.kind else {
+            return self.driven_step(alloc, c, log);
+        };
+        if update.settles() {
+            return self.driven_step(alloc, c, log);
         }
-        let next = hand.driver.next(&self.cluster, self.tables.get(c), c);
-        self.take_next(alloc, who, next, log)
+        let next = update.next(&self.cluster);
+        self.update_step(alloc, c, next, log)
     }
 
     /// An asynchronous call takes its next step, or a word says that none of this name is under way. Want of memory leaves
