@@ -1,8 +1,8 @@
 -- The element at the place of a key is the key's.
-use Rattle.std.proofs.Common.{◌≡◌, ℕ, ◌<◌, true, false, List, length, refl, sym, ap, ◌∙◌}
-use Rattle.std.specs.Prelude.{Option, Some, None, is_some, slice_get, slice_index_or}
-use Rattle.std.proofs.lemmas.Option.{get_or_from_slice_get, slice_get-get_or}
-use Rattle.cluster_record.specs.Places.{find_key, place_key, list_or}
+use Rattle.std.proofs.Common.{◌≡◌, ℕ, List, sym, ap, ◌∙◌}
+use Rattle.std.specs.Prelude.{Option, Some, None, slice_index_or}
+use Rattle.std.proofs.lemmas.Option.{get_or_from_slice_get}
+use Rattle.cluster_record.specs.Places.{find_key, place_key}
 use Rattle.cluster_record.proofs.Places.{found_key, not_found}
 
 module _ {X : Type 0} (key : X → ℕ) (k : ℕ) (xs : List X) (o : Option ℕ) (from : o ≡ place_key key k xs) where

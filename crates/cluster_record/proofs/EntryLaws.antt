@@ -1,5 +1,5 @@
 -- What is kept of each checkpoint is kept by each change of one.
-use Rattle.std.proofs.Common.{◌≡◌, ◌≢◌, ℕ, ◌+◌, ◌-◌, ◌<◌, ◌≤◌, zero, suc, List, [], ◌∷◌, length, replicate, Bool, true, false, not, cond, ◌==◌, refl, sym, ap, subst, ◌∙◌, arith}
+use Rattle.std.proofs.Common.{◌≡◌, ◌≢◌, ℕ, ◌+◌, ◌-◌, ◌<◌, ◌≤◌, zero, suc, List, [], ◌∷◌, length, replicate, Bool, true, false, not, cond, ◌&&◌, ◌==◌, refl, sym, ap, subst, ◌∙◌, arith}
 use Rattle.std.specs.Prelude.{Option, Some, None, is_some, IfSome, ℤ, pos, ◌≤ℤ◌, nat_lt, slice_set, slice_index}
 use Rattle.std.proofs.lemmas.Bool.{eqb-false, eqb-true, and_parts}
 use Rattle.std.proofs.lemmas.Int.{ints}
@@ -11,6 +11,7 @@ use Rattle.ckpt_types.specs.Limits.{nodes_max, client_numbers}
 use Rattle.cluster_record.specs.declared.entries.Entry.{Entry}
 use Rattle.cluster_record.specs.Calls.{IsClient}
 use Rattle.cluster_record.specs.Failing.{with_more, most_updated, next_active, led_anew, without_node, entry_failed, unheld_by}
+use Rattle.cluster_record.specs.Joining.{can_complete, with_node, led_by, led_by_lowest, completed_on}
 use Rattle.cluster_record.specs.Kept.{IsName, IsMakingBy, IsComplete, IsKeptEntry}
 use Rattle.cluster_record.specs.Placement.{alone_on, is_all, is_collocated, targets, adds}
 use Rattle.cluster_record.specs.RecordState.{RecordState, first_active, first_complete, has_references, referred, opened_with, made_with, idle_from, unreferred, released_all, is_call_of, unnamed, retaining, can_be_held, with_hold, can_lead, is_active, generation_under, with_active, new_entry}
@@ -377,3 +378,53 @@ entry_failed-kept counts r t e kept = by (is_active e.active r) refl where
     generation = kept.generation;
     making = still e.making _ _ (λ call by. record { maker = by.maker; name = by.name; complete = ap (λ cs. slice_set cs r 0) by.complete ∙ slice_set-replicate nodes_max r; active = by.active; generation = by.generation; references = by.references; hold = by.hold }) kept.making;
   }
+
+-- ---- a node that comes back
+
+-- where a node that is complete is the active, and it is made
+led_by-kept : (t : ℤ) (e : Entry) → IsKeptEntry t e → (o : Option ℕ) → e.making ≡ None → IfSome o (λ r. IsComplete r e.complete) → IsKeptEntry t (led_by o e)
+led_by-kept t e kept None made complete = kept
+led_by-kept t e kept (Some r) made complete = record {
+  identity = kept.identity;
+  name = kept.name;
+  attributes = kept.attributes;
+  retention = kept.retention;
+  made = kept.made;
+  idle = kept.idle;
+  past = kept.past;
+  complete = kept.complete;
+  references = kept.references;
+  active = complete;
+  generation = let least = kept.generation in elim (is_active e.active r) as (λ b. 1 ≤ cond b e.generation (e.generation + 1)) [ true ↦ least | false ↦ omega arith ];
+  making = unless_none e.making _ made;
+}
+
+-- the lowest complete one, or the active as it was
+led_by_lowest-kept : (t : ℤ) (e : Entry) → IsKeptEntry t e → e.making ≡ None → IsKeptEntry t (led_by_lowest e)
+led_by_lowest-kept t e kept made = elim (is_all e.attributes) as (λ b. IsKeptEntry t (cond b (led_by (first_complete 0 e.complete) e) e)) [
+  | true ↦ led_by-kept t e kept (first_complete 0 e.complete) made (first_is e.complete kept.complete)
+  | false ↦ kept
+]
+
+-- what a node can be complete for is made, and not complete there
+pub can_complete-parts : (r n : ℕ) (e : Entry) → can_complete r n e ≡ true → (e.making ≡ None) × (is_collocated e.attributes ≡ false) × (n ≢ 0) × (slice_index e.complete r ≡ 0)
+can_complete-parts r n e is =
+    let fourth = and_parts (not (is_some e.making) && not (is_collocated e.attributes) && not (n == 0)) (slice_index e.complete r == 0) is in
+    let third = and_parts (not (is_some e.making) && not (is_collocated e.attributes)) (not (n == 0)) fourth.0 in
+    let second = and_parts (not (is_some e.making)) (not (is_collocated e.attributes)) third.0 in
+    (none e.making second.0, off (is_collocated e.attributes) second.1, eqb-false n 0 (off (n == 0) third.1), eqb-true (slice_index e.complete r) 0 fourth.1)
+  where
+    none : (o : Option CallId) → not (is_some o) ≡ true → o ≡ None
+    none None is = refl
+    none (Some call) is = absurd cc
+
+    off : (b : Bool) → not b ≡ true → b ≡ false
+    off true is = absurd cc
+    off false is = refl
+
+-- where a node comes to be complete
+pub completed_on-kept : (t : ℤ) (e : Entry) → IsKeptEntry t e → (r n : ℕ) → IsKeptEntry t (completed_on r n e)
+completed_on-kept t e kept r n = by (can_complete r n e) refl where
+  by : (b : Bool) → can_complete r n e ≡ b → IsKeptEntry t (cond b (led_by_lowest (with_node r n e)) e)
+  by false is = kept
+  by true is = let parts = can_complete-parts r n e is in led_by_lowest-kept t (with_node r n e) (complete_more t e kept r n parts.0 parts.3) parts.0

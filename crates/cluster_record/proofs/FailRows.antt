@@ -17,11 +17,11 @@ use Rattle.cluster_record.specs.RecordState.{RecordState, empty_record, brought_
 -- ---- the words of the examples
 
 -- a call of a client
-abbrev failing_call : ℕ → CallId
+abbrev pub failing_call : ℕ → CallId
 failing_call c = record { actor = Client c; number = 2 }
 
 -- a client begins to make a checkpoint with these flags, kept for 10 after its last close
-abbrev failing_begun : ℕ → List ℕ → ℕ → RecordState → RecordState
+abbrev pub failing_begun : ℕ → List ℕ → ℕ → RecordState → RecordState
 failing_begun c name flags R = after_open (failing_call c) (record {
   name = name;
   attrs = Some (record { creation_flags = flags; checkpoint_size = 64; retention_duration = pos 10; max_sections = 1; max_section_size = 64; max_section_id_size = 8 });
@@ -30,15 +30,15 @@ failing_begun c name flags R = after_open (failing_call c) (record {
 }) R
 
 -- and makes it
-abbrev failing_made : ℕ → List ℕ → ℕ → RecordState → RecordState
+abbrev pub failing_made : ℕ → List ℕ → ℕ → RecordState → RecordState
 failing_made c name flags R = making_finished (R.last_identity + 1) (failing_begun c name flags R)
 
 -- three nodes, with c0 on n0, c1 on n1 and c2 on n2
-abbrev three_nodes : RecordState
+abbrev pub three_nodes : RecordState
 three_nodes = entered 2 2 1 (entered 1 1 1 (entered 0 0 1 (brought_up 3 empty_record)))
 
 -- no replica has an update
-abbrev no_counts : ℕ → ℕ → ℕ
+abbrev pub no_counts : ℕ → ℕ → ℕ
 no_counts k r = 0
 
 -- the identity of a name
@@ -49,7 +49,7 @@ failing_named R name = identity_in (named name R.entries)
 abbrev active_and_generation : Entry → Option ℕ × ℕ
 active_and_generation e = (e.active, e.generation)
 
-abbrev led_by : ℕ → RecordState → Option (Option ℕ × ℕ)
+abbrev pub led_by : ℕ → RecordState → Option (Option ℕ × ℕ)
 led_by k R = option_map active_and_generation (entry_of k R.entries)
 
 -- and who holds it

@@ -1,6 +1,6 @@
 -- A record stays as it is kept where its entries are changed, one comes, or some go.
 use Rattle.std.proofs.Common.{◌≡◌, ◌≢◌, ℕ, ◌+◌, ◌<◌, ◌≤◌, ◌-◌, List, [], ◌∷◌, ◌++◌, length, filter, map, All, Some, None, Bool, true, false, cond, ◌==◌, refl, sym, ap, subst, ◌∙◌, arith, length-append, Bor}
-use Rattle.std.specs.Prelude.{Option, IfSome, MatchOption, ℤ, ◌≤ℤ◌, slice_set, slice_index, vec_capacity}
+use Rattle.std.specs.Prelude.{Option, IfSome, MatchOption, ℤ, slice_set, slice_index, vec_capacity}
 use Rattle.std.proofs.lemmas.Bool.{eqb-true}
 use Rattle.std.proofs.lemmas.Int.{ints}
 use Rattle.std.proofs.lemmas.List.{length-map}
@@ -14,12 +14,13 @@ use Rattle.cluster_record.specs.declared.entries.Entry.{Entry}
 use Rattle.cluster_record.specs.declared.clients.LiveClient.{LiveClient}
 use Rattle.cluster_record.specs.declared.record.Record.TheInside.{Inside}
 use Rattle.cluster_record.specs.Failing.{led_anew, without_node, entry_failed}
+use Rattle.cluster_record.specs.Joining.{can_complete, with_node, led_by, led_by_lowest, completed_on}
 use Rattle.cluster_record.specs.Kept.{IsKeptEntry, IsKeptClient, AreKeptClients, HasTimes}
 use Rattle.cluster_record.specs.NamesOf.{names_of, without_gone}
 use Rattle.cluster_record.specs.Places.{find_key, change_key}
 use Rattle.cluster_record.specs.LookUps.{identity_in}
-use Rattle.cluster_record.specs.Placement.{adds}
-use Rattle.cluster_record.specs.RecordState.{identity_of, entry_of, named, unnamed, has_references, idle_from, referred, opened_with, unreferred, released_all, can_be_held, with_hold, can_lead, is_active, generation_under, with_active}
+use Rattle.cluster_record.specs.Placement.{adds, is_all}
+use Rattle.cluster_record.specs.RecordState.{identity_of, entry_of, named, unnamed, first_complete, has_references, idle_from, referred, opened_with, unreferred, released_all, can_be_held, with_hold, can_lead, is_active, generation_under, with_active}
 use Rattle.cluster_record.specs.RecordView.{AreKeptEntries, IsKept}
 use Rattle.cluster_record.specs.Makings.{making_call}
 use Rattle.cluster_record.specs.RecordReady.{CanRefer}
@@ -258,3 +259,13 @@ entry_failed-keeps counts r = (
   λ e. elim (is_active e.active r) as (λ b. (cond b (led_anew (counts e.identity) (without_node r e)) (without_node r e)).name ≡ e.name) [ true ↦ refl | false ↦ refl ],
   λ e. elim (is_active e.active r) as (λ b. (cond b (led_anew (counts e.identity) (without_node r e)) (without_node r e)).identity ≡ e.identity) [ true ↦ refl | false ↦ refl ],
 )
+
+led_by-keeps : (o : Option ℕ) → Keeps (led_by o)
+led_by-keeps None = (λ e. refl, λ e. refl)
+led_by-keeps (Some r) = (λ e. refl, λ e. refl)
+
+led_by_lowest-keeps : Keeps led_by_lowest
+led_by_lowest-keeps = where-keeps (λ e. is_all e.attributes) (λ e. led_by (first_complete 0 e.complete) e) (λ e. (led_by-keeps (first_complete 0 e.complete)).0 e, λ e. (led_by-keeps (first_complete 0 e.complete)).1 e)
+
+pub completed_on-keeps : (r n : ℕ) → Keeps (completed_on r n)
+completed_on-keeps r n = where-keeps (can_complete r n) (λ e. led_by_lowest (with_node r n e)) (λ e. led_by_lowest-keeps.0 (with_node r n e), λ e. led_by_lowest-keeps.1 (with_node r n e))

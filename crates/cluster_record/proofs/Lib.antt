@@ -11,10 +11,15 @@ pub mod EachChanged
 pub mod EntryLaws
 pub mod CutOffLaws
 pub mod FailLaws
+pub mod JoinLaws
 pub mod ClientLaws
 pub mod NoneAbove
 pub mod Rows
 pub mod RecordRows
 pub mod FailRows
+pub mod JoinRows
 pub mod UpdateRows
 pub mod Walking
+pub mod CopyStaging
+pub mod CopyLaws
+pub mod CopyRows

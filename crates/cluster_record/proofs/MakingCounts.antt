@@ -11,10 +11,10 @@ use Rattle.ckpt_types.specs.declared.identities.CallId.{CallId}
 use Rattle.cluster_record.specs.declared.entries.Entry.{Entry}
 use Rattle.cluster_record.specs.Calls.{number_of, client_of, IsClient}
 use Rattle.cluster_record.specs.Identities.{IdentitiesRise}
-use Rattle.cluster_record.specs.Makings.{making_call, finished_by, making_finished, undone_by, making_undone, makings_of}
+use Rattle.cluster_record.specs.Makings.{making_call, makings_of}
 use Rattle.cluster_record.specs.Placement.{adds}
 use Rattle.cluster_record.specs.Places.{change_key}
-use Rattle.cluster_record.specs.RecordState.{RecordState, identity_of, entry_of, home_of, has_references, stays, swept, moved, brought_up, entered, new_entry, created_as, referred, made_with, finished, undone, opened_with, opened, idle_from, unreferred, closed, unnamed, unlinked, retaining, retained, released_all, is_call_of, departed, can_be_held, with_hold, hold_set, can_lead, generation_under, with_active, active_set}
+use Rattle.cluster_record.specs.RecordState.{RecordState, identity_of, entry_of, home_of, has_references, stays, swept, new_entry, created_as, referred, made_with, finished, opened_with, opened, idle_from, unreferred, released_all, is_call_of, departed}
 use Rattle.cluster_record.proofs.IdentityLaws.{none_at}
 use Rattle.cluster_record.proofs.Places.{not_changed}
 

@@ -1,12 +1,10 @@
 -- The highest node of a call: what is looked up of the nodes up to it, and which it is after a change.
-use Rattle.std.proofs.Common.{◌≤◌, ◌≢◌, ◌≡◌, ℕ, zero, suc, ◌+◌, ◌-◌, ◌<◌, List, [], ◌∷◌, length, drop, Option, Some, None, Bool, true, false, not, ◌&&◌, ◌==◌, refl, sym, ap, subst, ◌∙◌, arith}
-use Rattle.std.specs.Prelude.{slice_index, slice_set, replicate}
+use Rattle.std.proofs.Common.{◌≤◌, ◌≢◌, ◌≡◌, ℕ, zero, suc, ◌+◌, ◌<◌, List, [], ◌∷◌, length, drop, Option, Some, None, Bool, true, false, not, ◌&&◌, ◌==◌, refl, sym, ap, subst, ◌∙◌, arith}
+use Rattle.std.specs.Prelude.{slice_index, slice_set}
 use Rattle.std.proofs.lemmas.List.{get_or-set_other}
 use Rattle.std.proofs.lemmas.Option.{same_Some}
-use Rattle.std.proofs.lemmas.Bool.{eqb-true, eqb-false, and_parts}
-use Rattle.cluster_record.specs.RecordState.{no_nodes}
+use Rattle.std.proofs.lemmas.Bool.{eqb-true, and_parts}
 use Rattle.cluster_record.specs.StepDone.{has, last_having, or_here, HasNoneAbove}
-use Rattle.ckpt_types.proofs.Lists.{slice_index-replicate, slice_index-cleared}
 
 -- ---- what is looked up
 

@@ -16,9 +16,11 @@ pub mod DueActive
 pub mod DueOnce
 pub mod Numbers
 pub mod Identities
+pub mod Joining
 pub mod Makings
 pub mod Refusals
 pub mod NamesOf
 pub mod Changes
 pub mod Opening
 pub mod Ends
+pub mod DueCopy

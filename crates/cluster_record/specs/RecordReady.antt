@@ -3,7 +3,7 @@ use Rattle.std.specs.Prelude.{◌≡◌, ℕ, ◌-◌, ◌^◌, ◌<◌, List, l
 use Rattle.ckpt_types.specs.declared.calls.OpenAsk.{OpenAsk}
 use Rattle.ckpt_types.specs.declared.identities.CallId.{CallId}
 use Rattle.ckpt_types.specs.Attributes.{IsWellFormed}
-use Rattle.ckpt_types.specs.Limits.{client_numbers, checkpoints_max}
+use Rattle.ckpt_types.specs.Limits.{nodes_max, client_numbers, checkpoints_max}
 use Rattle.cluster_record.specs.declared.entries.Entry.{Entry}
 use Rattle.cluster_record.specs.Calls.{IsClient, client_of}
 use Rattle.cluster_record.specs.Kept.{IsName}
@@ -41,3 +41,9 @@ CanReferAt c entries (Some k) = CanRefer c (entry_of k entries)
 abbrev pub CanSetActive : Option Entry → Type 0
 CanSetActive None = Unit {0}
 CanSetActive (Some e) = e.generation < 2 ^ 64 - 1
+
+-- one of the nodes that is not up, and whose last incarnation is not at its end
+pub record CanJoin (r : ℕ) (R : RecordState) : Type 0 where
+  pub node : r < nodes_max
+  pub down : is_up r R ≡ false
+  pub incarnation : slice_index R.last_incarnations r < 2 ^ 32 - 1

@@ -1,7 +1,7 @@
 //! What the record keeps of each checkpoint, what a step makes of it, and when it is due to go.
 ghost use Rattle.std.specs.Prelude.{All, ◌≡◌, ◌+◌, ◌-◌, ◌^◌, ◌<◌, ◌≤◌, Some, None, IfSome, IfOk, MatchOption, length, filter, is_some, map, not, ◌&&◌, ◌==◌, remove, slice_get, slice_index, slice_set, vec_capacity};
 ghost use Rattle.std.specs.List.{list_any, list_all};
-ghost use Rattle.ckpt_types.specs.Limits.{name_max, checkpoints_max};
+ghost use Rattle.ckpt_types.specs.Limits.{name_max, checkpoints_max, nodes_max};
 ghost use Rattle.moment_rules.specs.Times.{is_reached};
 ghost use Rattle.cluster_record.specs.Numbers.{may_rise, entry_may_rise};
 ghost use Rattle.cluster_record.specs.Changes.{changed_by, CanChange};
@@ -14,11 +14,12 @@ ghost use Rattle.cluster_record.specs.Places.{change_key, place_key};
 ghost use Rattle.cluster_record.specs.RecordState.{no_nodes, no_references, identity_of, entry_of, is_name, first_active, first_complete, retained_until, stays, has_references, referred, joined, opened_with, made_with, idle_from, unreferred, released_all, is_call_of, can_be_held, with_hold, can_lead, is_active, with_active};
 
 use crate::counts::Counts;
+use crate::joining::complete_with;
 use crate::leaders::next_active;
 use crate::placement::{adds, incarnation_at, is_collocated, targets};
 use ckpt_types::{
-    ActorName, Bytes, CHECKPOINTS_MAX, CLIENT_NUMBERS, CallId, CkptId, CreationAttributes, Moment,
-    NODES_MAX, NodeId, SectionId,
+    ActorName, Bytes, CHECKPOINTS_MAX, CLIENT_NUMBERS, CallId, CkptId, CreationAttributes,
+    Incarnation, Moment, NODES_MAX, NodeId, SectionId,
 };
 use moment_rules::{add_until, reached};
 use name_table::Names;
@@ -205,6 +206,7 @@ impl Entry {
             Change::ReleasedAll(client, now) => self.release_all(client, now),
             Change::Unheld(client) => self.end_hold(client),
             Change::Failed(node, counts) => self.fail(node, counts),
+            Change::Completed(node, incarnation) => complete_with(self, node, incarnation),
         }
     }
 
@@ -391,8 +393,9 @@ pub fn is_active(active: Option<NodeId>, node: NodeId) -> bool
 }
 
 /// The lowest node that is complete.
-pub(crate) fn first_complete(nodes: &[u32; NODES_MAX]) -> Option<NodeId>
-    ensures { result ≡ first_complete 0 nodes.now }
+pub fn first_complete(nodes: &[u32; NODES_MAX]) -> Option<NodeId>
+    ensures value { result ≡ first_complete 0 nodes.now }
+    ensures within { IfSome result (λ r. r < nodes_max) }
 {
     for r in 0..NODES_MAX as u8 {
         if nodes[r as usize] != 0 {
@@ -448,6 +451,8 @@ pub(crate) enum Change<'a> {
     Unheld(u8),
     /// The node fails, where the replicas on the others have so many updates.
     Failed(NodeId, &'a Counts),
+    /// The node, which is up with this incarnation, or not up where that is 0, is complete for it.
+    Completed(NodeId, Incarnation),
 }
 
 /// The entry of an identity is changed, where it is there.

@@ -5,7 +5,7 @@ ghost use Rattle.cluster_record.specs.Placement.{is_all, is_collocated, alone_on
 use ckpt_types::{CHECKPOINT_COLLOCATED, CreationAttributes, NODES_MAX, NodeId, WR_ALL_REPLICAS};
 
 /// Whether an update is on all replicas before it is answered.
-pub(crate) fn is_all(attributes: &CreationAttributes) -> bool
+pub fn is_all(attributes: &CreationAttributes) -> bool
     ensures { result ≡ is_all attributes.now }
 {
     attributes.creation_flags == WR_ALL_REPLICAS

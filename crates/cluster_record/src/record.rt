@@ -1,5 +1,5 @@
 //! The record: what all nodes agree on, and each step that may be made on it.
-ghost use Rattle.std.specs.Prelude.{◌≡◌, ℕ, List, ◌-◌, ◌^◌, ◌≤◌, ◌<◌, None, Some, true, slice_get, IsSome, IfSome, IfOk, OnOk, OnErr, IfErr, MatchOption, length, nat_lt, pos, ◌≤ℤ◌, if◌then◌else◌};
+ghost use Rattle.std.specs.Prelude.{◌≡◌, ℕ, List, ◌-◌, ◌^◌, ◌≤◌, ◌<◌, None, Some, true, slice_get, slice_index, IsSome, IfSome, IfOk, OnOk, OnErr, IfErr, MatchOption, length, nat_lt, pos, ◌≤ℤ◌, if◌then◌else◌};
 ghost use Rattle.moment_rules.specs.Times.{sum_until_end};
 ghost use Rattle.cluster_record.specs.LookUps.{node_in, life_of, up_as, declared_in, adds_in, identity_in, at_ckpt};
 ghost use Rattle.cluster_record.specs.DueOpen.{targets_by};
@@ -7,6 +7,7 @@ ghost use Rattle.cluster_record.specs.Identities.{IdentitiesRise, AllUpTo};
 ghost use Rattle.cluster_record.specs.Calls.{client_of, IsClient};
 ghost use Rattle.cluster_record.specs.Counts.{count_told};
 ghost use Rattle.cluster_record.specs.Failing.{goes_with_node, cut_off, without_replicas, failed, TellsOthers, first_on, holds_ended};
+ghost use Rattle.cluster_record.specs.Joining.{node_joined, completed};
 ghost use Rattle.cluster_record.specs.Kept.{IsKeptEntry, EachClientOnce, AreKeptClients};
 ghost use Rattle.cluster_record.specs.Makings.{making_call, making_finished, making_undone, makings_of};
 ghost use Rattle.cluster_record.specs.Numbers.{numbers_left};
@@ -15,7 +16,7 @@ ghost use Rattle.cluster_record.specs.Refusals.{enter_answer, all_taken, plainly
 ghost use Rattle.cluster_record.specs.StepDone.{generation_in};
 ghost use Rattle.ckpt_types.specs.Limits.{nodes_max, client_numbers, clients_max, checkpoints_max};
 ghost use Rattle.cluster_record.specs.Places.{find_key};
-ghost use Rattle.cluster_record.specs.RecordReady.{CanBecomeLive, CanOpen, CanCreate, CanRefer, CanReferAt, CanSetActive};
+ghost use Rattle.cluster_record.specs.RecordReady.{CanBecomeLive, CanOpen, CanCreate, CanRefer, CanReferAt, CanSetActive, CanJoin};
 ghost use Rattle.cluster_record.specs.RecordState.{empty_record, entry_of, named, complete_of, client_key, home_of, is_live_client, is_up, is_live, is_live_from, swept, first_nodes, brought_up, entered, created_by_ask, IsMomentFrom, moved, opened, closed, unlinked, retained, hold_set, active_set, departed};
 
 use crate::clients::{LiveClient, copy_clients, find_client, first_on, number_of, take_out};
@@ -25,7 +26,7 @@ use crate::entries::{
     entries_may_rise, find_entry, keep_only, kept_name, makings_in, new_entry,
 };
 use crate::opening::{OpenAnswer, answer_of};
-use crate::placement::{adds, targets};
+use crate::placement::{adds, incarnation_at, targets};
 use ckpt_types::{
     ActorName, AisError, Bytes, CHECKPOINTS_MAX, CLIENTS_MAX, CallId, Cause, CkptId,
     CreationAttributes, Incarnation, Moment, NODES_MAX, NodeId, OpenAsk,
@@ -241,7 +242,7 @@ impl Record {
     }
 
     /// By node, the incarnation with which it is complete for a checkpoint, or 0.
-    pub fn complete(&self, identity: CkptId) -> [u32; NODES_MAX]
+    pub fn complete_on(&self, identity: CkptId) -> [u32; NODES_MAX]
         ensures { result ≡ complete_of (entry_of identity self.now.entries) }
     {
         match self.entry(identity) {
@@ -340,6 +341,7 @@ impl Record {
         ensures identity { result ≡ true → self.now.last_identity < 2 ^ 32 - 1 }
         ensures references { result ≡ true → (client k : ℕ) → CanRefer client (entry_of k self.now.entries) }
         ensures generations { result ≡ true → (k : ℕ) → CanSetActive (entry_of k self.now.entries) }
+        ensures incarnations { result ≡ true → (r : ℕ) → slice_index self.now.last_incarnations r < 2 ^ 32 - 1 }
     {
         if !entries_may_rise(self.entries.as_slice()) {
             return false;
@@ -648,6 +650,33 @@ impl Record {
     {
         change_each(&mut self.entries, Change::Failed(node, counts));
         keep_only(&mut self.entries, &mut self.names, Staying::Surviving);
+    }
+
+    /// A node that is not up joins. It is up from then on, in the incarnation that follows its last one, or in its first
+    /// where it had none, and `first` is the number of the first call that it may begin in it; so its calls of an earlier
+    /// life are live no more. It has no replica, and nothing else changes. It takes no memory.
+    pub fn join(&mut self, node: NodeId, first: u32)
+        requires { CanJoin node self.old }
+        ensures { self.new ≡ node_joined node first self.old }
+    {
+        let place = node as usize;
+        let incarnation = self.last_incarnations[place] + 1;
+        self.up[place] = incarnation;
+        self.first_calls[place] = first;
+        self.last_incarnations[place] = incarnation;
+    }
+
+    /// A node has a complete replica of a checkpoint from then on, with the incarnation with which it is up. Where updates
+    /// are on all replicas, the lowest complete node is the active then, and exactly where another was, or none, the
+    /// generation rises by one; else the active stays. Nothing changes where the checkpoint is in the making or
+    /// collocated, where the node is not up, or where it is complete already. It takes no memory.
+    pub fn complete(&mut self, ckpt: CkptId, node: NodeId)
+        requires stands { IsSome (entry_of ckpt self.old.entries) }
+        requires generation { CanSetActive (entry_of ckpt self.old.entries) }
+        ensures { self.new ≡ completed ckpt node self.old }
+    {
+        let completed = Change::Completed(node, incarnation_at(&self.up, node));
+        change_entry(&mut self.entries, ckpt, completed);
     }
 
     /// The making is undone. Nothing changes where the checkpoint is not in the making.

@@ -196,7 +196,7 @@ impl SyncCall {
         ensures { result ≡ sync_ended (complete_of (entry_of (ckpt_of request.now) cluster.now.entries)) self.now.served self.now.pulled }
     {
         let pulled = self.pulled?;
-        match first_unserved(&cluster.complete(request.ckpt()), &self.served) {
+        match first_unserved(&cluster.complete_on(request.ckpt()), &self.served) {
             None => Some(Outcome::Done(Answer::Pulled(pulled.count))),
             Some(_) => None,
         }

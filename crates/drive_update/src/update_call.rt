@@ -80,7 +80,7 @@ impl Staging for UpdateCall {
         let UpdatePhase::Staging = self.phase else {
             return false;
         };
-        let complete = seen.complete(self.ckpt);
+        let complete = seen.complete_on(self.ckpt);
         if first_lacking(&complete, &self.owned).is_some() {
             return false;
         }
@@ -337,7 +337,7 @@ impl UpdateCall {
         requires { r < nodes_max }
         ensures { self.new ≡ update_taken (counting count (done_of cluster.now verbs.Claim (Some ckpt) (Some r) words.Ok)) self.old }
     {
-        self.own(r, cluster.complete(ckpt)[r as usize]);
+        self.own(r, cluster.complete_on(ckpt)[r as usize]);
         self.count = count;
         self.phase = UpdatePhase::Claimed;
     }
