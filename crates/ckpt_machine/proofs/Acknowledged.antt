@@ -82,7 +82,7 @@ use Rattle.ckpt_machine.proofs.Follows.{IsBare, element_effects}
 use Rattle.ckpt_machine.proofs.HasUpdates.{has_more, has_new}
 use Rattle.ckpt_machine.proofs.Histories.{HasHistory, slot_owned, on_replica-there, on_active-there, keeps_history, run_history}
 use Rattle.ckpt_machine.proofs.Installed.{after_install}
-use Rattle.ckpt_machine.proofs.Joining.{collocated_apart, opened_with-identity}
+use Rattle.ckpt_machine.proofs.Joining.{all_apart, collocated_apart, opened_with-identity}
 use Rattle.ckpt_machine.proofs.Lawful.{lawful}
 use Rattle.ckpt_machine.proofs.OptionLemmas.{IsSomeAnd-at, IfSome-at}
 use Rattle.ckpt_machine.proofs.Actors.{same_call-true}
@@ -133,7 +133,7 @@ to_have_before e f same r (inr active) = inr (sym same.active ∙ active)
 
 -- and was complete: no node that is to have its updates is new
 complete_before : (e f : Entry) → IsMadeAs e f → (r : ℕ) → (e.active ≡ Some r → IsCompleteOn e r) → IsToHave (Some e) r → IsCompleteOn f r → IsCompleteOn e r
-complete_before e f still r led (inl all) complete = subst (λ (nodes : List ℕ). (slice_index nodes r == 0) ≡ false) (still.complete all) complete
+complete_before e f still r led (inl all) complete = subst (λ (nodes : List ℕ). (slice_index nodes r == 0) ≡ false) (still.complete (all_apart e.attributes all)) complete
 complete_before e f still r led (inr active) complete = led active
 
 -- a checkpoint has its updates on all replicas, or has an active, as it did before
@@ -426,7 +426,8 @@ module _ (k : ℕ) (call : CallId) (update : Update) (m : Machine) (stay : Stays
   after_stays inv bare (labels.Put j q reply) allowed leaves = after_put (Stays k call update) m j q reply stay (λ s x copied on. put_stays j q s x on)
   after_stays inv bare (labels.Failed r true) allowed leaves = failure_stays inv bare r allowed.1 leaves
   after_stays inv bare (labels.Failed r false) allowed leaves = stay
-  after_stays inv bare l allowed leaves = absurd allowed
+  after_stays inv bare (labels.Joined r (Some incarnation)) allowed leaves = record { given = stay.given; made = stay.made; some = stay.some; led = stay.led; its = stay.its }
+  after_stays inv bare (labels.Joined r None) allowed leaves = stay
 
 -- ---- the label that answers OK
 

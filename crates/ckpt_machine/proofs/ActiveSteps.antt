@@ -74,6 +74,7 @@ module _ (m : Machine) (shapes : ℕ → Shape) (inv : InvariantIn shapes m) (s 
   unmarked_ends unmarked = record {
     up = inv.up;
     first_up = inv.first_up;
+    incarnations = inv.incarnations;
     none_live = inv.none_live;
     rises = inv.rises;
     up_to = inv.up_to;
@@ -171,7 +172,7 @@ module _ (m : Machine) (shapes : ℕ → Shape) (inv : InvariantIn shapes m) (s 
       lives = refl;
       home = refl;
       handle = λ there. there;
-      making = λ v at. making_still m then_machine z v (λ w at. record { there = at.there; declares = at.declares; nodes = at.nodes; reserved = at.reserved; only = at.only; within = at.within }) at;
+      making = λ v at. making_still m then_machine z v (λ w at. record { there = at.there; declares = at.declares; nodes = at.nodes; reserved = at.reserved; only = at.only; within = at.within; no_later = at.no_later }) at;
       made = λ k was. was;
       later = λ k was e found. (e, found, LooksLater-refl z (shapes k).marks e);
       owners = λ j was q. elim (j == a.ckpt) as (λ b. (j == a.ckpt) ≡ b → is_owner z.call ((cond b (marked_so (shapes a.ckpt) marks) (shapes j)).owners q) ≡ is_owner z.call ((shapes j).owners q)) [
@@ -194,6 +195,7 @@ module _ (m : Machine) (shapes : ℕ → Shape) (inv : InvariantIn shapes m) (s 
     active_keeps leaves same marked own = record {
       up = inv.up;
       first_up = inv.first_up;
+      incarnations = inv.incarnations;
       none_live = inv.none_live;
       rises = inv.rises;
       up_to = inv.up_to;

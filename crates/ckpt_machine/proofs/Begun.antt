@@ -119,6 +119,7 @@ module _ (m : Machine) (shapes : ℕ → Shape) (inv : InvariantIn shapes m) (ca
   begun_keeps word pending o idle client calls own = record {
     up = inv.up;
     first_up = inv.first_up;
+    incarnations = inv.incarnations;
     none_live = inv.none_live;
     rises = inv.rises;
     up_to = inv.up_to;

@@ -1,5 +1,5 @@
 -- The first nodes come up, where none is up: what holds stays.
-use Rattle.std.proofs.Common.{◌≡◌, ℕ, Option, Some, None, true, false, ◌==◌, refl, sym, ap, subst, ◌∙◌}
+use Rattle.std.proofs.Common.{◌≡◌, ℕ, Option, Some, None, true, false, ◌==◌, refl, sym, ap, subst, ◌∙◌, arith}
 use Rattle.std.specs.Prelude.{IfSome, slice_index}
 use Rattle.ckpt_types.specs.declared.identities.CallId.{CallId}
 use Rattle.ckpt_types.specs.declared.identities.Who.{Who}
@@ -59,6 +59,7 @@ module _ (m : Machine) (shapes : ℕ → Shape) (inv : InvariantIn shapes m) (n 
   nodes_keep = record {
     up = refl;
     first_up = λ never. never;
+    incarnations = record { nodes = refl; first_nodes = refl; no_later = λ r. omega arith };
     none_live = λ still. inv.none_live none;
     rises = inv.rises;
     up_to = inv.up_to;

@@ -250,10 +250,11 @@ module _ (m : Machine) (inv : Invariant m) (w : Who) (s : CallState) (held : m.i
   goes_on_or_ends (labels.Moved t) due = inl (still (after m (labels.Moved t)) held)
   goes_on_or_ends (labels.Failed r true) due = failed_on r
   goes_on_or_ends (labels.Failed r false) due = inl (still m held)
+  goes_on_or_ends (labels.Joined r (Some incarnation)) due = inl (still (after m (labels.Joined r (Some incarnation))) held)
+  goes_on_or_ends (labels.Joined r None) due = inl (still m held)
   goes_on_or_ends (labels.Shown k replicas) due = inl (still m held)
   goes_on_or_ends (labels.Pulled k reply) due = inl (after_pull (λ n. IsCallInHand n s.call) m k reply due (still m held) (λ x from none. still _ held))
   goes_on_or_ends (labels.Put k r reply) due = inl (after_put (λ n. IsCallInHand n s.call) m k r reply (still m held) (λ z x copied on. still _ held))
-  goes_on_or_ends l due = absurd due
 
 -- THE LAW: at each label of a run
 pub calls_end : OfEachRun CallsEnd

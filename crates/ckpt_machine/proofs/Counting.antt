@@ -1,7 +1,7 @@
 -- Each label counts up by at most one.
 use Rattle.std.proofs.Common.{◌≡◌, ◌⊎◌, ℕ, zero, suc, ◌+◌, ◌-◌, ◌≤◌, inl, inr, List, [], ◌∷◌, ◌++◌, filter, length, Option, Some, None, Bool, true, false, cond, not, ◌==◌, ◌&&◌, ℤ, refl, sym, ap, subst, ◌∙◌, arith}
 use Rattle.std.specs.Option.{option_map}
-use Rattle.std.specs.Prelude.{slice_index, slice_set, if◌then◌else◌}
+use Rattle.std.specs.Prelude.{map, nat_lt, slice_index, slice_set, if◌then◌else◌}
 use Rattle.std.proofs.lemmas.List.{length_push}
 use Rattle.std.proofs.lemmas.Option.{same_Some}
 use Rattle.ckpt_types.specs.declared.answers.Outcome.{Outcome}
@@ -35,7 +35,7 @@ use Rattle.cluster_record.specs.LookUps.{creation_flags_of}
 use Rattle.cluster_record.specs.Makings.{making_of}
 use Rattle.cluster_record.specs.Places.{change_key, put2}
 use Rattle.cluster_record.specs.Placement.{adds}
-use Rattle.cluster_record.specs.RecordState.{RecordState, entry_of, identity_of, has_references, stays, swept, entered, created_as, new_entry, referred, opened_with, home_of, made_with, unreferred, released_all, unnamed, retaining, is_call_of, departed, moved, undone, complete_of, is_active, is_live, can_be_held, with_hold, can_lead, generation_under, with_active, active_set}
+use Rattle.cluster_record.specs.RecordState.{RecordState, all_nodes, first_nodes, entry_of, identity_of, has_references, stays, swept, entered, created_as, new_entry, referred, opened_with, home_of, made_with, unreferred, released_all, unnamed, retaining, is_call_of, departed, moved, undone, complete_of, is_active, is_live, can_be_held, with_hold, can_lead, generation_under, with_active, active_set}
 use Rattle.cluster_record.specs.StepDone.{generation_in}
 use Rattle.ckpt_machine.proofs.HeldIdentity.{with_hold-identity, with_active-identity}
 use Rattle.cluster_record.proofs.IdentityLaws.{KeepsIdentity, IdentitiesRise-change_key, IdentitiesRise-filter, IdentitiesRise-map, IdentitiesRise-push}
@@ -46,6 +46,7 @@ use Rattle.ckpt_machine.specs.Invariant.{Invariant}
 use Rattle.ckpt_machine.specs.Machine.{Machine, Applied, Broken, ReplicaState, Snapshot, Staged, CallState, empty_cluster, who}
 use Rattle.ckpt_machine.specs.Laws.{CountsUp}
 use Rattle.ckpt_machine.specs.Propagation.{source_at, copied, with_pulled, target_at, replica_from, with_put}
+use Rattle.ckpt_machine.specs.NodeJoins.{joined_at}
 use Rattle.ckpt_machine.specs.Runs.{Counts}
 use Rattle.ckpt_machine.specs.After.{given_at, chosen_at, with_pending, with_closed, goes_with, without_syncs, left_over, left_in_hand, ended_calls, with_record, record_step, with_tables, with_given, with_started, with_gone_on, created_for, retained_for, change_replica, with_committed, committed_slot, with_applied, with_marks, without_marks, marks_ended, with_installed, with_lead, effect_of, after_beginning, begun_call, call_begun, changed, pulled_by, kept_behind, step_of, on_ok, on_look, without_making, at_some, replica_under, snapshot_under, opened_state}
 use Rattle.ckpt_machine.specs.Whose.{is_of}
@@ -101,8 +102,8 @@ snapshot_under-Some None was s gone = absurd (cc gone)
 snapshot_under-Some (Some e) was s is = is
 
 -- after a step of the record
-pub Counts-record : (m : Machine) (R : RecordState) (n : ℕ) → Counts m n → R.last_identity ≤ n + 1 → ((k : ℕ) (e : Entry) (c : ℕ) → entry_of k R.entries ≡ Some e → slice_index e.references c ≤ n + 1) → ((k : ℕ) (e : Entry) → entry_of k R.entries ≡ Some e → e.generation ≤ n + 1 + 1) → Counts (with_record m R) (n + 1)
-Counts-record m R n counts identity references generations = record {
+pub Counts-record : (m : Machine) (R : RecordState) (n : ℕ) → Counts m n → R.last_identity ≤ n + 1 → ((k : ℕ) (e : Entry) (c : ℕ) → entry_of k R.entries ≡ Some e → slice_index e.references c ≤ n + 1) → ((k : ℕ) (e : Entry) → entry_of k R.entries ≡ Some e → e.generation ≤ n + 1 + 1) → R.last_incarnations ≡ m.cluster.last_incarnations → Counts (with_record m R) (n + 1)
+Counts-record m R n counts identity references generations lives = record {
   next = λ a. omega (arith, counts.next a);
   last_handles = λ c. omega (arith, counts.last_handles c);
   last_iterations = λ c. omega (arith, counts.last_iterations c);
@@ -115,6 +116,7 @@ Counts-record m R n counts identity references generations = record {
   identity = identity;
   generations = generations;
   references = references;
+  incarnations = λ r. omega (arith, counts.incarnations r, ap (λ lives. slice_index lives r) lives);
 }
 
 -- one replica changed counts at most one effect more
@@ -132,6 +134,7 @@ Counts-replica m k r x n counts few = record {
   identity = omega arith;
   generations = λ j e is. omega (arith, counts.generations j e is);
   references = λ j e c is. omega (arith, counts.references j e c is);
+  incarnations = λ q. omega (arith, counts.incarnations q);
 }
 
 -- one replica that counts no more
@@ -149,6 +152,7 @@ Counts-replaced m k r x n counts few = record {
   identity = counts.identity;
   generations = counts.generations;
   references = counts.references;
+  incarnations = counts.incarnations;
 }
 
 -- nothing counts in the empty cluster
@@ -163,6 +167,7 @@ counts_empty = record {
   identity = omega arith;
   generations = λ k e is. absurd (cc is);
   references = λ k e c is. absurd (cc is);
+  incarnations = λ r. omega (arith, slice_index-replicate 8 r);
 }
 
 -- ---- references
@@ -253,19 +258,20 @@ OneMore-led r e = elim (can_lead r e) as (λ b. OneMore e (cond b (record e { ac
 
 -- ---- the record
 
--- at most one identity more is given, and at most one reference more of each client, and no generation rises by more than one
+-- at most one identity more is given, and at most one reference more of each client, no generation rises by more than one, and no node joins
 record CountsOn (R S : RecordState) : Type 0 where
   rises : IdentitiesRise S.entries
   last : S.last_identity ≤ R.last_identity + 1
   few : (n : ℕ) → Few n R.entries → Few (n + 1) S.entries
   low : (n : ℕ) → Low n R.entries → Low (n + 1) S.entries
+  lives : S.last_incarnations ≡ R.last_incarnations
 
 CountsOn-swept : (R S : RecordState) → CountsOn R S → CountsOn R (swept S)
-CountsOn-swept R S on = record { rises = IdentitiesRise-filter (stays S.moment) S.entries on.rises; last = on.last; few = λ n few. Few-filter (n + 1) (stays S.moment) S.entries on.rises (on.few n few); low = λ n low. Low-filter (n + 1) (stays S.moment) S.entries on.rises (on.low n low) }
+CountsOn-swept R S on = record { rises = IdentitiesRise-filter (stays S.moment) S.entries on.rises; last = on.last; few = λ n few. Few-filter (n + 1) (stays S.moment) S.entries on.rises (on.few n few); low = λ n low. Low-filter (n + 1) (stays S.moment) S.entries on.rises (on.low n low); lives = on.lives }
 
 module _ (R : RecordState) (rises : IdentitiesRise R.entries) (up_to : AllUpTo R.last_identity R.entries) where
   same_on : CountsOn R R
-  same_on = record { rises = rises; last = omega arith; few = λ n few k e c found. let a = few k e c found in omega (arith, a); low = λ n low k e found. let a = low k e found in omega (arith, a) }
+  same_on = record { rises = rises; last = omega arith; few = λ n few k e c found. let a = few k e c found in omega (arith, a); low = λ n low k e found. let a = low k e found in omega (arith, a); lives = refl }
 
   changed_on : (k : ℕ) (f : Entry → Entry) → KeepsIdentity f → ((e : Entry) → OneMore e (f e)) → CountsOn R (record R { entries = change_key identity_of k f R.entries })
   changed_on k f keeps more = record {
@@ -273,6 +279,7 @@ module _ (R : RecordState) (rises : IdentitiesRise R.entries) (up_to : AllUpTo R
     last = omega arith;
     few = λ n few. Few-of n R.entries (change_key identity_of k f R.entries) (ComesOf-change_key OneMore OneMore-same f keeps more k R.entries) few;
     low = λ n low. Low-of n R.entries (change_key identity_of k f R.entries) (ComesOf-change_key OneMore OneMore-same f keeps more k R.entries) low;
+    lives = refl;
   }
 
   filter_on : (p : Entry → Bool) → CountsOn R (record R { entries = filter p R.entries })
@@ -281,6 +288,7 @@ module _ (R : RecordState) (rises : IdentitiesRise R.entries) (up_to : AllUpTo R
     last = omega arith;
     few = λ n few k e c found. let a = Few-filter n p R.entries rises few k e c found in omega (arith, a);
     low = λ n low k e found. let a = Low-filter n p R.entries rises low k e found in omega (arith, a);
+    lives = refl;
   }
 
   departed_on : (c : ℕ) → CountsOn R (departed c R)
@@ -289,6 +297,7 @@ module _ (R : RecordState) (rises : IdentitiesRise R.entries) (up_to : AllUpTo R
     last = omega arith;
     few = λ n few. Few-of n (filter others R.entries) (departed c R).entries (ComesOf-map OneMore (released_all c R.moment) (released_all-identity c R.moment) (OneMore-released_all c R.moment) (filter others R.entries)) (Few-filter n others R.entries rises few);
     low = λ n low. Low-of n (filter others R.entries) (departed c R).entries (ComesOf-map OneMore (released_all c R.moment) (released_all-identity c R.moment) (OneMore-released_all c R.moment) (filter others R.entries)) (Low-filter n others R.entries rises low);
+    lives = refl;
   }
     where
       others : Entry → Bool
@@ -315,6 +324,7 @@ module _ (R : RecordState) (rises : IdentitiesRise R.entries) (up_to : AllUpTo R
       | inl was ↦ (let a = low k e was in omega (arith, a))
       | inr new ↦ subst (λ (x : Entry). x.generation ≤ n + 1 + 1) new (omega arith)
     ];
+    lives = refl;
   }
 
   created_for_on : (call : CallId) (ask : Ask) → CountsOn R (created_for call ask R)
@@ -394,11 +404,11 @@ CountsOne-ended_at_once end ask p t = record { handles = omega arith; iterations
 
 -- other calls in hand, whose snapshots have no more
 Counts-in_hand : (m : Machine) (f : Who → Option CallState) (n : ℕ) → Counts m n → ((a : Who) (s : CallState) (x : Snapshot) → f a ≡ Some s → s.snapshot ≡ Some x → length x.effects ≤ n) → Counts (record m { in_hand = f }) n
-Counts-in_hand m f n counts few = record { copies = few; next = counts.next; last_handles = counts.last_handles; last_iterations = counts.last_iterations; effects = counts.effects; snapshots = counts.snapshots; identity = counts.identity; generations = counts.generations; references = counts.references }
+Counts-in_hand m f n counts few = record { copies = few; next = counts.next; last_handles = counts.last_handles; last_iterations = counts.last_iterations; effects = counts.effects; snapshots = counts.snapshots; identity = counts.identity; generations = counts.generations; references = counts.references; incarnations = counts.incarnations }
 
 -- other calls that are not dispatched
 Counts-pending : (m : Machine) (a : ActorName) (change : PendingCalls → PendingCalls) (n : ℕ) → Counts m n → Counts (with_pending a change m) n
-Counts-pending m a change n counts = record { next = counts.next; last_handles = counts.last_handles; last_iterations = counts.last_iterations; effects = counts.effects; snapshots = counts.snapshots; copies = counts.copies; identity = counts.identity; generations = counts.generations; references = counts.references }
+Counts-pending m a change n counts = record { next = counts.next; last_handles = counts.last_handles; last_iterations = counts.last_iterations; effects = counts.effects; snapshots = counts.snapshots; copies = counts.copies; identity = counts.identity; generations = counts.generations; references = counts.references; incarnations = counts.incarnations }
 
 -- some calls are in hand no more
 Counts-dropped : (m : Machine) (drops : Who → Bool) (n : ℕ) → Counts m n → Counts (record m { in_hand = λ w. if drops w then None else m.in_hand w }) n
@@ -416,10 +426,11 @@ module _ (m : Machine) (n : ℕ) (counts : Counts m n) where
     identity = omega arith;
     generations = λ k e is. omega (arith, counts.generations k e is);
     references = λ k e c is. omega (arith, counts.references k e c is);
+    incarnations = λ r. omega (arith, counts.incarnations r);
   }
 
   on_record : (R : RecordState) → CountsOn m.cluster R → Counts (with_record m R) (n + 1)
-  on_record R on = Counts-record m R n counts (let a = on.last in let b = counts.identity in omega (arith, a, b)) (on.few n counts.references) (on.low n counts.generations)
+  on_record R on = Counts-record m R n counts (let a = on.last in let b = counts.identity in omega (arith, a, b)) (on.few n counts.references) (on.low n counts.generations) on.lives
 
   on_step : (step : RecordState → RecordState) → CountsOn m.cluster (step m.cluster) → Counts (record_step step m) (n + 1)
   on_step step on = on_record (swept (step m.cluster)) (CountsOn-swept m.cluster (step m.cluster) on)
@@ -436,6 +447,7 @@ module _ (m : Machine) (n : ℕ) (counts : Counts m n) where
     identity = on.identity;
     generations = on.generations;
     references = on.references;
+    incarnations = on.incarnations;
   }
 
   -- one replica changed
@@ -458,6 +470,7 @@ module _ (m : Machine) (n : ℕ) (counts : Counts m n) where
     identity = more.identity;
     generations = more.generations;
     references = more.references;
+    incarnations = more.incarnations;
   }
   pulled_on k reply o is = more
 
@@ -577,10 +590,10 @@ module _ (m : Machine) (n : ℕ) (rises : IdentitiesRise m.cluster.entries) (up_
       tables_on m n counts (without_syncs handle a then_machine) (Counts-pending _ a (left_over handle) (n + 1) dropped) a (closing (asked s.op)) (subst (λ t. CountsOne (m.tables a) (closing (asked s.op) t)) (sym same) (CountsOne-closing (asked s.op) (m.tables a)))
 
   changed_counts : (verb : Verb) (k r : Option ℕ) (reply : StepReply) → Counts (changed m s verb k r reply) (n + 1)
-  changed_counts verbs.Enter k r reply = ok_on m n counts reply _ (some_on m n counts r _ (λ r. tables_on m n counts _ (on_step m n counts (entered (client_of s.call) r s.call.number) (record { rises = rises; last = omega arith; few = (same_on m.cluster rises up_to).few; low = (same_on m.cluster rises up_to).low })) s.call.actor (registering (asked s.op)) (CountsOne-registering (asked s.op) (m.tables s.call.actor))))
+  changed_counts verbs.Enter k r reply = ok_on m n counts reply _ (some_on m n counts r _ (λ r. tables_on m n counts _ (on_step m n counts (entered (client_of s.call) r s.call.number) (record { rises = rises; last = omega arith; few = (same_on m.cluster rises up_to).few; low = (same_on m.cluster rises up_to).low; lives = refl })) s.call.actor (registering (asked s.op)) (CountsOne-registering (asked s.op) (m.tables s.call.actor))))
   changed_counts verbs.Leave k r reply = ok_on m n counts reply _ (Counts-pending _ s.call.actor (λ p. no_pending) (n + 1) (Counts-dropped _ (is_of s.call.actor) (n + 1) (tables_on m n counts _ (on_step m n counts (departed (client_of s.call)) (departed_on m.cluster rises up_to (client_of s.call))) s.call.actor emptied (record { handles = omega arith; iterations = omega arith }))))
   changed_counts verbs.Create k r reply = ok_on m n counts reply _ (on_step m n counts (created_for s.call (asked s.op)) (created_for_on m.cluster rises up_to s.call (asked s.op)))
-  changed_counts verbs.Reserve k r reply = ok_on m n counts reply _ (both_on m n counts k r _ (λ k r. let c = more m n counts in record { next = c.next; last_handles = c.last_handles; last_iterations = c.last_iterations; effects = c.effects; snapshots = c.snapshots; copies = c.copies; identity = c.identity; generations = c.generations; references = c.references }))
+  changed_counts verbs.Reserve k r reply = ok_on m n counts reply _ (both_on m n counts k r _ (λ k r. let c = more m n counts in record { next = c.next; last_handles = c.last_handles; last_iterations = c.last_iterations; effects = c.effects; snapshots = c.snapshots; copies = c.copies; identity = c.identity; generations = c.generations; references = c.references; incarnations = c.incarnations }))
   changed_counts verbs.Finish k r reply = ok_on m n counts reply _ (some_on m n counts k _ (λ k. entry_given k (made_with (home_of (client_of s.call) m.cluster) m.cluster.up (client_of s.call)) (λ e. refl) (OneMore-made (home_of (client_of s.call) m.cluster) m.cluster.up (client_of s.call))))
   changed_counts verbs.Undo k r reply = ok_on m n counts reply _ (some_on m n counts k _ (undone_on m n counts rises up_to))
   changed_counts verbs.Open k r reply = ok_on m n counts reply _ (some_on m n counts k _ (λ k. entry_given k (opened_with (home_of (client_of s.call) m.cluster) m.cluster.up (client_of s.call)) (opened_with-identity (home_of (client_of s.call) m.cluster) m.cluster.up (client_of s.call)) (OneMore-opened (home_of (client_of s.call) m.cluster) m.cluster.up (client_of s.call))))
@@ -623,6 +636,7 @@ begun_counts m call op end n counts = tables_on m n counts (begun_call m call op
   identity = omega arith;
   generations = λ k e is. omega (arith, counts.generations k e is);
   references = λ k e c is. omega (arith, counts.references k e c is);
+  incarnations = λ r. omega (arith, counts.incarnations r);
 }) call.actor (ended_at_once end (asked op) (m.pending call.actor)) (CountsOne-ended_at_once end (asked op) (m.pending call.actor) (m.tables call.actor))
 
 -- ---- the failure of a node
@@ -685,7 +699,37 @@ module _ (m : Machine) (n : ℕ) (inv : Invariant m) (few : Counts m n) (r : ℕ
         let a = it.left.fewer c in
         let b = few.references k it.e c it.was in
         omega (arith, a, b));
+    incarnations = λ q. omega (arith, few.incarnations q);
   }
+
+-- ---- the lives of nodes
+
+-- a node that comes up first is in its first life
+first_life : (n r : ℕ) → slice_index (first_nodes n) r ≤ 1
+first_life n r = within all_nodes r where
+  by : (b : Bool) → cond b 1 0 ≤ 1
+  by true = omega arith
+  by false = omega arith
+
+  within : (nodes : List ℕ) (i : ℕ) → slice_index (map (λ r. if nat_lt r n then 1 else 0) nodes) i ≤ 1
+  within [] i = omega arith
+  within (r ∷ nodes) zero = by (nat_lt r n)
+  within (r ∷ nodes) (suc i) = within nodes i
+
+-- a node that joins is in its next one
+joined_counts : (m : Machine) (n : ℕ) (r : ℕ) → Counts m n → Counts (joined_at r m) (n + 1)
+joined_counts m n r few = let c = more m n few in record {
+  next = c.next;
+  last_handles = c.last_handles;
+  last_iterations = c.last_iterations;
+  effects = c.effects;
+  snapshots = c.snapshots;
+  copies = c.copies;
+  identity = c.identity;
+  generations = c.generations;
+  references = c.references;
+  incarnations = λ q. slice_index-one_more m.cluster.last_incarnations r q n few.incarnations;
+}
 
 -- ---- any label
 
@@ -705,11 +749,12 @@ counts_up m (labels.Stepped call op verb k r reply end details) n inv is few =
       | inr other ↦ on.copies a z x other.1 has
     ])))
 counts_up m (labels.Word by word said) n inv is few = more m n few
-counts_up m (labels.Nodes nodes) n inv is few = let c = more m n few in record { next = c.next; last_handles = c.last_handles; last_iterations = c.last_iterations; effects = c.effects; snapshots = c.snapshots; copies = c.copies; identity = c.identity; generations = c.generations; references = c.references }
-counts_up m (labels.Moved t) n inv is few = on_record m n few (moved t m.cluster) (record { rises = IdentitiesRise-filter (stays t) m.cluster.entries inv.holds.rises; last = omega arith; few = λ n few k e c found. let a = Few-filter n (stays t) m.cluster.entries inv.holds.rises few k e c found in omega (arith, a); low = λ n low k e found. let a = Low-filter n (stays t) m.cluster.entries inv.holds.rises low k e found in omega (arith, a) })
+counts_up m (labels.Nodes nodes) n inv is few = let c = more m n few in record { next = c.next; last_handles = c.last_handles; last_iterations = c.last_iterations; effects = c.effects; snapshots = c.snapshots; copies = c.copies; identity = c.identity; generations = c.generations; references = c.references; incarnations = λ r. omega (arith, first_life nodes r) }
+counts_up m (labels.Moved t) n inv is few = on_record m n few (moved t m.cluster) (record { rises = IdentitiesRise-filter (stays t) m.cluster.entries inv.holds.rises; last = omega arith; few = λ n few k e c found. let a = Few-filter n (stays t) m.cluster.entries inv.holds.rises few k e c found in omega (arith, a); low = λ n low k e found. let a = Low-filter n (stays t) m.cluster.entries inv.holds.rises low k e found in omega (arith, a); lives = refl })
 counts_up m (labels.Failed r true) n inv is few = failed_counts m n inv few r
 counts_up m (labels.Failed r false) n inv is few = more m n few
+counts_up m (labels.Joined r (Some incarnation)) n inv is few = joined_counts m n r few
+counts_up m (labels.Joined r None) n inv is few = more m n few
 counts_up m (labels.Shown k replicas) n inv is few = more m n few
 counts_up m (labels.Pulled k reply) n inv is few = pulled_on m n few k reply (source_at m k) refl
 counts_up m (labels.Put k r reply) n inv is few = put_on m n few k r reply (m.snapshots k) (target_at m k r) refl
-counts_up m l n inv is few = absurd is

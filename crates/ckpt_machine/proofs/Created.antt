@@ -145,6 +145,7 @@ module _ (m : Machine) (shapes : ℕ → Shape) (inv : InvariantIn shapes m) (s 
           within = λ r some. at.within r (ap is_some (sym (
               ap (λ o. reservation_under o r (m.reserved x.ckpt r)) still
               ∙ ap (λ b. cond b (m.reserved x.ckpt r) None) (ap (λ nodes. slice_index nodes r == 0) was.0.complete ∙ ap (λ n. n == 0) (slice_index-replicate 8 r)))) ∙ some);
+          no_later = at.no_later;
         }
 
     -- all that it looks at is as it was
@@ -192,6 +193,7 @@ module _ (m : Machine) (shapes : ℕ → Shape) (inv : InvariantIn shapes m) (s 
   created_keeps own = record {
     up = inv.up;
     first_up = inv.first_up;
+    incarnations = inv.incarnations;
     none_live = inv.none_live;
     rises = IdentitiesRise-push m.cluster.last_identity m.cluster.entries new inv.rises inv.up_to (omega arith);
     up_to = AllUpTo-push m.cluster.last_identity m.cluster.entries new inv.up_to refl;

@@ -32,38 +32,38 @@ use Rattle.ckpt_machine.proofs.RunExamples.{sized}
 -- ---- the words of the scripts
 
 -- a call begins, and goes on
-abbrev begins : CallId → Op → Label
+abbrev pub begins : CallId → Op → Label
 begins call op = labels.Began call op None beside.Nothing
 
 -- a client enters on a node
-abbrev enters : CallId → ℕ → List Label
+abbrev pub enters : CallId → ℕ → List Label
 enters call r =
     begins call (an_initialize r)
     ∷ labels.Stepped call opwords.Client verbs.Enter None (Some r) words.Ok (Some (Done answers.Version)) beside.Nothing
     ∷ []
 
 -- c0 opens a checkpoint with these flags that is not there, with one section of at most 16 bytes, and c1 opens it
-abbrev makes : ℕ → Op
+abbrev pub makes : ℕ → Op
 makes flags = ops.Open 0 (codes "ck") (checkpoint_read + checkpoint_write + checkpoint_create) end_of_time (Some (record (sized 16 1) { creation_flags = flags }))
 
-abbrev opens : Op
+abbrev pub opens : Op
 opens = ops.Open 0 (codes "ck") checkpoint_write end_of_time None
 
 -- a step of an open, of the record and at a node
-abbrev records : CallId → Verb → Option Outcome → Label
+abbrev pub records : CallId → Verb → Option Outcome → Label
 records call verb end = labels.Stepped call opwords.Open verb (Some 1) None words.Ok end beside.Nothing
 
-abbrev reserves : ℕ → Label
+abbrev pub reserves : ℕ → Label
 reserves r = labels.Stepped (call_numbered 2) opwords.Open verbs.Reserve (Some 1) (Some r) words.Ok None beside.Nothing
 
 -- a write of these bytes from there on, a step of it by which it goes on, and the one that ends it OK
-abbrev writes : ℕ → List ℕ → Op
+abbrev pub writes : ℕ → List ℕ → Op
 writes offset bytes = ops.Write 0 (updates.Write (record { id = []; offset = offset; bytes = bytes } ∷ []))
 
 abbrev step : CallId → Verb → ℕ → StepReply → Label
 step call verb r reply = labels.Stepped call opwords.Write verb (Some 1) (Some r) reply None beside.Nothing
 
-abbrev ends : CallId → Verb → ℕ → Label
+abbrev pub ends : CallId → Verb → ℕ → Label
 ends call verb r = labels.Stepped call opwords.Write verb (Some 1) (Some r) words.Ok answered_ok beside.Nothing
 
 -- a read of c0 of all that is there, and its step at a node, which gives these bytes

@@ -54,6 +54,7 @@ module _ (m : Machine) (shapes : ℕ → Shape) (inv : InvariantIn shapes m) whe
     dropped_keeps = record {
       up = inv.up;
       first_up = inv.first_up;
+      incarnations = inv.incarnations;
       none_live = inv.none_live;
       rises = inv.rises;
       up_to = inv.up_to;
@@ -78,6 +79,7 @@ module _ (m : Machine) (shapes : ℕ → Shape) (inv : InvariantIn shapes m) whe
   pending_keeps pending calls = record {
     up = inv.up;
     first_up = inv.first_up;
+    incarnations = inv.incarnations;
     none_live = inv.none_live;
     rises = inv.rises;
     up_to = inv.up_to;

@@ -43,6 +43,7 @@ use Rattle.cluster_record.specs.RecordState.{RecordState, is_live_client, is_up}
 use Rattle.ckpt_machine.specs.After.{after}
 use Rattle.ckpt_machine.specs.Beginning.{begin_end, callbacks_told}
 use Rattle.ckpt_machine.specs.Driving.{driver_end, driver_taken, event_ckpt, event_node, event_end, event_refusal}
+use Rattle.ckpt_machine.specs.NodeJoins.{join_answer, MayJoin}
 use Rattle.ckpt_machine.specs.Due.{Told, IsDue, IsDueStep, IsDone, IsBegun, IsEventAnswer, MayAnswer, MayBegin, MayFail, driver_of, due, payload_due, details_due, ended_details, step_told, kept_off, look_word, look_end, look_details, standing_of}
 use Rattle.ckpt_machine.specs.Invariant.{Invariant}
 use Rattle.ckpt_machine.specs.Listing.{listing_at}
@@ -159,12 +160,19 @@ abbrev is_client : ActorName → Bool
 is_client (Client c) = nat_lt c client_numbers
 is_client (Node r) = false
 
--- a node or a place that there is, of an Initialize, an open, an update or a read
+-- a node or a place that there is, of an Initialize, an open, an update, a read, a close, a synchronisation or the setting of an active; an unlink, a
+-- Finalize and a dispatch name neither
 abbrev is_placed : Ask → Bool
 is_placed (asks.Enter r version callbacks) = nat_lt r nodes_max
 is_placed (asks.Open place name flags timeout a) = nat_lt place places_max
 is_placed (asks.Change place update) = nat_lt place places_max
 is_placed (asks.Read place elements) = nat_lt place places_max
+is_placed (asks.Close place) = nat_lt place places_max
+is_placed (asks.Unlink name) = true
+is_placed (asks.Synchronize place timeout) = nat_lt place places_max
+is_placed (asks.SetActive place) = nat_lt place places_max
+is_placed asks.Leave = true
+is_placed (asks.Dispatch flags) = true
 is_placed ask = false
 
 -- an Initialize is of a client that is not live, on a node that is up
@@ -181,11 +189,12 @@ began_told m call op end =
     let first = record call { number = m.next call.actor } in
     labels.Began first op (begin_end (standing_of m call.actor op) (asked op)) (callbacks_told end (asked op) (m.pending call.actor))
 
--- the due label of this call, this failure, this show, pull or put, whatever the label tells of it
+-- the due label of this call, this failure, this join, this show, pull or put, whatever the label tells of it
 abbrev pub due_label : Machine → Label → Option Label
 due_label m (labels.Began call op end details) = label_begun (may_go m call op) (m.in_hand (Actor call.actor)) (began_told m call op end)
 due_label m (labels.Stepped call op verb k r reply end details) = label_told m (m.in_hand (stepped_as call op))
 due_label m (labels.Failed r was_up) = if nat_lt r nodes_max then Some (labels.Failed r (is_up r m.cluster)) else None
+due_label m (labels.Joined r told) = if nat_lt r nodes_max then Some (labels.Joined r (join_answer r m.cluster)) else None
 due_label m (labels.Shown k replicas) = Some (labels.Shown k (listing_at m k))
 due_label m (labels.Pulled k reply) = Some (labels.Pulled k (pull_answer m k))
 due_label m (labels.Put k r reply) = Some (labels.Put k r (put_answer m k r))
@@ -231,6 +240,12 @@ placed_is (asks.Enter r version callbacks) is = ltb-true r nodes_max is
 placed_is (asks.Open place name flags timeout a) is = ltb-true place places_max is
 placed_is (asks.Change place update) is = ltb-true place places_max is
 placed_is (asks.Read place elements) is = ltb-true place places_max is
+placed_is (asks.Close place) is = ltb-true place places_max is
+placed_is (asks.Unlink name) is = tt
+placed_is (asks.Synchronize place timeout) is = ltb-true place places_max is
+placed_is (asks.SetActive place) is = ltb-true place places_max is
+placed_is asks.Leave is = tt
+placed_is (asks.Dispatch flags) is = tt
 placed_is ask is = absurd (false≢true is)
 
 may_is : (R : RecordState) (c : ℕ) (ask : Ask) → may_begin R c ask ≡ true → MayBegin R c ask
@@ -263,11 +278,17 @@ failure_due : (m : Machine) (r : ℕ) (was_up below : Bool) → nat_lt r nodes_m
 failure_due m r was_up true below told = (ltb-true r nodes_max below, cc told)
 failure_due m r was_up false below told = absurd (cc told)
 
+join_due : (m : Machine) (r : ℕ) (answer : Option ℕ) (below : Bool) → nat_lt r nodes_max ≡ below
+    → (if below then Some (labels.Joined r (join_answer r m.cluster)) else None) ≡ Some (labels.Joined r answer) → MayJoin m.cluster r answer
+join_due m r answer true below told = (ltb-true r nodes_max below, cc told)
+join_due m r answer false below told = absurd (cc told)
+
 -- a label that is the due one is due
 pub label_due : (m : Machine) (l : Label) → due_label m l ≡ Some l → IsDue m l
 label_due m (labels.Began call op end details) is = begin_due m call op end details _ (m.in_hand (Actor call.actor)) refl refl is
 label_due m (labels.Stepped call op verb k r reply end details) is = step_due m call op _ (m.in_hand (stepped_as call op)) refl is
 label_due m (labels.Failed r was_up) is = failure_due m r was_up (nat_lt r nodes_max) refl is
+label_due m (labels.Joined r answer) is = join_due m r answer (nat_lt r nodes_max) refl is
 label_due m (labels.Shown k replicas) is = cc is
 label_due m (labels.Pulled k reply) is = cc is
 label_due m (labels.Put k r reply) is = cc is

@@ -1,6 +1,6 @@
 -- What is kept of each replica and each snapshot, in a hand too, at each step; and what a step of the record that leaves what is made leaves of it.
 use Rattle.std.proofs.Common.{◌≡◌, ◌⊎◌, ℕ, ◌≤◌, inl, inr, List, Option, Some, None, Bool, true, false, sym, ap, subst, ◌∙◌, arith}
-use Rattle.std.specs.Prelude.{IsSomeAnd, IfSome}
+use Rattle.std.specs.Prelude.{IsSome, IsSomeAnd, IfSome}
 use Rattle.std.proofs.lemmas.Option.{same_Some}
 use Rattle.ckpt_types.specs.declared.identities.Who.{Who}
 use Rattle.ckpt_types.specs.Asks.{update_of}
@@ -99,7 +99,7 @@ IsOfSource-goes e f s goes of =
       led = λ present.
           let now : s.generation ≡ f.generation = present in
           let same : f.generation ≡ e.generation = omega (arith, within, rises, now) in
-          still.led same (of.led (now ∙ same));
+          subst IsSome (sym (still.active same)) (of.led (now ∙ same));
     }
 
 module _ (m : Machine) (inv : Invariant m) (history : HasHistory m) where

@@ -669,9 +669,10 @@ module _ (Q : Option Entry → ℕ → ReplicaState → Type 0) (S : Entry → S
     after_each (labels.Shown j replicas) allowed is = each
     after_each (labels.Failed r true) allowed is = failed_each Q S When log kept m inv history each r
     after_each (labels.Failed r false) allowed is = each
+    after_each (labels.Joined r (Some incarnation)) allowed is = each
+    after_each (labels.Joined r None) allowed is = each
     after_each (labels.Pulled k reply) allowed is = after_pull Each m k reply is each (pulled_each k)
     after_each (labels.Put k r reply) allowed is = after_put_over Each m k r reply is each (λ s x at over. put_each k r s x (copied_may k s over.on.entry over.on.found at) over)
-    after_each l allowed is = absurd is
 
   -- so it holds in a run; that a call began stands in the whole log
   pub run_each : (log : List Label) → IsKept Q S log → IsRun log → Each (last log)

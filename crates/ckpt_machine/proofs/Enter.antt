@@ -113,7 +113,7 @@ module _ (m : Machine) (shapes : ℕ → Shape) (inv : InvariantIn shapes m) (s 
 
   -- the client is in the record
   entered_keeps : InvariantIn shapes (ending s (record_step (entered c r s.call.number) m))
-  entered_keeps = swept_keeps m shapes inv s held (ap (λ d. is_plain d s.snapshot) is) R inv.rises inv.up_to refl refl refl (λ k f found. (f, found, IsLaterEntry-refl m.cluster.up f))
+  entered_keeps = swept_keeps m shapes inv s held (ap (λ d. is_plain d s.snapshot) is) R inv.rises inv.up_to refl refl refl refl (λ k f found. (f, found, IsLaterEntry-refl m.cluster.up f))
       (λ none. absurd (let w : false ≡ true = sym (is_up-none r m.cluster none) ∙ at_enter.up in cc w))
       (λ d. subst (λ o. IfSome o (IsGoodClient m.next R d)) (sym (found_then d)) (elim (d == c) as (λ b. (d == c) ≡ b → IfSome (cond b (Some new) (find_key client_key d m.cluster.clients)) (IsGoodClient m.next R d)) [
         | true ↦ λ same. (subst (λ (n : ℕ). s.call.number < m.next (Client n)) (sym (eqb-true d c same)) given, at_enter.up)

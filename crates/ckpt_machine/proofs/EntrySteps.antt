@@ -66,6 +66,7 @@ module _ (m : Machine) (shapes : ℕ → Shape) (inv : InvariantIn shapes m) (s 
   gone_ends gone = record {
     up = inv.up;
     first_up = inv.first_up;
+    incarnations = inv.incarnations;
     none_live = inv.none_live;
     rises = inv.rises;
     up_to = inv.up_to;
@@ -256,6 +257,7 @@ module _ (m : Machine) (shapes : ℕ → Shape) (inv : InvariantIn shapes m) (s 
             reserved = at.reserved;
             only = at.only;
             within = at.within;
+            no_later = at.no_later;
           }
         where
           not_this : (g : Entry) → entry_of w.ckpt m.cluster.entries ≡ Some g → g.making ≡ Some z.call → (w.ckpt == u.ckpt) ≡ false
@@ -295,6 +297,7 @@ module _ (m : Machine) (shapes : ℕ → Shape) (inv : InvariantIn shapes m) (s 
         entry_keeps same_call spread complete_then own = record {
           up = inv.up;
           first_up = inv.first_up;
+          incarnations = inv.incarnations;
           none_live = inv.none_live;
           rises = IdentitiesRise-change_key change keeps u.ckpt m.cluster.entries inv.rises;
           up_to = AllUpTo-change_key change keeps m.cluster.last_identity u.ckpt m.cluster.entries inv.up_to;

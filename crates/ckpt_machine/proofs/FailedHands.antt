@@ -199,6 +199,7 @@ module _ (m : Machine) (shapes : ℕ → Shape) (inv : InvariantIn shapes m) (r 
               reserved = λ q had. still q ∙ reserved_at q had (q == r) refl;
               only = λ q nothing. still q ∙ either (q == r) (m.reserved making.ckpt q) (at.only q nothing);
               within = λ q some. within_then q some (still q) (q == r) refl;
+              no_later = at.no_later;
             }
           where
             either : (b : Bool) (o : Option ℕ) → o ≡ None → cond b None o ≡ None

@@ -35,7 +35,7 @@ use Rattle.ckpt_machine.proofs.ClaimExamples.{other_numbered, an_initialize, unt
 -- ---- the words of the examples
 
 -- the calls of c2
-abbrev third_numbered : ℕ → CallId
+abbrev pub third_numbered : ℕ → CallId
 third_numbered n = record { actor = Client 2; number = n }
 
 -- a checkpoint with one section of 8 bytes, by its flags, which is kept for 10 behind its last close
@@ -89,7 +89,7 @@ states_at r m = option_map (λ (x : ReplicaState). map (λ (s : Section). s.stat
 abbrev pub owner_at : ℕ → Machine → Option (Option CallId)
 owner_at r m = option_map (λ (x : ReplicaState). option_map (λ slot. slot.owner) x.slot) (m.replicas 1 r)
 
-abbrev generation_at : ℕ → Machine → Option ℕ
+abbrev pub generation_at : ℕ → Machine → Option ℕ
 generation_at r m = option_map (λ (x : ReplicaState). x.generation) (m.replicas 1 r)
 
 -- the active of the checkpoint, and its generation

@@ -1,7 +1,7 @@
 -- The invariant holds behind the failure of a node.
 use Rattle.std.proofs.Common.{◌≡◌, ℕ, ◌≤◌, ◌+◌, List, [], ◌∷◌, length, Option, Some, None, is_some, option_map, Bool, true, false, cond, ◌==◌, refl, sym, ap, subst, ◌∙◌, arith}
 use Rattle.std.specs.Prelude.{IsSome, IsSomeAnd, IfSome, Contains, slice_set, slice_index}
-use Rattle.std.proofs.lemmas.Bool.{eq-eqb}
+use Rattle.std.proofs.lemmas.Bool.{eqb-true, eq-eqb}
 use Rattle.std.proofs.lemmas.Option.{same_Some}
 use Rattle.ckpt_types.specs.declared.attributes.CreationAttributes.{CreationAttributes}
 use Rattle.ckpt_types.specs.declared.identities.ActorName.{ActorName}
@@ -31,7 +31,7 @@ use Rattle.ckpt_machine.specs.Laws.{FailuresKeep}
 use Rattle.ckpt_machine.specs.After.{replica_under, replicas_under, reservation_under, opened_state}
 use Rattle.ckpt_machine.specs.Due.{count_in}
 use Rattle.ckpt_machine.proofs.OptionLemmas.{IsSomeAnd-from, IfSome-from, IfSome-at}
-use Rattle.ckpt_machine.proofs.NodeLists.{length-slice_set, is_up-none}
+use Rattle.ckpt_machine.proofs.NodeLists.{length-slice_set, index-other, is_up-none}
 use Rattle.ckpt_machine.proofs.EntryLists.{AllStay-swept}
 use Rattle.ckpt_machine.proofs.FewerMakings.{fewer_makings}
 use Rattle.ckpt_machine.proofs.KeptLists.{among_none}
@@ -42,7 +42,7 @@ use Rattle.ckpt_machine.proofs.NodeGone.{complete_was, complete_still}
 use Rattle.ckpt_machine.proofs.FailedShape.{generation_led}
 use Rattle.ckpt_machine.proofs.FailedSpread.{spread_then}
 use Rattle.ckpt_machine.proofs.FailedHands.{shapes_then, WasEntry, was_entry, made_then, hand_then}
-use Rattle.ckpt_types.proofs.Lists.{slice_set-replicate}
+use Rattle.ckpt_types.proofs.Lists.{slice_set-replicate, slice_index-cleared}
 
 module _ (m : Machine) (shapes : ℕ → Shape) (inv : InvariantIn shapes m) (r : ℕ) where
   -- the machine behind the failure
@@ -248,6 +248,15 @@ module _ (m : Machine) (shapes : ℕ → Shape) (inv : InvariantIn shapes m) (r 
       by_node a c true among = absurd (among_none c among)
       by_node a c false among = inv.calls.begun a c among
 
+  -- ---- incarnations
+
+  -- no node is up in one beyond its last
+  no_later_then : (q : ℕ) → slice_index (slice_set m.cluster.up r 0) q ≤ slice_index m.cluster.last_incarnations q
+  no_later_then q = elim (q == r) as (λ b. (q == r) ≡ b → slice_index (slice_set m.cluster.up r 0) q ≤ slice_index m.cluster.last_incarnations q) [
+    | true ↦ λ same. (let gone : slice_index (slice_set m.cluster.up r 0) q ≡ 0 = ap (slice_index (slice_set m.cluster.up r 0)) (eqb-true q r same) ∙ slice_index-cleared m.cluster.up r in omega (arith, gone))
+    | false ↦ λ other. subst (λ (n : ℕ). n ≤ slice_index m.cluster.last_incarnations q) (sym (index-other m.cluster.up r q 0 other)) (inv.incarnations.no_later q)
+  ] refl
+
   -- ---- the whole
 
   -- all of the invariant, by its fields
@@ -255,6 +264,7 @@ module _ (m : Machine) (shapes : ℕ → Shape) (inv : InvariantIn shapes m) (r 
   failure_keeps = record {
     up = length-slice_set m.cluster.up r 0 ∙ inv.up;
     first_up = λ none. ap (λ up. slice_set up r 0) (inv.first_up none) ∙ slice_set-replicate 8 r;
+    incarnations = record { nodes = inv.incarnations.nodes; first_nodes = inv.incarnations.first_nodes; no_later = no_later_then };
     none_live = none_then;
     rises = then_rises counts r m.cluster inv.rises;
     up_to = then_up_to counts r m.cluster inv.rises m.cluster.last_identity inv.up_to;

@@ -192,6 +192,7 @@ module _ (m : Machine) (shapes : ℕ → Shape) (inv : InvariantIn shapes m) (s 
           within = λ r some. at.within r (ap is_some (sym (
               ap (λ o. reservation_under o r (m.reserved w.ckpt r)) (entry_other w.ckpt apart ∙ was)
               ∙ ap (λ b. cond b (m.reserved w.ckpt r) None) (ap (λ nodes. slice_index nodes r == 0) good.0.complete ∙ ap (λ n. n == 0) (slice_index-replicate 8 r)))) ∙ some);
+          no_later = at.no_later;
         }
       where
         not_this : (g : Entry) → entry_of w.ckpt m.cluster.entries ≡ Some g → g.making ≡ Some z.call → (w.ckpt == making.ckpt) ≡ false
@@ -242,6 +243,7 @@ module _ (m : Machine) (shapes : ℕ → Shape) (inv : InvariantIn shapes m) (s 
   finish_keeps = record {
     up = inv.up;
     first_up = inv.first_up;
+    incarnations = inv.incarnations;
     none_live = inv.none_live;
     rises = IdentitiesRise-change_key (made_with (home_of c m.cluster) m.cluster.up c) (λ x. refl) making.ckpt m.cluster.entries inv.rises;
     up_to = AllUpTo-change_key (made_with (home_of c m.cluster) m.cluster.up c) (λ x. refl) m.cluster.last_identity making.ckpt m.cluster.entries inv.up_to;

@@ -197,7 +197,7 @@ module _ (m : Machine) (shapes : ℕ → Shape) (inv : InvariantIn shapes m) (s 
 
       making_still : (y : CallState) (w : Option Making) → IfSome w (IsMakingIn m y) → IfSome w (IsMakingIn n y)
       making_still y None at = tt
-      making_still y (Some w) at = record { there = at.there; declares = at.declares; nodes = at.nodes; reserved = at.reserved; only = at.only; within = at.within }
+      making_still y (Some w) at = record { there = at.there; declares = at.declares; nodes = at.nodes; reserved = at.reserved; only = at.only; within = at.within; no_later = at.no_later }
 
       once_still : (y : CallState) (x : OneStep) → IsOnceAt m y x → IsOnceAt n y x
       once_still y (once.Enter r) at = record { version = at.version; callbacks = at.callbacks; asks = at.asks; client = at.client; up = at.up; not_live = at.not_live }
@@ -266,6 +266,7 @@ module _ (m : Machine) (shapes : ℕ → Shape) (inv : InvariantIn shapes m) (s 
       step_keeps spread own complete = record {
         up = inv.up;
         first_up = inv.first_up;
+        incarnations = inv.incarnations;
         none_live = inv.none_live;
         rises = inv.rises;
         up_to = inv.up_to;

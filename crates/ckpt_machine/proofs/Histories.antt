@@ -26,7 +26,7 @@ use Rattle.cluster_record.specs.declared.entries.Entry.{Entry}
 use Rattle.cluster_record.specs.Calls.{same_actor, put_actor, left}
 use Rattle.cluster_record.specs.DueUpdate.{UpdateState, update_led, update_on, by_phase, commit_at, committing, update_taken, update_taken_by, commit_taken}
 use Rattle.cluster_record.specs.Places.{put, put2}
-use Rattle.cluster_record.specs.RecordState.{entry_of, is_live, moved}
+use Rattle.cluster_record.specs.RecordState.{entry_of, is_live, first_nodes, moved}
 use Rattle.cluster_record.specs.StepDone.{StepDone, done_of, counting, first_lacking, last_having}
 use Rattle.ckpt_machine.specs.Drivers.{Driver}
 use Rattle.ckpt_machine.specs.Drivers as drivers
@@ -41,6 +41,7 @@ use Rattle.ckpt_machine.specs.InHand.{IsInPlace, IsUpdateIn}
 use Rattle.ckpt_machine.specs.Invariant.{Invariant}
 use Rattle.ckpt_machine.specs.Dead.{IsDead, is_enter}
 use Rattle.ckpt_machine.specs.Failing.{failed_at}
+use Rattle.ckpt_machine.specs.NodeJoins.{joined_at}
 use Rattle.ckpt_types.specs.Asks.{update_of}
 use Rattle.ckpt_machine.specs.Machine.{Machine, Broken, Staged, ReplicaState, Snapshot, CallState, empty_cluster, who}
 use Rattle.ckpt_machine.specs.Options.{is_weak, is_by_element}
@@ -572,15 +573,9 @@ module _ (m : Machine) (inv : Invariant m) (history : HasHistory m) (r : ℕ) wh
     ended_pulled = λ s left has. history.ended_pulled s (held_then (who s) s left) (pulled_then s.call has);
   }
 
--- what is allowed and due keeps it
-pub keeps_history : (m : Machine) (l : Label) → Invariant m → HasHistory m → Allowed m l → IsDue m l → HasHistory (after m l)
-keeps_history m (labels.Began call op end details) inv history allowed is = begun_history m history call op end is.number
-keeps_history m (labels.Stepped call op verb k r reply end details) inv history allowed step =
-    let held : m.in_hand (who step.state) ≡ Some step.state = held_as m call op step.state step.in_hand step.call_is step.word in
-    let same : allowed.state ≡ step.state = same_Some allowed.state step.state (sym allowed.in_hand ∙ step.in_hand) in
-    subst (λ o. HasHistory (step_of m o verb k r reply end)) (sym step.in_hand) (step_history m inv history step.state held _ (subst (λ z. Row m z verb _) same allowed.row) end refl step.done)
-keeps_history m (labels.Word by word said) inv history allowed is = history
-keeps_history m (labels.Nodes n) inv history allowed is = record {
+-- it is so whichever nodes are up
+nodes_history : (m : Machine) → HasHistory m → (up first_calls last_incarnations : List ℕ) → HasHistory (record m { cluster = record m.cluster { up = up; first_calls = first_calls; last_incarnations = last_incarnations } })
+nodes_history m history up first_calls last_incarnations = record {
   bare = record { complete = history.bare.complete; reserves = history.bare.reserves };
   given = λ k r d has. history.given k r d (record { replica = has.replica; there = has.there; effect = has.effect });
   commits = λ k r s held has. history.commits k r s held (record { replica = has.replica; there = has.there; effect = has.effect });
@@ -589,13 +584,24 @@ keeps_history m (labels.Nodes n) inv history allowed is = record {
   given_pulled = λ d has. history.given_pulled d (record { name = has.name; state = has.state; held = has.held; snapshot = has.snapshot; there = has.there; effect = has.effect });
   ended_pulled = λ s held has. history.ended_pulled s held (record { name = has.name; state = has.state; held = has.held; snapshot = has.snapshot; there = has.there; effect = has.effect });
 }
+
+-- what is allowed and due keeps it
+pub keeps_history : (m : Machine) (l : Label) → Invariant m → HasHistory m → Allowed m l → IsDue m l → HasHistory (after m l)
+keeps_history m (labels.Began call op end details) inv history allowed is = begun_history m history call op end is.number
+keeps_history m (labels.Stepped call op verb k r reply end details) inv history allowed step =
+    let held : m.in_hand (who step.state) ≡ Some step.state = held_as m call op step.state step.in_hand step.call_is step.word in
+    let same : allowed.state ≡ step.state = same_Some allowed.state step.state (sym allowed.in_hand ∙ step.in_hand) in
+    subst (λ o. HasHistory (step_of m o verb k r reply end)) (sym step.in_hand) (step_history m inv history step.state held _ (subst (λ z. Row m z verb _) same allowed.row) end refl step.done)
+keeps_history m (labels.Word by word said) inv history allowed is = history
+keeps_history m (labels.Nodes n) inv history allowed is = nodes_history m history (first_nodes n) (first_nodes n) (first_nodes n)
 keeps_history m (labels.Moved t) inv history allowed is = moved_history m history t
 keeps_history m (labels.Failed r true) inv history allowed is = failed_history m inv history r
 keeps_history m (labels.Failed r false) inv history allowed is = history
+keeps_history m (labels.Joined r (Some incarnation)) inv history allowed is = nodes_history m history (joined_at r m).cluster.up (joined_at r m).cluster.first_calls (joined_at r m).cluster.last_incarnations
+keeps_history m (labels.Joined r None) inv history allowed is = history
 keeps_history m (labels.Shown k replicas) inv history allowed is = history
 keeps_history m (labels.Pulled k reply) inv history allowed is = after_pull HasHistory m k reply is history (λ x from none. pulled_history m history k x from)
 keeps_history m (labels.Put k r reply) inv history allowed is = after_put HasHistory m k r reply history (λ s x copied on. put_history m history k r s x copied on.there)
-keeps_history m l inv history allowed is = absurd is
 
 -- so it holds in a run, with the invariant
 pub run_history : (log : List Label) → IsRun log → Invariant (last log) × HasHistory (last log)

@@ -61,10 +61,6 @@ module _ (opener : ℕ) (up : List ℕ) (e : Entry) where
   pub joined-placed : is_collocated e.attributes ≡ false → (joined opener up e).complete ≡ e.complete
   joined-placed placed = ap (λ b. (cond (b && (slice_index e.complete opener == 0)) (record e { complete = with_opener }) e).complete) placed
 
-  -- as where updates are on all replicas
-  pub joined-all : is_all e.attributes ≡ true → (joined opener up e).complete ≡ e.complete
-  joined-all all = joined-placed (all_apart e.attributes all)
-
   -- a node that is complete stays so
   pub joined-complete : (r : ℕ) → IsCompleteOn e r → IsCompleteOn (joined opener up e) r
   joined-complete r there = elim (adds e.attributes opener e.complete) as (λ b. adds e.attributes opener e.complete ≡ b → IsCompleteOn (cond b (record e { complete = with_opener }) e) r) [

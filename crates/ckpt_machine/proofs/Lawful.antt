@@ -1,5 +1,5 @@
 -- The law: what is due is allowed, and leaves the invariant; of several nodes, and any number of calls in hand.
-use Rattle.std.proofs.Common.{◌≡◌, Some, true, false, refl, sym, subst}
+use Rattle.std.proofs.Common.{◌≡◌, Some, None, true, false, refl, sym, subst}
 use Rattle.run_labels.specs.declared.labels.Label.TheVariants as labels
 use Rattle.ckpt_machine.specs.Drivers.{Driver}
 use Rattle.ckpt_machine.specs.Drivers as drivers
@@ -15,6 +15,7 @@ use Rattle.ckpt_machine.proofs.Beginnings.{begin_keeps}
 use Rattle.ckpt_machine.proofs.BeginRows.{begin_row, word_row}
 use Rattle.ckpt_machine.proofs.BroughtUp.{nodes_keep}
 use Rattle.ckpt_machine.proofs.SettingActive.{sync_goes}
+use Rattle.ckpt_machine.proofs.JoinedNodes.{joins_keep}
 use Rattle.ckpt_machine.proofs.Moment.{moved_keeps}
 use Rattle.ckpt_machine.proofs.OneStepCalls.{once_goes}
 use Rattle.ckpt_machine.proofs.Propagated.{pull_keeps, put_keeps}
@@ -55,7 +56,8 @@ lawful m (labels.Nodes n) inv is = (is, record { shapes = inv.shapes; holds = no
 lawful m (labels.Moved t) inv is = (is, moved_keeps m t inv)
 lawful m (labels.Failed r true) inv is = (is, failures_keep m r inv is.1)
 lawful m (labels.Failed r false) inv is = (is, inv)
+lawful m (labels.Joined r (Some incarnation)) inv is = (is, joins_keep m r incarnation inv is)
+lawful m (labels.Joined r None) inv is = (is, inv)
 lawful m (labels.Shown k replicas) inv is = (is, inv)
 lawful m (labels.Pulled k reply) inv is = (is, record { shapes = inv.shapes; holds = pull_keeps m inv.shapes inv.holds k reply (source_at m k) })
 lawful m (labels.Put k r reply) inv is = (is, record { shapes = inv.shapes; holds = put_keeps m inv.shapes inv.holds k r reply (m.snapshots k) (target_at m k r) refl is })
-lawful m l inv is = absurd is

@@ -242,6 +242,7 @@ module _ (m : Machine) (shapes : ℕ → Shape) (inv : InvariantIn shapes m) (s 
   later = record {
     up = refl;
     incarnations = refl;
+    first_calls = refl;
     last = refl;
     rises = IdentitiesRise-filter (stays m.cluster.moment) left_then.entries left_rise;
     up_to = AllUpTo-filter (stays m.cluster.moment) m.cluster.last_identity left_then.entries (AllUpTo-map release (released_all-identity leaver m.cluster.moment) m.cluster.last_identity (filter others_made m.cluster.entries) (AllUpTo-filter others_made m.cluster.last_identity m.cluster.entries inv.up_to));

@@ -30,6 +30,7 @@ pub mod Replaying
 pub mod NodeLists
 pub mod Owning
 pub mod Joining
+pub mod JoinedNodes
 pub mod AsyncCalls
 pub mod DroppedCalls
 pub mod Closing
@@ -53,6 +54,24 @@ pub mod OtherCalls
 pub mod Entries
 pub mod PlainCalls
 mod ChangedHands
+mod HandleCounts
+mod HandleNumbers
+mod ReferenceCounts
+mod Referring
+mod ReferenceSteps
+mod ReferenceRows
+mod ChangedTables
+mod ClosingCalls
+mod FailedReferences
+mod ReferencesKept
+mod ReferenceExamples
+mod LeftPending
+pub mod OwedLabels
+pub mod OwedLists
+pub mod OwedCalls
+pub mod OwedBegun
+pub mod OwedSteps
+pub mod Callbacks
 pub mod EndedAsync
 pub mod EndedTables
 pub mod OneReplica
@@ -149,6 +168,8 @@ pub mod FailureLaw
 pub mod SettleExamples
 pub mod DueRuns
 pub mod CutRuns
+pub mod JoinExamples
+pub mod CallbackRows
 pub mod FailureExamples
 pub mod Asking
 pub mod GoingOn
@@ -164,7 +185,6 @@ pub mod FreedNodes
 pub mod KeptEntries
 pub mod WholeLists
 pub mod Carried
-mod CompleteUp
 pub mod RequestRows
 pub mod CopySteps
 pub mod Leads

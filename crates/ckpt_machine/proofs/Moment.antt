@@ -39,6 +39,7 @@ moved_later : (m : Machine) (shapes : ℕ → Shape) (t : ℤ) → InvariantIn s
 moved_later m shapes t inv = record {
   up = refl;
   incarnations = refl;
+  first_calls = refl;
   last = refl;
   rises = IdentitiesRise-filter (stays t) m.cluster.entries inv.rises;
   up_to = AllUpTo-filter (stays t) m.cluster.last_identity m.cluster.entries inv.up_to;

@@ -136,6 +136,10 @@ module _ (m : Machine) (shapes : ℕ → Shape) (inv : InvariantIn shapes m) (s 
     none_reserved : (r c : ℕ) → has c (slice_index no_nodes r) ≡ true → ⊥
     none_reserved r c had = (let w : true ≡ false = sym had ∙ ap (has c) (slice_index-replicate 8 r) ∙ has-none c (had-there c (slice_index no_nodes r) had) in cc w)
 
+    -- so in no incarnation beyond the last
+    none_later : (r : ℕ) → slice_index no_nodes r ≤ slice_index m.cluster.last_incarnations r
+    none_later r = let none : slice_index no_nodes r ≡ 0 = slice_index-replicate 8 r in omega (arith, none)
+
     -- the call is there
     own_then : (rooms_of m s).handles ≡ true → IsInHand then_machine shapes (who s) then_state
     own_then room = let hand = inv.hands (who s) s held in record {
@@ -156,7 +160,7 @@ module _ (m : Machine) (shapes : ℕ → Shape) (inv : InvariantIn shapes m) (s 
         named = at_open.named;
         declared = at_open.declared;
         deadline = at_open.deadline;
-        making = record { there = IsSomeAnd-from (entry_of next after_it.entries) (λ e. e.making ≡ Some s.call) new found_new refl; declares = IsSomeAnd-from (entry_of next after_it.entries) _ new found_new (ap attributes_asked at_open.asks.asks ∙ given); nodes = refl; reserved = λ r had. absurd (none_reserved r (slice_index m.cluster.up r) had); only = λ r none. never_reserved r; within = λ r some. absurd (let w : false ≡ true = sym (ap is_some (never_reserved r)) ∙ some in cc w) };
+        making = record { there = IsSomeAnd-from (entry_of next after_it.entries) (λ e. e.making ≡ Some s.call) new found_new refl; declares = IsSomeAnd-from (entry_of next after_it.entries) _ new found_new (ap attributes_asked at_open.asks.asks ∙ given); nodes = refl; reserved = λ r had. absurd (none_reserved r (slice_index m.cluster.up r) had); only = λ r none. never_reserved r; within = λ r some. absurd (let w : false ≡ true = sym (ap is_some (never_reserved r)) ∙ some in cc w); no_later = λ r. none_later r };
         given = λ some. ap is_some given;
       });
     }

@@ -349,19 +349,31 @@ module _ (m : Machine) (shapes : ℕ → Shape) (inv : InvariantIn shapes m) (s 
       | false ↦ λ other had. its.within q had
     ] refl (subst (λ b. IsSome (cond (b && (q == r)) (Some (slice_index m.cluster.up r)) (m.reserved k q))) (eq-eqb k k refl) some)
 
+    -- it did so in the incarnation that it has
+    no_later_then : (q : ℕ) → slice_index (slice_set making.reserved r (slice_index m.cluster.up r)) q ≤ slice_index m.cluster.last_incarnations q
+    no_later_then q = elim (q == r) as (λ b. (q == r) ≡ b → slice_index (slice_set making.reserved r (slice_index m.cluster.up r)) q ≤ slice_index m.cluster.last_incarnations q) [
+      | true ↦ λ same.
+          let up_within : slice_index m.cluster.up r ≤ slice_index m.cluster.last_incarnations r = inv.incarnations.no_later r in
+          let there : (slice_index m.cluster.up r == 0) ≡ false = (lacked-has (slice_index m.cluster.up r) (slice_index making.reserved r) lacked).0 in
+          let below : r < length making.reserved = subst (λ (n : ℕ). r < n) (sym same_length) (index-within m.cluster.up r there) in
+          let own : slice_index (slice_set making.reserved r (slice_index m.cluster.up r)) r ≡ slice_index m.cluster.up r = index-set making.reserved r (slice_index m.cluster.up r) below in
+          subst (λ (q : ℕ). slice_index (slice_set making.reserved r (slice_index m.cluster.up r)) q ≤ slice_index m.cluster.last_incarnations q) (sym (eqb-true q r same)) (omega (arith, up_within, own))
+      | false ↦ λ other. subst (λ (n : ℕ). n ≤ slice_index m.cluster.last_incarnations q) (sym (index-other making.reserved r q (slice_index m.cluster.up r) other)) (its.no_later q)
+    ] refl
+
     -- the invariant holds after the reservation
     reserved_holds : Invariant (going_on s reserve_done (with_reservation k r m))
     reserved_holds = record {
       shapes = shapes;
       holds = goes_on reserve_done reserved put_there refl refl (λ j q other. ap (λ b. cond (b && (q == r)) (Some (slice_index m.cluster.up r)) (m.reserved j q)) other)
-          (record { there = its.there; declares = its.declares; nodes = length-slice_set making.reserved r (slice_index m.cluster.up r) ∙ its.nodes; reserved = reserved_then; only = only_then; within = within_then });
+          (record { there = its.there; declares = its.declares; nodes = length-slice_set making.reserved r (slice_index m.cluster.up r) ∙ its.nodes; reserved = reserved_then; only = only_then; within = within_then; no_later = no_later_then });
     }
 
     -- and after its refusal
     refused_holds : Invariant (going_on s memory_done m)
     refused_holds = record {
       shapes = shapes;
-      holds = goes_on memory_done refused m.reserved refl refl (λ j q other. refl) (record { there = its.there; declares = its.declares; nodes = its.nodes; reserved = its.reserved; only = its.only; within = its.within });
+      holds = goes_on memory_done refused m.reserved refl refl (λ j q other. refl) (record { there = its.there; declares = its.declares; nodes = its.nodes; reserved = its.reserved; only = its.only; within = its.within; no_later = its.no_later });
     }
 
     -- ---- nearer to its end

@@ -160,6 +160,7 @@ module _ (m : Machine) (shapes : ℕ → Shape) (inv : InvariantIn shapes m) (s 
   plain_steps o same own = record {
     up = inv.up;
     first_up = inv.first_up;
+    incarnations = inv.incarnations;
     none_live = inv.none_live;
     rises = inv.rises;
     up_to = inv.up_to;
@@ -199,7 +200,7 @@ module _ (m : Machine) (shapes : ℕ → Shape) (inv : InvariantIn shapes m) (s 
 
   -- ---- it ends with a step of the record, and what is over is swept away
 
-  module _ (R : RecordState) (rises : IdentitiesRise R.entries) (up_to : AllUpTo m.cluster.last_identity R.entries) (up : R.up ≡ m.cluster.up) (incarnations : R.last_incarnations ≡ m.cluster.last_incarnations) (last : R.last_identity ≡ m.cluster.last_identity) (later : ComesOf (IsLaterEntry m.cluster.up) m.cluster.entries R.entries)
+  module _ (R : RecordState) (rises : IdentitiesRise R.entries) (up_to : AllUpTo m.cluster.last_identity R.entries) (up : R.up ≡ m.cluster.up) (incarnations : R.last_incarnations ≡ m.cluster.last_incarnations) (first_calls : R.first_calls ≡ m.cluster.first_calls) (last : R.last_identity ≡ m.cluster.last_identity) (later : ComesOf (IsLaterEntry m.cluster.up) m.cluster.entries R.entries)
       (none_live : m.cluster.up ≡ no_nodes → R.clients ≡ []) (clients : (c : ℕ) → IfSome (find_key client_key c R.clients) (IsGoodClient m.next R c)) (dead : (d : CallId) → IsDead m d → is_live R d ≡ false)
       (live : (a : Who) (z : CallState) → same_who a (who s) ≡ false → m.in_hand a ≡ Some z → is_live m.cluster z.call ≡ true → is_live R z.call ≡ true)
       (lives : (a : Who) (z : CallState) → same_who a (who s) ≡ false → m.in_hand a ≡ Some z → find_key client_key (client_of z.call) R.clients ≡ find_key client_key (client_of z.call) m.cluster.clients)
@@ -209,6 +210,7 @@ module _ (m : Machine) (shapes : ℕ → Shape) (inv : InvariantIn shapes m) (s 
     swept_later = record {
       up = up;
       incarnations = incarnations;
+      first_calls = first_calls;
       last = last;
       rises = IdentitiesRise-filter (stays R.moment) R.entries rises;
       up_to = subst (λ i. AllUpTo i (filter (stays R.moment) R.entries)) (sym last) (AllUpTo-filter (stays R.moment) m.cluster.last_identity R.entries up_to);
@@ -234,6 +236,6 @@ module _ (m : Machine) (shapes : ℕ → Shape) (inv : InvariantIn shapes m) (s 
   -- one entry was changed
   pub changed_keeps : (k : ℕ) (f : Entry → Entry) → KeepsIdentity f → ((e : Entry) → entry_of k m.cluster.entries ≡ Some e → IsLaterEntry m.cluster.up e (f e)) → InvariantIn shapes (record (with_record m (swept (record m.cluster { entries = change_key identity_of k f m.cluster.entries }))) { in_hand = put_who m.in_hand (who s) None })
   changed_keeps k f keeps later = swept_keeps (record m.cluster { entries = change_key identity_of k f m.cluster.entries })
-      (IdentitiesRise-change_key f keeps k m.cluster.entries inv.rises) (AllUpTo-change_key f keeps m.cluster.last_identity k m.cluster.entries inv.up_to) refl refl refl
+      (IdentitiesRise-change_key f keeps k m.cluster.entries inv.rises) (AllUpTo-change_key f keeps m.cluster.last_identity k m.cluster.entries inv.up_to) refl refl refl refl
       (ComesOf-change_found (IsLaterEntry m.cluster.up) (IsLaterEntry-refl m.cluster.up) f keeps k m.cluster.entries later) inv.none_live inv.clients (λ d dead. dead.gone)
       (λ a z other at live. live) (λ a z other at. refl) (λ a z j e other at was by. there_still f keeps k j m.cluster.entries e was) (λ a h among. refl)

@@ -130,7 +130,7 @@ module _ (m : Machine) (shapes : ℕ → Shape) (inv : InvariantIn shapes m) (f 
     lives = refl;
     home = refl;
     handle = λ there. there;
-    making = λ o at. making_still m then_machine z o (λ w at. record { there = at.there; declares = at.declares; nodes = at.nodes; reserved = at.reserved; only = at.only; within = at.within }) at;
+    making = λ o at. making_still m then_machine z o (λ w at. record { there = at.there; declares = at.declares; nodes = at.nodes; reserved = at.reserved; only = at.only; within = at.within; no_later = at.no_later }) at;
     made = λ k was. was;
     later = λ k was e found. (e, found, LooksLater-refl z (shapes k).marks e);
     owners = λ k was r. refl;
@@ -144,6 +144,7 @@ module _ (m : Machine) (shapes : ℕ → Shape) (inv : InvariantIn shapes m) (f 
   alike_keeps = record {
     up = inv.up;
     first_up = inv.first_up;
+    incarnations = inv.incarnations;
     none_live = inv.none_live;
     rises = inv.rises;
     up_to = inv.up_to;

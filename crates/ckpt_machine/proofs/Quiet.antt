@@ -1,5 +1,5 @@
 -- By labels that are no beginning and no step of a call no call comes into hand: those that are left are as they were, and so are their clients, and all that is said of calls alone.
-use Rattle.std.proofs.Common.{◌≡◌, ℕ, Some, true, false, sym, ap, refl, ◌∙◌}
+use Rattle.std.proofs.Common.{◌≡◌, ℕ, Some, None, true, false, sym, ap, refl, ◌∙◌}
 use Rattle.ckpt_types.specs.declared.identities.Who.{Who}
 use Rattle.run_labels.specs.declared.labels.Label.{Label}
 use Rattle.run_labels.specs.declared.labels.Label.TheVariants as labels
@@ -55,7 +55,8 @@ quiet m inv (labels.Nodes n) is due = leaves_same m (after m (labels.Nodes n)) r
 quiet m inv (labels.Moved t) is due = leaves_same m (after m (labels.Moved t)) refl refl refl
 quiet m inv (labels.Failed r true) is due = failed_leaves m inv r
 quiet m inv (labels.Failed r false) is due = leaves_same m m refl refl refl
+quiet m inv (labels.Joined r (Some incarnation)) is due = leaves_same m (after m (labels.Joined r (Some incarnation))) refl refl refl
+quiet m inv (labels.Joined r None) is due = leaves_same m m refl refl refl
 quiet m inv (labels.Shown k replicas) is due = leaves_same m m refl refl refl
 quiet m inv (labels.Pulled k reply) is due = after_pull (LeavesCalls m) m k reply due (leaves_same m m refl refl refl) (λ x from none. leaves_same m _ refl refl refl)
 quiet m inv (labels.Put k r reply) is due = after_put (LeavesCalls m) m k r reply (leaves_same m m refl refl refl) (λ s x copied on. leaves_same m _ refl refl refl)
-quiet m inv l is due = absurd due

@@ -1,5 +1,5 @@
 -- After a step of the record that takes entries away, the other calls are where they were, and the checkpoints that are left are as they were.
-use Rattle.std.proofs.Common.{◌≡◌, ℕ, ◌+◌, ◌≤◌, arith, length, Option, Some, None, Bool, true, false, cond, not, ◌&&◌, ◌==◌, refl, sym, ap, subst, ◌∙◌}
+use Rattle.std.proofs.Common.{◌≡◌, ℕ, ◌+◌, ◌≤◌, arith, List, length, Option, Some, None, Bool, true, false, cond, not, ◌&&◌, ◌==◌, refl, sym, ap, subst, ◌∙◌}
 use Rattle.std.specs.Prelude.{is_some, IsSome, IsSomeAnd, IfSome, slice_index, nat_lt}
 use Rattle.std.proofs.lemmas.Option.{same_Some}
 use Rattle.ckpt_types.specs.declared.identities.CallId.{CallId}
@@ -101,6 +101,7 @@ module _ (m : Machine) (shapes : ℕ → Shape) (inv : InvariantIn shapes m) (R 
               only = λ r nothing. reservation_kept making.ckpt r f is (ap (λ nodes. slice_index nodes r == 0) none ∙ zeros r) ∙ at.only r nothing;
               within = λ r some. (λ i. slice_index (targets_by (attributes_asked (asked z.op)) (node_of_client (after_it.lives a z left i)) (after_it.up i)) r == 0)
                   ∙ at.within r (ap is_some (sym (reservation_kept making.ckpt r f is (ap (λ nodes. slice_index nodes r == 0) none ∙ zeros r))) ∙ some);
+              no_later = λ r. subst (λ (last : List ℕ). slice_index making.reserved r ≤ slice_index last r) (sym after_it.incarnations) (at.no_later r);
             }
           where
             declared_at : (e : Entry) → entry_of making.ckpt m.cluster.entries ≡ Some e → IsMakingIn m z making → attributes_asked (asked z.op) ≡ Some e.attributes
@@ -141,6 +142,11 @@ module _ (m : Machine) (shapes : ℕ → Shape) (inv : InvariantIn shapes m) (R 
   record_keeps = record {
     up = ap length after_it.up ∙ inv.up;
     first_up = λ never. after_it.up ∙ inv.first_up (sym after_it.incarnations ∙ never);
+    incarnations = record {
+      nodes = ap length after_it.incarnations ∙ inv.incarnations.nodes;
+      first_nodes = ap length after_it.first_calls ∙ inv.incarnations.first_nodes;
+      no_later = λ r. subst (λ (last : List ℕ). slice_index R.up r ≤ slice_index last r) (sym after_it.incarnations) (subst (λ (up : List ℕ). slice_index up r ≤ slice_index m.cluster.last_incarnations r) (sym after_it.up) (inv.incarnations.no_later r));
+    };
     none_live = λ none. after_it.none_live (sym after_it.up ∙ none);
     rises = after_it.rises;
     up_to = after_it.up_to;

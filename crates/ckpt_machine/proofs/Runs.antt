@@ -1,5 +1,5 @@
 -- A run goes on by one label.
-use Rattle.std.proofs.Common.{◌≡◌, List, [], ◌∷◌, ◌++◌, refl, sym, subst, append_assoc}
+use Rattle.std.proofs.Common.{◌≡◌, ◌⊎◌, inl, inr, List, [], ◌∷◌, ◌++◌, refl, sym, ap, subst, append_assoc}
 use Rattle.std.proofs.lemmas.List.{append-nil}
 use Rattle.run_labels.specs.declared.labels.Label.{Label}
 use Rattle.ckpt_machine.specs.Machine.{Machine, empty_cluster}
@@ -49,6 +49,28 @@ run_front log front back is run = IsRunFrom-front empty_cluster front back (subs
 -- a run of the machine goes on by a label that is allowed and due
 pub run_more : (log : List Label) (l : Label) → IsRun log → Allowed (last log) l → IsDue (last log) l → IsRun (log ++ l ∷ [])
 run_more log l run allowed due = IsRunFrom-push empty_cluster log l run allowed due
+
+-- ---- a log with a label more
+
+-- a label there is the last, or stood there before
+pub last_or : (xs : List Label) (l : Label) (ys : List Label) (y : Label) (vs : List Label) → xs ++ l ∷ [] ≡ ys ++ y ∷ vs → ((xs ≡ ys) × (l ≡ y)) ⊎ ((cs : List Label) × (xs ≡ ys ++ y ∷ cs) × (vs ≡ cs ++ l ∷ []))
+last_or [] l [] y vs is = inl (refl, (let head : l ≡ y = cc is in head))
+last_or [] l (z ∷ ys) y vs is = let tail : [] ≡ ys ++ y ∷ vs = cc is in absurd (nothing_behind ys tail)
+  where
+    nothing_behind : (ys : List Label) → [] ≡ ys ++ y ∷ vs → ⊥
+    nothing_behind [] is = cc is
+    nothing_behind (w ∷ ys) is = cc is
+last_or (z ∷ xs) l [] y vs is =
+    let head : z ≡ y = cc is in
+    let tail : xs ++ l ∷ [] ≡ vs = cc is in
+    inr (xs, ap (λ (w : Label). w ∷ xs) head, sym tail)
+last_or (z ∷ xs) l (w ∷ ys) y vs is =
+    let head : z ≡ w = cc is in
+    let tail : xs ++ l ∷ [] ≡ ys ++ y ∷ vs = cc is in
+    elim (last_or xs l ys y vs tail) [
+      | inl same ↦ inl ((λ i. head i ∷ same.0 i), same.1)
+      | inr before ↦ inr (before.0, (λ i. head i ∷ before.1 i), before.2)
+    ]
 
 -- ---- what holds in a run
 

@@ -1,5 +1,5 @@
 -- What is so of the setting of an active that is in hand: its client is on the node that it keeps, and what it has in its hand the active had when it held the checkpoint.
-use Rattle.std.proofs.Common.{◌≡◌, ◌⊎◌, ℕ, ◌<◌, inl, inr, List, [], ◌∷◌, ◌++◌, Option, Some, None, true, false, refl, sym, ap, subst, ◌∙◌, append_assoc, arith}
+use Rattle.std.proofs.Common.{◌≡◌, ℕ, ◌<◌, inl, inr, List, [], ◌∷◌, ◌++◌, Option, Some, None, true, false, refl, sym, ap, subst, ◌∙◌, append_assoc, arith}
 use Rattle.std.specs.Option.{option_map}
 use Rattle.std.proofs.lemmas.Option.{same_Some}
 use Rattle.ckpt_types.specs.declared.answers.Outcome.{Outcome}
@@ -37,30 +37,11 @@ use Rattle.ckpt_machine.proofs.HeldIn.{IsHeldIn, held_in}
 use Rattle.ckpt_machine.proofs.Histories.{follows, on_replica-there, run_history}
 use Rattle.ckpt_machine.proofs.OptionLemmas.{IsSomeAnd-from}
 use Rattle.ckpt_machine.proofs.Refusing.{at_node}
-use Rattle.ckpt_machine.proofs.Runs.{along}
+use Rattle.ckpt_machine.proofs.Runs.{last_or, along}
 use Rattle.ckpt_machine.proofs.SameClients.{client_stays, awaits_setting}
 use Rattle.ckpt_machine.proofs.Starting.{first_kept, begun_as}
 use Rattle.ckpt_machine.proofs.Sync.{left_is}
 use Rattle.ckpt_machine.proofs.Whose.{same_who-refl, put_who-cases}
-
--- ---- a log with a label more
-
--- a label there is the last, or stood there before
-last_or : (xs : List Label) (l : Label) (ys : List Label) (y : Label) (vs : List Label) → xs ++ l ∷ [] ≡ ys ++ y ∷ vs → ((xs ≡ ys) × (l ≡ y)) ⊎ ((cs : List Label) × (xs ≡ ys ++ y ∷ cs))
-last_or [] l [] y vs is = inl (refl, (let head : l ≡ y = cc is in head))
-last_or [] l (z ∷ ys) y vs is = let tail : [] ≡ ys ++ y ∷ vs = cc is in absurd (nothing_behind ys tail)
-  where
-    nothing_behind : (ys : List Label) → [] ≡ ys ++ y ∷ vs → ⊥
-    nothing_behind [] is = cc is
-    nothing_behind (w ∷ ys) is = cc is
-last_or (z ∷ xs) l [] y vs is = inr (xs, ap (λ (w : Label). w ∷ xs) (let head : z ≡ y = cc is in head))
-last_or (z ∷ xs) l (w ∷ ys) y vs is =
-    let head : z ≡ w = cc is in
-    let tail : xs ++ l ∷ [] ≡ ys ++ y ∷ vs = cc is in
-    elim (last_or xs l ys y vs tail) [
-      | inl same ↦ inl ((λ i. head i ∷ same.0 i), same.1)
-      | inr before ↦ inr (before.0, (λ i. head i ∷ before.1 i))
-    ]
 
 -- ---- what is so of one in hand
 

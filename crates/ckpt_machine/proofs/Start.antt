@@ -16,6 +16,7 @@ invariant_empty = record {
   holds = record {
     up = refl;
     first_up = λ never. refl;
+    incarnations = record { nodes = refl; first_nodes = refl; no_later = λ r. omega arith };
     none_live = λ none. refl;
     rises = tt;
     up_to = tt;

@@ -1,6 +1,6 @@
 -- A checkpoint that is made stays as it was made, whatever step the record takes but the setting of its active; and also behind that it stays made.
 use Rattle.std.proofs.Common.{◌≡◌, ◌⊎◌, ℕ, ◌+◌, ◌-◌, ◌≤◌, inl, inr, List, [], ◌∷◌, ◌++◌, filter, Option, Some, None, Bool, true, false, cond, not, ◌==◌, ℤ, refl, sym, ap, subst, ◌∙◌, arith}
-use Rattle.std.specs.Prelude.{IsSome, IsSomeAnd, slice_index, slice_set}
+use Rattle.std.specs.Prelude.{IsSomeAnd, slice_index, slice_set}
 use Rattle.std.proofs.lemmas.Bool.{eqb-true}
 use Rattle.std.proofs.lemmas.Option.{same_Some}
 use Rattle.ckpt_types.specs.declared.answers.Outcome.{Outcome}
@@ -21,21 +21,21 @@ use Rattle.ckpt_types.specs.Asks as asks
 use Rattle.ckpt_machine.specs.Guards.{Row}
 use Rattle.ckpt_machine.specs.Invariant.{Invariant}
 use Rattle.ckpt_machine.specs.Machine.{Machine, CallState}
-use Rattle.cluster_record.specs.Placement.{is_all}
+use Rattle.cluster_record.specs.Placement.{is_collocated}
 use Rattle.ckpt_machine.specs.Shape.{IsCompleteOn}
 use Rattle.ckpt_machine.specs.After.{created_for, retained_for}
 use Rattle.ckpt_machine.proofs.OwnMaking.{making_there}
 use Rattle.ckpt_machine.proofs.Entries.{ComesOf-filter, ComesOf-change_key, ComesOf-map, ComesOf-then}
 use Rattle.ckpt_machine.proofs.EntryLists.{find_key-key, find_key-change_key}
 use Rattle.ckpt_machine.proofs.OptionLemmas.{IsSomeAnd-at}
-use Rattle.ckpt_machine.proofs.Joining.{joined-making, joined-active, joined-attributes, joined-made, joined-generation, joined-all, joined-complete}
+use Rattle.ckpt_machine.proofs.Joining.{joined-making, joined-active, joined-attributes, joined-made, joined-generation, joined-placed, joined-complete}
 use Rattle.ckpt_machine.proofs.References.{released_all-identity}
 
--- it is made with the same active and the same generation, and declares the same; it is on the same nodes where updates are on all replicas, and else on these and maybe more
+-- it is made with the same active and the same generation, and declares the same; it is on the same nodes, and a collocated one maybe on more
 pub record IsMadeAs (e f : Entry) : Type 0 where
   pub made : f.making ≡ None
   pub generation : f.generation ≡ e.generation
-  pub complete : is_all e.attributes ≡ true → f.complete ≡ e.complete
+  pub complete : is_collocated e.attributes ≡ false → f.complete ≡ e.complete
   pub remains : (r : ℕ) → IsCompleteOn e r → IsCompleteOn f r
   pub active : f.active ≡ e.active
   pub attributes : f.attributes ≡ e.attributes
@@ -47,7 +47,7 @@ pub record StaysMade (e f : Entry) : Type 0 where
   pub since : f.made ≡ e.made
 
 pub StaysMade-same : (e : Entry) → StaysMade e e
-StaysMade-same e = record { made = λ made. record { made = made; generation = refl; complete = λ all. refl; remains = λ r there. there; active = refl; attributes = refl }; attributes = refl; since = refl }
+StaysMade-same e = record { made = λ made. record { made = made; generation = refl; complete = λ apart. refl; remains = λ r there. there; active = refl; attributes = refl }; attributes = refl; since = refl }
 
 -- where none of that is changed
 pub StaysMade-kept : (e f : Entry) → f.making ≡ e.making → f.complete ≡ e.complete → f.active ≡ e.active → f.attributes ≡ e.attributes → f.made ≡ e.made → f.generation ≡ e.generation → StaysMade e f
@@ -55,7 +55,7 @@ StaysMade-kept e f making complete active attributes since generation = record {
   made = λ made. record {
     made = making ∙ made;
     generation = generation;
-    complete = λ all. complete;
+    complete = λ apart. complete;
     remains = λ r there. subst (λ (nodes : List ℕ). (slice_index nodes r == 0) ≡ false) (sym complete) there;
     active = active;
     attributes = attributes;
@@ -72,7 +72,7 @@ StaysMade-then e f g first second = record {
       record {
         made = later.made;
         generation = later.generation ∙ between.generation;
-        complete = λ all. later.complete (ap is_all between.attributes ∙ all) ∙ between.complete all;
+        complete = λ apart. later.complete (ap is_collocated between.attributes ∙ apart) ∙ between.complete apart;
         remains = λ r there. later.remains r (between.remains r there);
         active = later.active ∙ between.active;
         attributes = later.attributes ∙ between.attributes;
@@ -83,11 +83,12 @@ StaysMade-then e f g first second = record {
 
 -- ---- what a checkpoint keeps that may get another active
 
--- it is made, of no lower generation; and while this stays it has an active where it had one
+-- it is made, of no lower generation; while this stays its active is the one that it was; and it is on no further node, where it is not collocated
 pub record IsMadeFrom (e f : Entry) : Type 0 where
   pub made : f.making ≡ None
   pub generation : e.generation ≤ f.generation
-  pub led : f.generation ≡ e.generation → IsSome e.active → IsSome f.active
+  pub active : f.generation ≡ e.generation → f.active ≡ e.active
+  pub placed : is_collocated e.attributes ≡ false → (r : ℕ) → IsCompleteOn f r → IsCompleteOn e r
 
 -- where it is made it is such a one; and it declares the same, and is of the same moment
 pub record GoesOnMade (e f : Entry) : Type 0 where
@@ -103,7 +104,8 @@ StaysMade-goes e f stays = record {
       record {
         made = still.made;
         generation = (let same = still.generation in omega (arith, same));
-        led = λ same led. subst IsSome (sym still.active) led;
+        active = λ same. still.active;
+        placed = λ apart r there. subst (λ (nodes : List ℕ). (slice_index nodes r == 0) ≡ false) (still.complete apart) there;
       };
   attributes = stays.attributes;
   since = stays.since;
@@ -141,7 +143,7 @@ opened_made opener up c e = record {
   made = λ made. record {
     made = joined-making opener up e ∙ made;
     generation = joined-generation opener up e;
-    complete = joined-all opener up e;
+    complete = joined-placed opener up e;
     remains = joined-complete opener up e;
     active = joined-active opener up e;
     attributes = joined-attributes opener up e;

@@ -3,7 +3,7 @@ use Rattle.std.proofs.Common.{◌≡◌, ◌⊎◌, ℕ, zero, suc, ◌+◌, inl
 use Rattle.std.specs.List.{list_any}
 use Rattle.std.specs.Option.{option_map}
 use Rattle.std.specs.Prelude.{slice_index}
-use Rattle.std.proofs.lemmas.Bool.{eqb-true, and_parts}
+use Rattle.std.proofs.lemmas.Bool.{eqb-true, eq-eqb, and_parts}
 use Rattle.moment_rules.specs.Times.{is_reached}
 use Rattle.ckpt_types.specs.declared.ais_error.AisError.TheVariants.{NotExist, TryAgain, Timeout}
 use Rattle.ckpt_types.specs.declared.answers.Answer.TheVariants as answers
@@ -50,6 +50,14 @@ serves_none r d none = by_node (is_active d.node r) (is_service d.verb d.reply) 
 -- behind a step that is no service those nodes are served that were
 pub served_as : (r : ℕ) (d : StepDone) (steps : List StepDone) → is_service d.verb d.reply ≡ false → list_any (serves r) (d ∷ steps) ≡ list_any (serves r) steps
 served_as r d steps none = ap (λ b. b || list_any (serves r) steps) (serves_none r d none)
+
+-- a step that is a service serves its node
+pub served_here : (r : ℕ) (d : StepDone) (steps : List StepDone) → d.node ≡ Some r → is_service d.verb d.reply ≡ true → list_any (serves r) (d ∷ steps) ≡ true
+served_here r d steps node service = ap (λ b. b || list_any (serves r) steps) ((λ i. is_active (node i) r && service i) ∙ ap (λ b. b && true) (eq-eqb r r refl))
+
+-- a node that was served is so behind any step
+pub served_more : (r : ℕ) (d : StepDone) (steps : List StepDone) → list_any (serves r) steps ≡ true → list_any (serves r) (d ∷ steps) ≡ true
+served_more r d steps was = elim (serves r d) as (λ b. (b || list_any (serves r) steps) ≡ true) [ true ↦ refl | false ↦ was ]
 
 -- a node that is served behind a step is the node of the step, or was served
 pub served_then : (r : ℕ) (d : StepDone) (steps : List StepDone) → list_any (serves r) (d ∷ steps) ≡ true → (d.node ≡ Some r) ⊎ (list_any (serves r) steps ≡ true)

@@ -1,5 +1,5 @@
--- What is so behind a label that answers OK to a synchronisation: the call has pulled what the active had, and each complete replica of the checkpoint has that first.
-use Rattle.std.proofs.Common.{◌≡◌, ℕ, ◌+◌, ◌≤◌, inl, inr, List, [], ◌∷◌, ◌++◌, length, Option, Some, None, Bool, true, false, cond, ℤ, refl, sym, ap, subst, ◌∙◌, append_assoc, arith}
+-- What is so behind a label that answers OK to a synchronisation: the call has pulled what the active had, and has served the node of each complete replica of the checkpoint, which has that first, if it is the one that was served.
+use Rattle.std.proofs.Common.{◌≡◌, ℕ, ◌+◌, ◌<◌, ◌≤◌, inl, inr, List, [], ◌∷◌, ◌++◌, length, Option, Some, None, Bool, true, false, cond, ℤ, refl, sym, ap, subst, ◌∙◌, append_assoc, arith}
 use Rattle.std.specs.List.{list_any}
 use Rattle.std.specs.Option.{option_map}
 use Rattle.std.specs.Prelude.{IsSome, IsSomeAnd}
@@ -25,6 +25,7 @@ use Rattle.run_labels.specs.declared.labels.Label.{Label}
 use Rattle.run_labels.specs.declared.labels.Label.TheVariants as labels
 use Rattle.cluster_record.specs.declared.entries.Entry.{Entry}
 use Rattle.cluster_record.specs.Calls.{left}
+use Rattle.cluster_record.specs.Placement.{is_collocated}
 use Rattle.cluster_record.specs.RecordState.{RecordState, entry_of}
 use Rattle.cluster_record.specs.StepDone.{done_of, counting}
 use Rattle.ckpt_machine.specs.Acknowledged.{HasBegun}
@@ -41,27 +42,27 @@ use Rattle.ckpt_machine.specs.Runs.{last, IsRun}
 use Rattle.ckpt_machine.specs.Shape.{IsCompleteOn}
 use Rattle.ckpt_machine.specs.After.{change_replica, with_installed, changed, kept_behind, stepped, step_of, call_begun, after}
 use Rattle.ckpt_machine.specs.Due.{Told, IsDue, due, counted_at}
-use Rattle.ckpt_machine.specs.Synchronized.{Synchronizes, IsPullOf, HaveFirst, IsSynchronized, SynchronizedTell}
+use Rattle.ckpt_machine.specs.Whose.{same_who}
+use Rattle.ckpt_machine.specs.Synchronized.{Synchronizes, IsPullOf, IsServiceOf, IsServedIn, KeepsReplica, HaveFirst, IsSynchronized, SynchronizedTell}
 use Rattle.ckpt_machine.proofs.BegunBefore.{begun_longer, all_began}
-use Rattle.ckpt_machine.proofs.BegunOnce.{step_begun}
+use Rattle.ckpt_machine.proofs.BegunOnce.{step_begun, step_below}
 use Rattle.ckpt_machine.specs.BeginRows.{BeginRow}
 use Rattle.ckpt_machine.specs.Beginning.{Standing}
-use Rattle.ckpt_machine.proofs.Bringing.{HasPulledIn, HasFirst, IsBringing, stays_bringing, step_brings}
+use Rattle.ckpt_machine.proofs.Bringing.{HasPulledIn, HasFirst, IsSureOf, IsBringing, service_parts, stays_bringing, step_brings}
 use Rattle.ckpt_machine.proofs.Quiet.{quiet}
-use Rattle.ckpt_machine.proofs.CompleteUp.{complete_up}
 use Rattle.ckpt_machine.proofs.EachReplica.{run_copies}
 use Rattle.ckpt_machine.proofs.Follows.{IsBare}
 use Rattle.ckpt_machine.proofs.Generations.{generation_there}
-use Rattle.ckpt_machine.proofs.Growing.{GoesOn, after_goes, stepped_goes}
+use Rattle.ckpt_machine.proofs.Growing.{GoesOnIn, GoesOn, gone_by, after_goes, stepped_goes}
 use Rattle.ckpt_machine.proofs.Histories.{follows, on_replica-there, run_history}
 use Rattle.ckpt_machine.proofs.OptionLemmas.{IsSomeAnd-at}
 use Rattle.ckpt_machine.proofs.Refusing.{row_at_ckpt, at_node, at_none, at_node_alone}
-use Rattle.ckpt_machine.proofs.Runs.{last-push, along, run_before, run_front, run_more}
+use Rattle.ckpt_machine.proofs.Runs.{last-push, last_or, along, run_before, run_front, run_more}
 use Rattle.ckpt_machine.proofs.Starting.{first_kept, begun_as}
 use Rattle.ckpt_machine.proofs.Sync.{left_is}
 use Rattle.ckpt_types.specs.OpWord.{stepped_as, word_of_op}
 use Rattle.ckpt_types.specs.declared.identities.Who.{Who}
-use Rattle.ckpt_machine.proofs.Whose.{put_who-cases}
+use Rattle.ckpt_machine.proofs.Whose.{same_who-refl, put_who-cases}
 use Rattle.ckpt_machine.proofs.SyncSteps.{IsSynchronize, served_as, served_each}
 
 -- ---- in every state of a run
@@ -70,33 +71,48 @@ use Rattle.ckpt_machine.proofs.SyncSteps.{IsSynchronize, served_as, served_each}
 abbrev AllBring : List Label → Machine → Type 0
 AllBring log m = (a : Who) (s : CallState) → m.in_hand a ≡ Some s → IsSynchronize (asked s.op) → IsBringing log m.cluster m.replicas s
 
+-- a call that has served a node in a run has a number below the next
+service_below : (log : List Label) → IsRun log → (before behind : List Label) (step : Label) (call : CallId) (k r : ℕ) → log ≡ before ++ step ∷ behind → IsServiceOf step call k r → call.number < (last log).next call.actor
+service_below log run before behind (labels.Stepped d word verb (Some j) (Some q) reply end details) call k r is of = step_below log run before behind d word verb (Some j) (Some q) reply end details call is of.0
+service_below log run before behind l call k r is of = absurd of
+
 -- a call that begins has nothing in hand, and has served no node
-begun_bringing : (log : List Label) (R : RecordState) (replicas : ℕ → ℕ → Option ReplicaState) (end : Option Outcome) (call : CallId) (op : Op) (kept : Kept) (s : CallState) → call_begun end call op kept ≡ Some s → IsBringing log R replicas s
-begun_bringing log R replicas end call op kept s is =
+begun_bringing : (log : List Label) → IsRun log → (R : RecordState) (replicas : ℕ → ℕ → Option ReplicaState) (end : Option Outcome) (call : CallId) (op : Op) (details : Details) (kept : Kept) (s : CallState) → call.number ≡ (last log).next call.actor → call_begun end call op kept ≡ Some s
+    → IsBringing (log ++ labels.Began call op end details ∷ []) R replicas s
+begun_bringing log run R replicas end call op details kept s number is =
     let (d, driven, same) = begun_as end call op kept s is in
-    subst (IsBringing log R replicas) same (record {
+    subst (IsBringing (log ++ labels.Began call op end details ∷ []) R replicas) same (record {
       none = λ none r. refl;
       pulled = λ k z ckpt has. absurd (cc has);
+      told = λ k r ckpt served. absurd (cc served);
+      by_steps = λ k r served. absurd (none_served k r served);
       served = λ k z ckpt has. absurd (cc has);
+      generations = λ k z ckpt has. absurd (cc has);
     })
+  where
+    none_served : (k r : ℕ) → IsServedIn (log ++ labels.Began call op end details ∷ []) call k r → ⊥
+    none_served k r served = elim (last_or log (labels.Began call op end details) served.before served.step served.behind served.log_is) [
+      | inl here ↦ subst (λ (l : Label). IsServiceOf l call k r) (sym here.1) served.step_is
+      | inr there ↦ (let below = service_below log run served.before there.0 served.step call k r there.1 served.step_is in omega (arith, below, number))
+    ]
 
 module _ (log : List Label) (run : IsRun log) (all : AllBring log (last log)) where
   abbrev m : Machine
   m = last log
 
   -- each checkpoint goes on by a label that is allowed
-  goes_by : (l : Label) → Allowed m l → (k : ℕ) → k ≤ m.cluster.last_identity → GoesOn m k (after m l)
+  goes_by : (l : Label) → Allowed m l → (k : ℕ) → k ≤ m.cluster.last_identity → GoesOnIn m k (gone_by l) (after m l).cluster (after m l).replicas
   goes_by l allowed k given = let (inv, history) = run_history log run in after_goes m inv history.bare (run_copies log run) k given l allowed
 
   -- a call that takes no step brings what it has pulled
-  other_brings : (l : Label) (allowed : Allowed m l) (a : Who) (s : CallState) → m.in_hand a ≡ Some s → IsSynchronize (asked s.op) → IsBringing (log ++ l ∷ []) (after m l).cluster (after m l).replicas s
-  other_brings l allowed a s held asks_is = let (inv, history) = run_history log run in stays_bringing log l inv history (run_copies log run) s a held (all a s held asks_is) (after m l).cluster (after m l).replicas (goes_by l allowed)
+  other_brings : (l : Label) (allowed : Allowed m l) (a : Who) (s : CallState) → m.in_hand a ≡ Some s → IsSynchronize (asked s.op) → ((k r : ℕ) → IsServiceOf l s.call k r → ⊥) → IsBringing (log ++ l ∷ []) (after m l).cluster (after m l).replicas s
+  other_brings l allowed a s held asks_is no_service = let (inv, history) = run_history log run in stays_bringing log l inv history (run_copies log run) s a held (all a s held asks_is) (after m l).cluster (after m l).replicas (goes_by l allowed) no_service
 
   -- each call in hand brings what it has pulled, behind any label that is allowed and due
   after_brings : (l : Label) → Allowed m l → IsDue m l → AllBring (log ++ l ∷ []) (after m l)
   after_brings (labels.Began call op end details) allowed due a s held asks_is = elim (put_who-cases m.in_hand (stepped_as call (word_of_op op)) (call_begun end call op (first_kept m call op)) a s held) [
-    | inl own ↦ begun_bringing (log ++ labels.Began call op end details ∷ []) m.cluster m.replicas end call op (first_kept m call op) s own.1
-    | inr other ↦ other_brings (labels.Began call op end details) allowed a s other.1 asks_is
+    | inl own ↦ begun_bringing log run m.cluster m.replicas end call op details (first_kept m call op) s due.number own.1
+    | inr other ↦ other_brings (labels.Began call op end details) allowed a s other.1 asks_is (λ k r of. of)
   ]
   after_brings (labels.Stepped call op verb j q reply end details) allowed due a z in_hand asks_is =
       let l : Label = labels.Stepped call op verb j q reply end details in
@@ -114,12 +130,17 @@ module _ (log : List Label) (run : IsRun log) (all : AllBring log (last log)) wh
       subst (λ o. IsBringing (log ++ l ∷ []) (step_of m o verb j q reply end).cluster (step_of m o verb j q reply end).replicas z) (sym due.in_hand) (elim (put_who-cases n.in_hand (who s) (left end behind) a z there) [
         | inl here ↦ (
             let asks_own : IsSynchronize (asked s.op) = subst (λ (z : CallState). IsSynchronize (asked z.op)) (sym (left_is end behind z here.1)) asks_is in
-            subst (IsBringing (log ++ l ∷ []) n.cluster n.replicas) (left_is end behind z here.1) (step_brings log inv history (run_copies log run) s held (all (who s) s held asks_own) asks_own call due.call_is op end details verb j q reply goes due.done own row))
+            subst (IsBringing (log ++ l ∷ []) n.cluster n.replicas) (left_is end behind z here.1) (step_brings log inv history (run_copies log run) s held (all (who s) s held asks_own) call due.call_is op end details asks_own verb j q reply goes due.done own row))
         | inr other ↦ (
             let was : m.in_hand a ≡ Some z = (follows m inv history s held t row).in_hand a z other.1 in
-            stays_bringing log l inv history (run_copies log run) z a was (all a z was asks_is) n.cluster n.replicas goes)
+            let name_apart : (z.call ≡ s.call) → ⊥ = (λ same_call.
+            let name : a ≡ who s = inv.holds.calls.one_name a (who s) z s was held same_call in
+            let w : true ≡ false = sym (ap (λ v. same_who v (who s)) name ∙ same_who-refl (who s)) ∙ other.0 in
+            cc w) in
+            let no_service : (k r : ℕ) → IsServiceOf l z.call k r → ⊥ = (λ k r of. name_apart (sym (due.call_is ∙ (service_parts call op verb j q reply end details z.call k r of).0))) in
+            stays_bringing log l inv history (run_copies log run) z a was (all a z was asks_is) n.cluster n.replicas goes no_service)
       ])
-  after_brings l allowed due a s held asks_is = other_brings l allowed a s ((quiet m (run_history log run).0 l tt due).held a s held) asks_is
+  after_brings l allowed due a s held asks_is = other_brings l allowed a s ((quiet m (run_history log run).0 l tt due).held a s held) asks_is (λ k r of. of)
 
 all_bring : (log : List Label) → IsRun log → AllBring log (last log)
 all_bring log run = along AllBring (λ front l before allowed due all. after_brings front before all l allowed due) [] log run (λ a s held asks_is. absurd (cc held))
@@ -251,15 +272,34 @@ module _ (m : Machine) (inv : Invariant m)
   all_by verbs.Retain j q reply own row = absurd (row_at_ckpt j q _ row.0 (λ k p. no_other _ p.2))
   all_by verb j q reply own row = absurd row
 
--- where a call has served all complete nodes, each complete replica has first what it has in hand
-have_first : (log : List Label) (n : Machine) (s : CallState) (answer : Answer) → Invariant n → IsBare n → IsBringing log n.cluster n.replicas s → (all : HasServedAll n.cluster.entries s answer) → HaveFirst n all.ckpt all.pulled.effects
-have_first log n s answer inv bare brings all e r x found there =
-    let same : all.entry ≡ e = same_Some all.entry e (sym all.found ∙ found) in
-    let (f, is, complete_at) = IsSomeAnd-at (entry_of all.ckpt n.cluster.entries) (λ e. IsCompleteOn e r) (bare.complete all.ckpt r x there) in
-    let complete : IsCompleteOn all.entry r = subst (λ e. IsCompleteOn e r) (same_Some f all.entry (sym is ∙ all.found)) complete_at in
-    let (y, at, first) = IsSomeAnd-at (n.replicas all.ckpt r) (HasFirst all.pulled) (brings.served all.ckpt all.pulled all.kept all.in_hand all.entry r (complete_up n inv all.ckpt r all.entry all.found complete) all.found all.present (all.all r complete)) in
-    let x_is : y ≡ x = same_Some y x (sym at ∙ there) in
-    subst (λ (x : ReplicaState). (x.generation ≡ e.generation) × IsPrefix all.pulled.effects x.effects) x_is (first.0 ∙ all.present ∙ ap (λ (e : Entry). e.generation) same, first.1)
+-- where a call has served all complete nodes, each complete replica has first what it has in hand, if it is the one that was served
+have_first : (log : List Label) (n : Machine) (s : CallState) (answer : Answer) → IsBare n → IsBringing log n.cluster n.replicas s → (all : HasServedAll n.cluster.entries s answer) → HaveFirst n log s.call all.ckpt all.pulled.effects
+have_first log n s answer bare brings all e r x found there = record {
+  served = served;
+  generation = brings.generations all.ckpt all.pulled all.kept all.in_hand all.entry r x served all.found all.present there ∙ all.present ∙ ap (λ (e : Entry). e.generation) same;
+  has = λ keeps. has (sure keeps);
+}
+  where
+    same : all.entry ≡ e
+    same = same_Some all.entry e (sym all.found ∙ found)
+
+    complete : IsCompleteOn all.entry r
+    complete =
+        let (f, is, complete_at) = IsSomeAnd-at (entry_of all.ckpt n.cluster.entries) (λ e. IsCompleteOn e r) (bare.complete all.ckpt r x there) in
+        subst (λ e. IsCompleteOn e r) (same_Some f all.entry (sym is ∙ all.found)) complete_at
+
+    served : IsServedIn log s.call all.ckpt r
+    served = brings.told all.ckpt r all.kept (all.all r complete)
+
+    sure : KeepsReplica e r served.behind → IsSureOf all.entry r served.behind
+    sure (inl stays) = inl stays
+    sure (inr (inl apart)) = inr (inl (subst (λ (e : Entry). is_collocated e.attributes ≡ false) (sym same) apart, complete))
+    sure (inr (inr active)) = inr (inr (ap (λ (e : Entry). e.active) same ∙ active))
+
+    has : IsSureOf all.entry r served.behind → IsPrefix all.pulled.effects x.effects
+    has sure =
+        let (y, at, first) = IsSomeAnd-at (n.replicas all.ckpt r) (HasFirst all.pulled) (brings.served all.ckpt all.pulled all.kept all.in_hand all.entry r served all.found all.present sure) in
+        subst (λ (x : ReplicaState). IsPrefix all.pulled.effects x.effects) (same_Some y x (sym at ∙ there)) first.1
 
 -- the word asks for a synchronisation, for which its client waits or not
 abbrev IsSyncWord : OpWord → Type 0
@@ -297,7 +337,8 @@ tells_by log run d word syncs verb j q reply told details allowed due call answe
       there = from.there;
       answer_is = sym is.1 ∙ all.answer_is ∙ ap (λ (xs : List Effect). answers.Pulled (length xs)) (sym from.effects);
       stands = subst (λ (m : Machine). IsSome (entry_of all.ckpt m.cluster.entries)) (sym then_is) (subst IsSome (sym all.found) refl);
-      have = subst (HaveFirst (last (log ++ l ∷ [])) all.ckpt) (sym from.effects) (subst (λ m. HaveFirst m all.ckpt all.pulled.effects) (sym then_is) (have_first (log ++ l ∷ []) then_machine behind told (subst Invariant then_is holds) (subst IsBare then_is bare) (record { none = brings.none; pulled = brings.pulled; served = brings.served }) all));
+      have = subst (HaveFirst (last (log ++ l ∷ [])) (log ++ l ∷ []) s.call all.ckpt) (sym from.effects) (subst (λ m. HaveFirst m (log ++ l ∷ []) s.call all.ckpt all.pulled.effects) (sym then_is)
+          (have_first (log ++ l ∷ []) then_machine behind told (subst IsBare then_is bare) (record { none = brings.none; pulled = brings.pulled; told = brings.told; by_steps = brings.by_steps; served = brings.served; generations = brings.generations }) all));
     })
   where
     end : Option Outcome
@@ -336,9 +377,6 @@ tells_by log run d word syncs verb j q reply told details allowed due call answe
     then_is : last (log ++ l ∷ []) ≡ then_machine
     then_is = last-push log l ∙ ap (λ o. step_of (last log) o verb j q reply end) due.in_hand
 
-    holds : Invariant (last (log ++ l ∷ []))
-    holds = (run_history (log ++ l ∷ []) (run_more log l run allowed due)).0
-
     bare : IsBare (last (log ++ l ∷ []))
     bare = (run_history (log ++ l ∷ []) (run_more log l run allowed due)).1.bare
 
@@ -346,7 +384,7 @@ tells_by log run d word syncs verb j q reply told details allowed due call answe
     brings =
         let (inv, history) = run_history log run in
         let asks_is : IsSynchronize (asked s.op) = (let (place, timeout, is) = asks_by s.op (subst IsSyncWord (sym due.word) syncs) in subst IsSynchronize (sym is) tt) in
-        step_brings log inv history (run_copies log run) s held (all_bring log run (who s) s held asks_is) asks_is d due.call_is word end details verb j q reply
+        step_brings log inv history (run_copies log run) s held (all_bring log run (who s) s held asks_is) d due.call_is word end details asks_is verb j q reply
         (λ k given. stepped_goes (last log) inv history.bare (run_copies log run) k given s held t own row) due.done own row
 
     all : HasServedAll changed_machine.cluster.entries behind told

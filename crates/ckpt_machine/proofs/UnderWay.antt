@@ -242,10 +242,11 @@ module _ (m : Machine) (under_way : HasUnderWay m) where
   after_under_way inv (labels.Moved t) due = under_way
   after_under_way inv (labels.Failed r true) due = failed_under_way inv r
   after_under_way inv (labels.Failed r false) due = under_way
+  after_under_way inv (labels.Joined r (Some incarnation)) due = under_way
+  after_under_way inv (labels.Joined r None) due = under_way
   after_under_way inv (labels.Shown k replicas) due = under_way
   after_under_way inv (labels.Pulled k reply) due = after_pull HasUnderWay m k reply due under_way (λ x from none. under_way)
   after_under_way inv (labels.Put k r reply) due = after_put HasUnderWay m k r reply under_way (λ s x copied on. under_way)
-  after_under_way inv l due = absurd due
 
 -- so it is in every run
 pub all_under_way : (log : List Label) → IsRun log → HasUnderWay (last log)

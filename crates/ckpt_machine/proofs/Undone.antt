@@ -90,6 +90,7 @@ module _ (m : Machine) (shapes : ℕ → Shape) (inv : InvariantIn shapes m) (s 
   later = record {
     up = refl;
     incarnations = refl;
+    first_calls = refl;
     last = refl;
     rises = IdentitiesRise-filter (stays m.cluster.moment) (filter others m.cluster.entries) (IdentitiesRise-filter others m.cluster.entries inv.rises);
     up_to = AllUpTo-filter (stays m.cluster.moment) m.cluster.last_identity (filter others m.cluster.entries) (AllUpTo-filter others m.cluster.last_identity m.cluster.entries inv.up_to);

@@ -51,6 +51,7 @@ use Rattle.ckpt_machine.specs.Whose.{is_of, put_who}
 use Rattle.ckpt_machine.specs.Seen.{seen_at}
 use Rattle.ckpt_machine.specs.Due.{asked_handle, counted_at, ids_asked, kept_at_beginning}
 use Rattle.ckpt_machine.specs.Failing.{failed_at}
+use Rattle.ckpt_machine.specs.NodeJoins.{joined_at}
 pub use Rattle.ckpt_machine.specs.Under.{opened_state, replica_under, replicas_under, reservation_under, snapshot_under, with_record}
 
 -- ---- what a step changes
@@ -418,6 +419,8 @@ after m (labels.Nodes n) = record m { cluster = brought_up n m.cluster }
 after m (labels.Moved t) = with_record m (moved t m.cluster)
 after m (labels.Failed r true) = failed_at r m
 after m (labels.Failed r false) = m
+after m (labels.Joined r (Some incarnation)) = joined_at r m
+after m (labels.Joined r None) = m
 after m (labels.Pulled k reply) = with_pulled m k reply (source_at m k)
 after m (labels.Put k r reply) = with_put m k r reply (m.snapshots k) (target_at m k r)
 after m label = m

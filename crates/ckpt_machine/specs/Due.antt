@@ -47,6 +47,7 @@ use Rattle.ckpt_machine.specs.Listing.{listing_at}
 use Rattle.ckpt_machine.specs.Options.{is_weak, if_declared}
 use Rattle.cluster_record.specs.Placement.{is_all}
 use Rattle.ckpt_machine.specs.Machine.{Machine, ReplicaState, CallState, who}
+use Rattle.ckpt_machine.specs.NodeJoins.{MayJoin}
 use Rattle.ckpt_machine.specs.Propagation.{pull_answer, put_answer}
 use Rattle.cluster_record.specs.Makings.{makings_of}
 use Rattle.cluster_record.specs.StepDone.{StepDone, done_of, counting}
@@ -268,7 +269,7 @@ pub record IsBegun (m : Machine) (call : CallId) (op : Op) (end : Option Outcome
 abbrev pub MayFail : RecordState → ℕ → Bool → Type 0
 MayFail R r was_up = (r < nodes_max) × (is_up r R ≡ was_up)
 
--- the label is due in this state; what is not built is not due
+-- the label is due in this state
 abbrev pub IsDue : Machine → Label → Type 0
 IsDue m (labels.Began call op end details) = IsBegun m call op end details
 IsDue m (labels.Stepped call op verb k r reply end details) =
@@ -277,7 +278,7 @@ IsDue m (labels.Word who word said) = IsWord m who word said
 IsDue m (labels.Nodes n) = (0 < n) × (n ≤ nodes_max) × (m.cluster.last_incarnations ≡ no_nodes)
 IsDue m (labels.Moved t) = IsMomentFrom m.cluster.moment t
 IsDue m (labels.Failed r was_up) = MayFail m.cluster r was_up
+IsDue m (labels.Joined r incarnation) = MayJoin m.cluster r incarnation
 IsDue m (labels.Shown k replicas) = replicas ≡ listing_at m k
 IsDue m (labels.Pulled k reply) = reply ≡ pull_answer m k
 IsDue m (labels.Put k r reply) = reply ≡ put_answer m k r
-IsDue m label = ⊥

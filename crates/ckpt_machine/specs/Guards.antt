@@ -23,6 +23,7 @@ use Rattle.ckpt_machine.specs.Machine.{Machine, CallState}
 use Rattle.ckpt_machine.specs.Propagation.{pull_answer, put_answer}
 use Rattle.ckpt_machine.specs.Listing.{listing_at}
 use Rattle.ckpt_machine.specs.Due.{Told, MayFail}
+use Rattle.ckpt_machine.specs.NodeJoins.{MayJoin}
 use Rattle.ckpt_machine.specs.UpdateGuards.{ClaimRow, CommitRow, StageRow, WithdrawRow}
 use Rattle.ckpt_machine.specs.ActiveGuards.{ActivateRow, ApplyRow, ElementRow, HoldRow, InstallRow, IterRow, MarkRow, NextRow, PullRow, ReadRow, StatusRow, UnmarkRow}
 use Rattle.ckpt_machine.specs.OpenGuards.{CloseRow, CreateRow, EnterRow, FinishRow, LeaveRow, OpenRow, ReserveRow, RetainRow, UndoRow, UnlinkRow}
@@ -141,7 +142,7 @@ pub record IsAllowedStep (m : Machine) (call : CallId) (op : OpWord) (t : Told) 
   pub own : IsOnOwn t.verb t.ckpt state.kept.ckpt
   pub row : Row m state t.verb t
 
--- from m the machine allows this label; a label whose row is not built is not allowed
+-- from m the machine allows this label
 abbrev pub Allowed : Machine → Label → Type 0
 Allowed m (labels.Began call op end details) = IsAllowedBegin m call op end details
 Allowed m (labels.Stepped call op verb k r reply end details) =
@@ -150,7 +151,7 @@ Allowed m (labels.Word who word said) = IsAllowedWord m who word said
 Allowed m (labels.Nodes n) = (0 < n) × (n ≤ nodes_max) × (m.cluster.last_incarnations ≡ no_nodes)
 Allowed m (labels.Moved t) = IsMomentFrom m.cluster.moment t
 Allowed m (labels.Failed r was_up) = MayFail m.cluster r was_up
+Allowed m (labels.Joined r incarnation) = MayJoin m.cluster r incarnation
 Allowed m (labels.Shown k replicas) = replicas ≡ listing_at m k
 Allowed m (labels.Pulled k reply) = reply ≡ pull_answer m k
 Allowed m (labels.Put k r reply) = reply ≡ put_answer m k r
-Allowed m label = ⊥

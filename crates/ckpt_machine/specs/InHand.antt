@@ -95,6 +95,8 @@ pub record IsMakingIn (m : Machine) (s : CallState) (making : Making) : Type 0 w
   pub only : (r : ℕ) → (slice_index making.reserved r == 0) ≡ true → m.reserved making.ckpt r ≡ None
   pub within : (r : ℕ) → IsSome (m.reserved making.ckpt r)
       → (slice_index (targets_by (attributes_asked (asked s.op)) (home_of (client_of s.call) m.cluster) m.cluster.up) r == 0) ≡ false
+  -- and none did so in an incarnation beyond its last
+  pub no_later : (r : ℕ) → slice_index making.reserved r ≤ slice_index m.cluster.last_incarnations r
 
 -- an open asks what its operation does, for its client, on a node that is up; and what it makes is there
 pub record IsOpenIn (m : Machine) (s : CallState) (o : OpenState) : Type 0 where

@@ -1,5 +1,5 @@
 -- What holds in every state of a run, of any number of nodes up to eight and of calls in hand; from it follow the guards, and all that the code relies on.
-use Rattle.std.specs.Prelude.{◌≡◌, ℕ, ◌+◌, ◌<◌, ◌≤◌, [], ◌++◌, List, length, map, Option, Some, None, IsSome, IsSomeAnd, IfSome, Contains, true}
+use Rattle.std.specs.Prelude.{◌≡◌, ℕ, ◌+◌, ◌<◌, ◌≤◌, [], ◌++◌, List, length, map, Option, Some, None, IsSome, IsSomeAnd, IfSome, Contains, true, slice_index}
 use Rattle.ckpt_types.specs.declared.identities.ActorName.{ActorName}
 use Rattle.ckpt_types.specs.declared.identities.CallId.{CallId}
 use Rattle.ckpt_types.specs.declared.identities.Who.{Who}
@@ -95,11 +95,18 @@ pub record AreCalls (in_hand : Who → Option CallState) (pending : ActorName �
 abbrev pub HasPlaces : (ActorName → ClientState) → List Entry → Type 0
 HasPlaces tables entries = (c : ℕ) → length (tables (Client c)).handles + makings_of c entries ≤ handles_max
 
+-- the record keeps both of each node, and none is up in an incarnation beyond its last
+pub record AreIncarnations (up first_calls last_incarnations : List ℕ) : Type 0 where
+  pub nodes : length last_incarnations ≡ nodes_max
+  pub first_nodes : length first_calls ≡ nodes_max
+  pub no_later : (r : ℕ) → slice_index up r ≤ slice_index last_incarnations r
+
 -- what holds in every state of a run, where the checkpoints have these shapes
 pub record InvariantIn (shapes : ℕ → Shape) (m : Machine) : Type 0 where
   -- before the first nodes come up none is
   pub up : length m.cluster.up ≡ nodes_max
   pub first_up : m.cluster.last_incarnations ≡ no_nodes → m.cluster.up ≡ no_nodes
+  pub incarnations : AreIncarnations m.cluster.up m.cluster.first_calls m.cluster.last_incarnations
   pub none_live : m.cluster.up ≡ no_nodes → m.cluster.clients ≡ []
   pub rises : IdentitiesRise m.cluster.entries
   pub up_to : AllUpTo m.cluster.last_identity m.cluster.entries

@@ -37,6 +37,7 @@ pub record IsLaterEntry (up : List ℕ) (e f : Entry) : Type 0 where
 pub record IsLaterRecord (m : Machine) (R : RecordState) (hands : Who → Option CallState) : Type 0 where
   pub up : R.up ≡ m.cluster.up
   pub incarnations : R.last_incarnations ≡ m.cluster.last_incarnations
+  pub first_calls : R.first_calls ≡ m.cluster.first_calls
   pub last : R.last_identity ≡ m.cluster.last_identity
   pub rises : IdentitiesRise R.entries
   pub up_to : AllUpTo R.last_identity R.entries

@@ -32,7 +32,9 @@ pub mod Synchronized
 pub mod WasAsked
 pub mod Owners
 pub mod ActivesSet
+pub mod Callbacks
 pub mod Causes
+pub mod References
 pub mod Promises
 pub mod Laws
 pub mod Holding
@@ -46,6 +48,7 @@ pub mod Propagating
 pub mod Leading
 pub mod Taking
 pub mod Granting
+pub mod NodeJoins
 pub mod NodeListing
 pub mod Seen
 pub mod Words

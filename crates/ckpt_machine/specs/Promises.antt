@@ -6,12 +6,14 @@ use Rattle.ckpt_machine.specs.AllOrNone.{IsAllOrNoneThroughout}
 use Rattle.ckpt_machine.specs.Acknowledged.{AcknowledgedStay}
 use Rattle.ckpt_machine.specs.BrokenCorrupt.{OnlyBrokenCorrupt}
 use Rattle.ckpt_machine.specs.InOrder.{EffectsKeepOrder}
+use Rattle.ckpt_machine.specs.References.{HandlesAreReferencesThroughout}
 use Rattle.ckpt_machine.specs.Replays.{EffectsTellThroughout}
 use Rattle.ckpt_machine.specs.Synchronized.{SynchronizedTell}
 use Rattle.ckpt_machine.specs.WasAsked.{OnlyAskedThroughout}
 use Rattle.ckpt_machine.specs.Owners.{OwnersInHandThroughout}
 use Rattle.ckpt_machine.specs.ActivesSet.{ActivesAreSet}
 use Rattle.ckpt_machine.specs.CallsEnd.{CallsEnd}
+use Rattle.ckpt_machine.specs.Callbacks.{CallbacksTold}
 use Rattle.ckpt_machine.specs.Causes.{EachEndIsAllowed}
 
 -- the log keeps all that a run promises
@@ -31,7 +33,8 @@ pub record KeepsPromises (log : List Label) : Type 0 where
   pub order : EffectsKeepOrder log
   -- after each front, a section of a replica is corrupted only if an element of a weak write that was cut short there names it
   pub corrupted : OnlyBrokenCorrupt log
-  -- behind a synchronisation that was answered OK each complete replica has the checkpoint's generation, and first what the active had when it was pulled
+  -- behind a synchronisation that was answered OK each complete replica has the checkpoint's generation, and first what the active had when it was pulled,
+  -- unless it is of a collocated checkpoint, on a node that has failed since the call served it
   pub synchronized : SynchronizedTell log
   -- only what was asked for is done: each effect of each replica, and what is staged or marked there, is of a call that began in the log with this very
   -- update, of this very checkpoint
@@ -44,3 +47,9 @@ pub record KeepsPromises (log : List Label) : Type 0 where
   pub ends : CallsEnd log
   -- each end of a call is allowed where it comes, so its cause is there
   pub causes : EachEndIsAllowed log
+  -- after each front, a client has as many handles of each checkpoint that is there as the record has references of it, none of one in the making, and
+  -- none where it is not live; and the checkpoint of each handle is there, unless a node failed on which alone it was complete
+  pub references : HandlesAreReferencesThroughout log
+  -- a dispatch gives the first or all of what its client is owed: the ends of its asynchronous calls, in their order, each once, and none behind the close
+  -- of its handle, a Finalize of the client or the failure of its node; and nothing else tells a callback
+  pub callbacks : CallbacksTold log

@@ -41,3 +41,4 @@ pub record Counts (m : Machine) (n : ℕ) : Type 0 where
   pub identity : m.cluster.last_identity ≤ n
   pub generations : (k : ℕ) (e : Entry) → entry_of k m.cluster.entries ≡ Some e → e.generation ≤ n + 1
   pub references : (k : ℕ) (e : Entry) (c : ℕ) → entry_of k m.cluster.entries ≡ Some e → slice_index e.references c ≤ n
+  pub incarnations : (r : ℕ) → slice_index m.cluster.last_incarnations r ≤ n

@@ -14,6 +14,8 @@ ghost use Rattle.ckpt_machine.specs.Owners.{OwnersInHandThroughout};
 ghost use Rattle.ckpt_machine.specs.ActivesSet.{ActivesAreSet};
 ghost use Rattle.ckpt_machine.specs.CallsEnd.{CallsEnd};
 ghost use Rattle.ckpt_machine.specs.Causes.{EachEndIsAllowed};
+ghost use Rattle.ckpt_machine.specs.References.{HandlesAreReferencesThroughout};
+ghost use Rattle.ckpt_machine.specs.Callbacks.{CallbacksTold};
 ghost use Rattle.ckpt_machine.specs.AllOrNone.{IsAllOrNoneThroughout};
 ghost use Rattle.ckpt_machine.specs.Refusals.{EachRefusalLeaves};
 ghost use Rattle.world_core.specs.Runs.{IsNew, IsRunTo};
@@ -59,6 +61,8 @@ pub fn ckpt_run<R: Threads + Wait + Sync, S: Source, K: Sink, G: Gate>(
     ensures actives { ActivesAreSet log.new.labels }
     ensures ends { CallsEnd log.new.labels }
     ensures causes { EachEndIsAllowed log.new.labels }
+    ensures references { HandlesAreReferencesThroughout log.new.labels }
+    ensures callbacks { CallbacksTold log.new.labels }
 
     // The log follows the script that was read, all of it or a front; or nothing was played.
     ensures played { HasPlayed result (S.left source.old) (S.left source.new) log.new.labels }

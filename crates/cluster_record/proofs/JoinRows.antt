@@ -31,7 +31,7 @@ made_on_nodes flags = opened 1 1 (failing_made 0 (codes "a") flags three_nodes)
 
 -- ---- a join
 
--- n1 before it fails, behind that, once it has node_joined, and once it has failed and node_joined again with its call 8
+-- n1 before it fails, behind that, once it has joined, and once it has failed and joined again with its call 8
 pub next_life_has_the_next_incarnation :
     map (up_as 1) (three_nodes ∷ failed no_counts 1 three_nodes ∷ gone_and_back 1 three_nodes ∷ node_joined 1 8 (failed no_counts 1 (gone_and_back 1 three_nodes)) ∷ [])
     ≡ Some (1, 1) ∷ None ∷ Some (2, 5) ∷ Some (3, 8) ∷ []
@@ -44,7 +44,7 @@ first_life_has_the_first = refl
 pub last_incarnations_tell_so : (gone_and_back 1 three_nodes).last_incarnations ≡ 1 ∷ 2 ∷ 1 ∷ 0 ∷ 0 ∷ 0 ∷ 0 ∷ 0 ∷ []
 last_incarnations_tell_so = refl
 
--- its calls 4 and 5, before it fails, behind that, and once it has node_joined
+-- its calls 4 and 5, before it fails, behind that, and once it has joined
 pub calls_of_before_are_not_live :
     map (λ R. map (λ number. is_live R (call_of_node 1 number)) (4 ∷ 5 ∷ [])) (three_nodes ∷ failed no_counts 1 three_nodes ∷ gone_and_back 1 three_nodes ∷ [])
     ≡ (true ∷ true ∷ []) ∷ (false ∷ false ∷ []) ∷ (false ∷ true ∷ []) ∷ []

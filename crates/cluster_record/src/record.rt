@@ -7,7 +7,7 @@ ghost use Rattle.cluster_record.specs.Identities.{IdentitiesRise, AllUpTo};
 ghost use Rattle.cluster_record.specs.Calls.{client_of, IsClient};
 ghost use Rattle.cluster_record.specs.Counts.{count_told};
 ghost use Rattle.cluster_record.specs.Failing.{goes_with_node, cut_off, without_replicas, failed, TellsOthers, first_on, holds_ended};
-ghost use Rattle.cluster_record.specs.Joining.{node_joined, completed};
+ghost use Rattle.cluster_record.specs.Joining.{next_incarnation, node_joined, completed};
 ghost use Rattle.cluster_record.specs.Kept.{IsKeptEntry, EachClientOnce, AreKeptClients};
 ghost use Rattle.cluster_record.specs.Makings.{making_call, making_finished, making_undone, makings_of};
 ghost use Rattle.cluster_record.specs.Numbers.{numbers_left};
@@ -653,17 +653,19 @@ impl Record {
     }
 
     /// A node that is not up joins. It is up from then on, in the incarnation that follows its last one, or in its first
-    /// where it had none, and `first` is the number of the first call that it may begin in it; so its calls of an earlier
-    /// life are live no more. It has no replica, and nothing else changes. It takes no memory.
-    pub fn join(&mut self, node: NodeId, first: u32)
+    /// where it had none, which is answered, and `first` is the number of the first call that it may begin in it; so its
+    /// calls of an earlier life are live no more. It has no replica, and nothing else changes. It takes no memory.
+    pub fn join(&mut self, node: NodeId, first: u32) -> Incarnation
         requires { CanJoin node self.old }
-        ensures { self.new ≡ node_joined node first self.old }
+        ensures incarnation { result ≡ next_incarnation node self.old }
+        ensures new { self.new ≡ node_joined node first self.old }
     {
         let place = node as usize;
         let incarnation = self.last_incarnations[place] + 1;
         self.up[place] = incarnation;
         self.first_calls[place] = first;
         self.last_incarnations[place] = incarnation;
+        incarnation
     }
 
     /// A node has a complete replica of a checkpoint from then on, with the incarnation with which it is up. Where updates

@@ -91,6 +91,7 @@ line_built t words.Put v f b n m asked = omega (arith, f.1.0)
 line_built t words.Propagate v f b n m asked = tt
 line_built t words.Show v f b n m asked = tt
 line_built t words.Fail v f b n m asked = omega (arith, f.0)
+line_built t words.Join v f b n m asked = omega (arith, f.0)
 line_built t (words.Op _) v f b n m asked = absurd (cc b)
 line_built t _ v f b n m asked = absurd (cc b)
 

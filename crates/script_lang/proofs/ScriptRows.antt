@@ -122,6 +122,7 @@ the_first_fault_is_told : Read (
     ∷ fails 1 reasons.Word " fail n0"
     ∷ fails 1 reasons.Number "nodes 1\r\n"
     ∷ fails 1 reasons.Nodes "fail n0"
+    ∷ fails 1 reasons.Nodes "join n0"
     ∷ fails 2 reasons.Word "nodes 1\nfoo"
     ∷ fails 2 reasons.Word "nodes 1\nNodes 1"
     ∷ fails 2 reasons.Nodes "nodes 1\nnodes 1"
@@ -149,7 +150,6 @@ the_first_fault_is_told : Read (
     ∷ fails 2 reasons.NotBuilt "nodes 1\nrace"
     ∷ fails 2 reasons.NotBuilt "nodes 1\nrace  1 "
     ∷ fails 2 reasons.NotBuilt "nodes 1\nend"
-    ∷ fails 2 reasons.NotBuilt "nodes 1\njoin n0"
     ∷ fails 2 reasons.Word "nodes 2\nfail n8"
     ∷ fails 2 reasons.Word "nodes 2\nfail c0"
     ∷ fails 2 reasons.Word "nodes 2\nfail  n1"
@@ -158,6 +158,14 @@ the_first_fault_is_told : Read (
     ∷ fails 2 reasons.Count "nodes 2\nfail n1 n2"
     ∷ fails 2 reasons.Word "nodes 2\nbegin fail n1"
     ∷ fails 2 reasons.Word "nodes 2\nbegin fail"
+    ∷ fails 2 reasons.Word "nodes 2\njoin n8"
+    ∷ fails 2 reasons.Word "nodes 2\njoin c0"
+    ∷ fails 2 reasons.Word "nodes 2\njoin  n1"
+    ∷ fails 2 reasons.Word "nodes 2\njoins n1"
+    ∷ fails 2 reasons.Count "nodes 2\njoin"
+    ∷ fails 2 reasons.Count "nodes 2\njoin n1 n2"
+    ∷ fails 2 reasons.Word "nodes 2\nbegin join n1"
+    ∷ fails 2 reasons.Word "nodes 2\nbegin join"
     ∷ fails 2 reasons.NotBuilt "nodes 1\ncopy\n"
     ∷ fails 2 reasons.Count "nodes 1\nbegin"
     ∷ fails 2 reasons.Word "nodes 1\nbegin "
@@ -207,10 +215,24 @@ a_node_may_fail_beside_all_replicas : Read (
     ∷ says 6 "nodes 2\nclient c0 n0 B.2.2 none\nopen c0 h0 'ck 7 end 2 16 0 1 16 8\nopen c0 h0 'ck 7 end 1 16 0 1 16 8\nfail n1\nopen c0 h0 'ck 7 end 2 16 0 1 16 8"
     ∷ says 4 "nodes 2\nclient c0 n0 B.2.2 none\nopen c0 h0 'ck 7 end 1 16 0 1 16 8\nfail n7"
     ∷ fails 5 reasons.Word "nodes 2\nclient c0 n0 B.2.2 none\nopen c0 h0 'ck 7 end 1 16 0 1 16 8\nfail n1\nfoo"
-    ∷ fails 5 reasons.NotBuilt "nodes 2\nclient c0 n0 B.2.2 none\nopen c0 h0 'ck 7 end 1 16 0 1 16 8\nfail n1\njoin n1"
     ∷ [])
 unfolding scripts
 a_node_may_fail_beside_all_replicas = refl
+
+-- up or not, one of the first nodes or another
+a_node_may_join : Read (
+    says 2 "nodes 1\njoin n0"
+    ∷ says 2 "nodes 1\njoin n7"
+    ∷ says 3 "nodes 2\nfail n1\njoin n1"
+    ∷ says 5 "nodes 8\njoin n0\n#\nfail n0\njoin n0\n\njoin n0"
+    ∷ says 5 "nodes 2\nat 5\nfail n1\nat 6\njoin n1"
+    ∷ says 5 "nodes 2\nclient c0 n0 B.2.2 none\nopen c0 h0 'ck 7 end 1 16 0 1 16 8\nfail n1\njoin n1"
+    ∷ says 5 "nodes 2\nclient c0 n1 B.2.2 none\nfail n1\njoin n1\nbegin client c0 n1 B.2.2 none"
+    ∷ fails 4 reasons.NotBuilt "nodes 2\nfail n1\njoin n1\ncopy n1"
+    ∷ fails 4 reasons.Word "nodes 2\nfail n1\njoin n1\nfoo"
+    ∷ [])
+unfolding scripts
+a_node_may_join = refl
 
 faults_of_opens : ReadBehind opened (
     fails 4 reasons.Count "open c0 h0 'ck 7 end 1 16 0 1 16"
@@ -498,6 +520,7 @@ scripts_have_one_spelling : SpellBehind [] (
     ∷ ("nodes 8\nbegin close c9 h8\nstep c9 1000000\n#\nfinish c9\nstep c9.70 2\nfinish n7\n\nshow K9999", "nodes 8\nbegin close c9 h8\nstep c9 1000000\nfinish c9\nstep c9.70 2\nfinish n7\nshow K9999\n")
     ∷ ("nodes 8\n#\npull K9\nput K9 n7\n\nput K9999 n0\npropagate K80", "nodes 8\npull K9\nput K9 n7\nput K9999 n0\npropagate K80\n")
     ∷ ("nodes 8\n#\nfail n7\n\nfail n0", "nodes 8\nfail n7\nfail n0\n")
+    ∷ ("nodes 2\n#\njoin n7\n\nfail n0\njoin n0", "nodes 2\njoin n7\nfail n0\njoin n0\n")
     ∷ ("nodes 2\nbegin create c0 h0 'a 9223372036854775807 'b\nbegin write c0 h0 'a 0 'b x 1 xFF", "nodes 2\nbegin create c0 h0 x61 end x62\nbegin write c0 h0 x61 0 x62 x 1 xff\n")
     ∷ [])
 unfolding scripts

@@ -94,7 +94,7 @@ abbrev pub IsStepped : Who → Type 0
 IsStepped who = IsWho who
 
 -- at this moment, a call of a client, stepped to its end or only begun; steps of a call, so many or to its end; a moment that is no earlier,
--- before the end of time; a snapshot pulled, put at one of the nodes, or propagated to all; the replicas of a checkpoint; or a node that fails
+-- before the end of time; a snapshot pulled, put at one of the nodes, or propagated to all; the replicas of a checkpoint; or a node that fails or joins
 abbrev pub IsBuiltLine : ℤ → Line → Type 0
 IsBuiltLine t (lines.Call client op) = IsBuiltCall client op
 IsBuiltLine t (lines.Begin (actor.Client client) op) = IsBuiltCall client op
@@ -106,6 +106,7 @@ IsBuiltLine t (lines.Put k r) = r < nodes_max
 IsBuiltLine t (lines.Propagate k) = ⊤
 IsBuiltLine t (lines.Show k) = ⊤
 IsBuiltLine t (lines.Fail r) = r < nodes_max
+IsBuiltLine t (lines.Join r) = r < nodes_max
 IsBuiltLine t _ = ⊥
 
 -- from this moment on, each line at the moment that those before it leave

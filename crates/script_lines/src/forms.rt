@@ -123,7 +123,7 @@ pub fn is_later(word: FirstWord) -> bool
 {
     matches!(
         word,
-        FirstWord::Op(OpWord::Copy) | FirstWord::Join | FirstWord::Race | FirstWord::End
+        FirstWord::Op(OpWord::Copy) | FirstWord::Race | FirstWord::End
     )
 }
 

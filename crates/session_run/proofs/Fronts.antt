@@ -25,6 +25,7 @@ use Rattle.script_lines.specs.declared.lines.Line.TheVariants as lines
 use Rattle.script_lang.specs.Grammar.{moment_behind}
 use Rattle.client_calls.specs.declared.in_hand.InHand.{InHand}
 use Rattle.ckpt_machine.specs.Machine.{Machine, CallState}
+use Rattle.ckpt_machine.specs.NodeJoins.{join_answer}
 use Rattle.ckpt_machine.specs.Runs.{last, last_from}
 use Rattle.session_run.specs.Follows.{AnswersLine, AreSteps, AreStepsBehind, IsWholeCall, StepsToEnd, StepsUpTo, stepped_call, FollowsFrom, Follows, FollowsFront}
 use Rattle.cluster_record.specs.RecordState.{is_up}
@@ -73,6 +74,7 @@ could_answer m (lines.Put k r) = labels.Put k r puts.Nothing
 could_answer m (lines.Propagate k) = labels.Pulled k pulls.Nothing
 could_answer m (lines.Show k) = labels.Shown k None
 could_answer m (lines.Fail r) = labels.Failed r (is_up r m.cluster)
+could_answer m (lines.Join r) = labels.Joined r (join_answer r m.cluster)
 could_answer m line = labels.Nodes 0
 
 -- one step, where some are asked for
@@ -97,6 +99,7 @@ could_answer-answers m t (lines.Put k r) playable = (refl, refl, refl)
 could_answer-answers m t (lines.Propagate k) playable = (refl, refl)
 could_answer-answers m t (lines.Show k) playable = (refl, refl)
 could_answer-answers m t (lines.Fail r) playable = refl
+could_answer-answers m t (lines.Join r) playable = refl
 could_answer-answers m t line playable = absurd playable
 
 -- lines that can be played could be answered one by one, from any state

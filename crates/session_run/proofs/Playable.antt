@@ -34,6 +34,7 @@ is_playable t (lines.Put k r) built = built
 is_playable t (lines.Propagate k) built = tt
 is_playable t (lines.Show k) built = tt
 is_playable t (lines.Fail r) built = built
+is_playable t (lines.Join r) built = built
 is_playable t (lines.At u) built = is_moment t u built.0 built.1
 is_playable t line built = absurd built
 

@@ -20,6 +20,7 @@ use Rattle.script_lines.specs.declared.lines.Line.{Line}
 use Rattle.script_lines.specs.declared.lines.Line.TheVariants as lines
 use Rattle.cluster_record.specs.RecordState.{entry_of, is_up}
 use Rattle.ckpt_machine.specs.Machine.{Machine, CallState, empty_cluster}
+use Rattle.ckpt_machine.specs.NodeJoins.{join_answer}
 use Rattle.ckpt_machine.specs.Runs.{last_from}
 use Rattle.session_run.specs.Puts.{ArePuts, IsPropagation, IsPull, other_nodes}
 
@@ -89,6 +90,7 @@ AnswersLine m (lines.Put k r) log = ArePuts k (r ∷ []) log
 AnswersLine m (lines.Propagate k) log = IsPropagation k (other_nodes (entry_of k m.cluster.entries)) log
 AnswersLine m (lines.Show k) log = IsListing k log
 AnswersLine m (lines.Fail r) log = log ≡ labels.Failed r (is_up r m.cluster) ∷ []
+AnswersLine m (lines.Join r) log = log ≡ labels.Joined r (join_answer r m.cluster) ∷ []
 AnswersLine m line log = ⊥
 
 -- from this state the lines come in order, each with its labels, no more than a line gives, and each in the state after

@@ -10,7 +10,7 @@ use Rattle.cluster_record.specs.RecordState.{IsMomentFrom}
 use Rattle.world_core.specs.Runs.{IsScriptClient, MayBeStepped}
 
 -- at this moment the line can be played with the nodes up: a call of a client, whole or only begun; steps of a call; a moment that does not go back; a
--- pull, a put at one of the nodes, or a propagation; a show; or the failure of one of the nodes
+-- pull, a put at one of the nodes, or a propagation; a show; or the failure or the join of one of the nodes
 abbrev pub IsPlayableLine : ℤ → Line → Type 0
 IsPlayableLine t (lines.Call c op) = (c < client_numbers) × IsBuilt op
 IsPlayableLine t (lines.Begin a op) = IsScriptClient a × IsBuilt op
@@ -22,6 +22,7 @@ IsPlayableLine t (lines.Put k r) = r < nodes_max
 IsPlayableLine t (lines.Propagate k) = Unit {0}
 IsPlayableLine t (lines.Show k) = Unit {0}
 IsPlayableLine t (lines.Fail r) = r < nodes_max
+IsPlayableLine t (lines.Join r) = r < nodes_max
 IsPlayableLine t line = ⊥
 
 -- each of the lines can be played at the moment at which it comes, the first at this one

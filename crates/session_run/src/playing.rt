@@ -100,6 +100,7 @@ fn play_line<W: Cluster>(
         Line::Propagate(ckpt) => propagate(alloc, *ckpt, log, world),
         Line::Show(ckpt) => world.event(alloc, Event::Show(*ckpt), log),
         Line::Fail(node) => world.event(alloc, Event::Fail(*node), log),
+        Line::Join(node) => world.event(alloc, Event::Join(*node), log),
         _ => unreachable!(),
     }
 }

@@ -1,12 +1,14 @@
-//! The record of the cluster where memory is there: a client comes and makes a checkpoint, and a copy goes its own way.
-ghost use Rattle.std.specs.Prelude.{◌≡◌, IfSome, true};
+//! The record of the cluster where memory is there: a client comes and makes a checkpoint, and a copy goes its own way; a
+//! node joins, and comes to be complete for what was made before.
+ghost use Rattle.std.specs.Prelude.{◌≡◌, IfSome, IsSome, true};
 ghost use Rattle.ckpt_types.specs.Attributes.{IsWellFormed};
-ghost use Rattle.cluster_record.specs.RecordReady.{CanOpen};
+ghost use Rattle.cluster_record.specs.RecordReady.{CanJoin, CanOpen, CanSetActive};
+ghost use Rattle.cluster_record.specs.RecordState.{entry_of};
 
 use crate::rows::{holds, met};
 use ckpt_types::{
-    ActorName, Bytes, CLIENT_NUMBERS, CallId, CkptId, CreationAttributes, Moment, NodeId, OpenAsk,
-    WR_ALL_REPLICAS, name_fits,
+    ActorName, Bytes, CLIENT_NUMBERS, CallId, CkptId, CreationAttributes, Incarnation, Moment,
+    NODES_MAX, NodeId, OpenAsk, WR_ALL_REPLICAS, name_fits,
 };
 use cluster_record::{OpenAnswer, Record};
 use std::alloc::{AllocError, Global};
@@ -56,7 +58,8 @@ fn answer(record: &mut Record, ask: OpenAsk) -> Option<OpenAnswer> {
     Some(record.open(call, ask))
 }
 
-/// What a client gets that opens a checkpoint with these attributes, where it may ask and the record has numbers left.
+/// What a client gets that opens a checkpoint with these attributes on its node, or on n0 where it is not live; where it
+/// may ask and the record has numbers left.
 pub fn open_as(
     record: &mut Record,
     alloc: Global,
@@ -68,7 +71,7 @@ pub fn open_as(
         name: Bytes::from_slice(alloc, name)?,
         attrs,
         client,
-        node: 0,
+        node: record.home_of(client),
     };
     Ok(answer(record, ask))
 }
@@ -160,4 +163,77 @@ fn make_first(rt: &impl Abort, alloc: Global, record: &mut Record) -> Result<(),
 fn a_copy_goes_its_own_way(rt: HostRuntime) -> Result<(), AllocError> {
     let mut record = Record::new(rt.alloc(), 2)?;
     make_first(&rt, rt.alloc(), &mut record)
+}
+
+/// Whether a node may join.
+fn may_join(record: &Record, node: NodeId) -> bool
+    ensures { result ≡ true → CanJoin node «record».now }
+{
+    if usize::from(node) >= NODES_MAX || record.is_up(node) {
+        return false;
+    }
+    record.numbers_left()
+}
+
+/// A node joins, where it may, and this is the number of its first call then. The incarnation in which it is up, with that
+/// number.
+pub fn joins(record: &mut Record, node: NodeId, first: u32) -> Option<(Incarnation, u32)> {
+    if !may_join(record, node) {
+        return None;
+    }
+    record.join(node, first);
+    record.up(node)
+}
+
+/// Whether a node may come to be complete for a checkpoint: that is there, and the record has numbers left.
+fn may_complete(record: &Record, ckpt: CkptId) -> bool
+    ensures { result ≡ true → IsSome (entry_of ckpt «record».now.entries) × CanSetActive (entry_of ckpt «record».now.entries) }
+{
+    if record.entry(ckpt).is_none() {
+        return false;
+    }
+    record.numbers_left()
+}
+
+/// A node comes to be complete for K1, where it may: by node, with which incarnation one is complete then.
+fn completes(record: &mut Record, node: NodeId) -> [u32; NODES_MAX] {
+    if may_complete(record, 1) {
+        record.complete(1, node);
+    }
+    record.complete_on(1)
+}
+
+/// Whether this node is the active of K1, in this generation.
+fn leads(record: &Record, node: NodeId, generation: u64) -> bool {
+    match record.entry(1) {
+        None => false,
+        Some(entry) => entry.active == Some(node) && entry.generation == generation,
+    }
+}
+
+/// n1 comes to be complete for K1, of which n3 alone has a replica so far; n5, which is not up, does not.
+fn complete_one_by_one(rt: &impl Abort, record: &mut Record) {
+    holds(rt, 5, leads(record, 3, 1));
+    holds(rt, 6, completes(record, 5) == [0, 0, 0, 1, 0, 0, 0, 0]);
+    holds(rt, 7, completes(record, 1) == [0, 1, 0, 1, 0, 0, 0, 0]);
+    holds(rt, 8, leads(record, 1, 2));
+}
+
+/// n3 joins, and a client there makes K1; then n1 joins.
+fn join_one_by_one(rt: &impl Abort, alloc: Global, record: &mut Record) {
+    holds(rt, 1, joins(record, 3, 1) == Some((1, 1)));
+    holds(rt, 2, enters(record, 3, 3, 7));
+    met(rt, 3, makes(record, alloc, 3, b"a", 1));
+    record.finish_create(1);
+    holds(rt, 4, joins(record, 1, 4) == Some((1, 4)));
+    complete_one_by_one(rt, record);
+}
+
+#[test]
+fn a_node_joins_and_is_complete_for_what_was_made_before(
+    rt: HostRuntime,
+) -> Result<(), AllocError> {
+    let mut record = Record::new(rt.alloc(), 0)?;
+    join_one_by_one(&rt, rt.alloc(), &mut record);
+    Ok(())
 }

@@ -1,9 +1,13 @@
 //! The drivers of calls where memory is there: a copy of one goes on where that is.
-use crate::cluster::{ATTRIBUTES, open_as};
+ghost use Rattle.std.specs.Prelude.{◌<◌};
+ghost use Rattle.ckpt_types.specs.Limits.{nodes_max};
+
+use crate::cluster::{ATTRIBUTES, joins, open_as};
 use crate::rows::{holds, met};
-use ckpt_types::{ActorName, Answer, Bytes, CallId, NodeId, Shared};
+use ckpt_types::{ActorName, Answer, Bytes, CallId, NodeId, Outcome, Shared};
 use cluster_record::{ActiveKind, Record, SyncKind};
 use drive_active::ActiveCall;
+use drive_join::CopyCall;
 use drive_open::{OpenCall, SharedAsk};
 use drive_sync::SyncCall;
 use drive_update::UpdateCall;
@@ -110,6 +114,51 @@ fn each_goes_on(rt: &impl Abort, alloc: Global, seen: &mut Record) -> Result<(),
     met(rt, 2, weak_write_goes_on(alloc, seen));
     met(rt, 3, synchronisation_goes_on(alloc, seen));
     open_goes_on(rt, alloc, seen)
+}
+
+/// The copying of a node, whose update has staged nowhere.
+fn copying_to(node: NodeId) -> CopyCall<UpdateCall>
+    requires { node < nodes_max }
+{
+    let call = CallId {
+        actor: ActorName::Node(node),
+        number: 1,
+    };
+    CopyCall::begin(call, UpdateCall::begin(call, 1))
+}
+
+/// Whether a node lacks nothing: its copying is done.
+fn lacks_nothing(seen: &Record, node: NodeId) -> bool
+    requires { node < nodes_max }
+{
+    matches!(copying_to(node).next(seen), Next::End(Outcome::Done(_)))
+}
+
+/// Whether a copying that has reserved is to stage its update on n0, in a copy of it.
+fn copying_goes_on(alloc: Global, seen: &Record) -> Result<bool, AllocError> {
+    let mut call = copying_to(5);
+    if call.take(seen, &Reply::Done(Answer::Nothing)).is_some() {
+        return Ok(false);
+    }
+    let copy = call.copy(alloc)?;
+    Ok(asks(copy.next(seen), 0, Verb::Stage))
+}
+
+/// n5 joins behind the making of K1, which it lacks then.
+fn copying_begins(rt: &impl Abort, alloc: Global, seen: &mut Record) -> Result<(), AllocError> {
+    open_as(seen, alloc, 3, b"a", Some(ATTRIBUTES))?;
+    seen.finish_create(1);
+    holds(rt, 1, joins(seen, 5, 1) == Some((1, 1)));
+    holds(rt, 2, lacks_nothing(seen, 1));
+    holds(rt, 3, asks(copying_to(5).next(seen), 5, Verb::Reserve));
+    met(rt, 4, copying_goes_on(alloc, seen));
+    Ok(())
+}
+
+#[test]
+fn a_copying_begins_with_what_its_node_lacks(rt: HostRuntime) -> Result<(), AllocError> {
+    let mut seen = Record::new(rt.alloc(), 2)?;
+    copying_begins(&rt, rt.alloc(), &mut seen)
 }
 
 #[test]

@@ -59,6 +59,7 @@ pull K9
 put K9 n7
 propagate K80
 fail n6
+join n6
 begin create c0 h0 'a 9223372036854775807 'b
 begin write c0 h0 'a 0 'b x 1 xFF
 ";
@@ -108,6 +109,7 @@ pull K9
 put K9 n7
 propagate K80
 fail n6
+join n6
 begin create c0 h0 x61 end x62
 begin write c0 h0 x61 0 x62 x 1 xff
 ";

@@ -80,6 +80,7 @@ answers_label (happenings.Step who finish) old new label (inl step) = step_answe
 answers_label (happenings.Step who finish) old new label (inr idle) = subst (λ p. AnswersStep who finish p old new label) (sym idle.none) idle.word
 answers_label (happenings.Show k) old new label is = (is.label_is, ap (λ (w : World). w.hands) is.same)
 answers_label (happenings.Fail r) old new label is = (is.label_is, is.moment)
+answers_label (happenings.Join r) old new label is = (is.label_is, is.hands, is.moment)
 answers_label event old new label is = (is.label_is, is.hands)
 
 keeps_others : (event : Event) (old new : World) (label : Label) → IsAnswered event old new label → KeepsOthers event old new

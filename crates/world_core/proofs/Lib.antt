@@ -53,3 +53,4 @@ pub mod EventEnds
 pub mod ByNumber
 pub mod FailedParts
 pub mod FailedWorld
+pub mod JoinedWorld

@@ -165,6 +165,8 @@ after-moment m (labels.Pulled k reply) due = after_pull (SameMoment m) m k reply
 after-moment m (labels.Put k r reply) due = after_put (SameMoment m) m k r reply refl (λ s x copied on. refl)
 after-moment m (labels.Failed r true) due = refl
 after-moment m (labels.Failed r false) due = refl
+after-moment m (labels.Joined r (Some incarnation)) due = refl
+after-moment m (labels.Joined r None) due = refl
 after-moment m l due = refl
 
 -- ---- the moment after an event
@@ -201,6 +203,7 @@ answers-moment (happenings.Show k) old new label before answers = listed-moment 
 answers-moment (happenings.Pull k) old new label before answers = pull-moment k label before answers.0
 answers-moment (happenings.Put k r) old new label before answers = put_of-moment k r label before answers.0
 answers-moment (happenings.Fail r) old new label before answers = ap (λ l. moment_after l before) answers.0
+answers-moment (happenings.Join r) old new label before answers = ap (λ l. moment_after l before) answers.0
 
 -- and so the world shows it
 pub shown-moment : (event : Event) (old new : World) (label : Label) (m : Machine) → Shows old m → Facts m → Does old new label → Answers event old new label → new.cluster.moment ≡ moment_of event old.cluster.moment

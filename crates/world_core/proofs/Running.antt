@@ -160,4 +160,5 @@ roomy runs w log to few =
       identity = let n = counts.identity in omega (arith, n, few);
       generations = λ k e is. let n = counts.generations k e is in omega (arith, n, few);
       references = λ k e c is. let n = counts.references k e c is in omega (arith, n, few);
+      incarnations = λ r. let n = counts.incarnations r in omega (arith, n, few);
     }

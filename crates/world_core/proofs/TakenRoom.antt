@@ -81,6 +81,7 @@ module _ (w : World) (v : Who) (t : TableState) (table : slice_get w.tables (cli
       identity = roomy.identity;
       generations = roomy.generations;
       references = roomy.references;
+      incarnations = roomy.incarnations;
     };
     has_room = has_it;
     step = λ new label step. record {

@@ -26,6 +26,7 @@ use Rattle.world_core.specs.declared.world.World.{World}
 use Rattle.cluster_record.specs.Calls.{left}
 use Rattle.cluster_record.specs.RecordState.{empty_record, is_up, IsMomentFrom}
 use Rattle.ckpt_machine.specs.Driving.{driver_next}
+use Rattle.ckpt_machine.specs.NodeJoins.{join_answer}
 use Rattle.ckpt_types.specs.Asks.{IsBuilt}
 use Rattle.ckpt_machine.specs.Tables.{rooms_in}
 use Rattle.client_calls.specs.Names.{client_by}
@@ -126,6 +127,13 @@ pub record Fails (r : ℕ) (old new : World) (label : Label) : Type 0 where
   pub moment : new.cluster.moment ≡ old.cluster.moment
   pub does : Does old new label
 
+-- a node joins, where it is not up, and the calls in hand and the moment are as they were
+pub record Joins (r : ℕ) (old new : World) (label : Label) : Type 0 where
+  pub label_is : label ≡ labels.Joined r (join_answer r old.cluster)
+  pub hands : new.hands ≡ old.hands
+  pub moment : new.cluster.moment ≡ old.cluster.moment
+  pub does : Does old new label
+
 -- what the event asks of the world
 abbrev pub ComesNow : World → Event → Type 0
 ComesNow w (happenings.Nodes n) = (0 < n) × (n ≤ nodes_max) × (w.cluster ≡ empty_record)
@@ -136,6 +144,7 @@ ComesNow w (happenings.At t) = IsMomentFrom w.cluster.moment t
 ComesNow w (happenings.Pull k) = Unit {0}
 ComesNow w (happenings.Put k r) = r < nodes_max
 ComesNow w (happenings.Fail r) = r < nodes_max
+ComesNow w (happenings.Join r) = r < nodes_max
 ComesNow w event = ⊥
 
 -- what the event does, with the label that answers it
@@ -148,4 +157,5 @@ IsAnswered (happenings.At t) old new label = SetsMoment t old new label
 IsAnswered (happenings.Pull k) old new label = Propagates (IsPulledOf k) old new label
 IsAnswered (happenings.Put k r) old new label = Propagates (IsPutOf k r) old new label
 IsAnswered (happenings.Fail r) old new label = Fails r old new label
+IsAnswered (happenings.Join r) old new label = Joins r old new label
 IsAnswered event old new label = ⊥

@@ -20,3 +20,4 @@ pub mod Happenings
 pub mod TablesState
 pub mod TablesLending
 pub mod Failing
+pub mod NodeJoins

@@ -26,6 +26,7 @@ use Rattle.client_calls.specs.TableState.{next_in}
 use Rattle.world_core.specs.TablesState.{kept_by, pending_by}
 use Rattle.ckpt_types.specs.Asks.{IsBuilt}
 use Rattle.ckpt_machine.specs.Machine.{no_tables}
+use Rattle.ckpt_machine.specs.NodeJoins.{join_answer}
 use Rattle.world_core.specs.HandsState.{hand_at}
 use Rattle.world_core.specs.Shows.{Shows}
 use Rattle.ckpt_machine.specs.Runs.{last, IsRun}
@@ -65,7 +66,7 @@ MayBeStepped (whos.Actor (Client c)) = c < client_numbers
 MayBeStepped who = Unit {0}
 
 -- the events that may come: up to eight nodes first, then calls of clients that begin and are stepped in any order, moments, shows, pulls and puts, and
--- failures of nodes
+-- failures and joins of nodes
 abbrev pub Comes : World → List Label → Event → Type 0
 Comes w log (happenings.Nodes n) = (0 < n) × (n ≤ nodes_max) × (log ≡ [])
 Comes w log (happenings.Begin a op) = IsScriptClient a × IsBuilt op
@@ -75,6 +76,7 @@ Comes w log (happenings.Show k) = Unit {0}
 Comes w log (happenings.Pull k) = Unit {0}
 Comes w log (happenings.Put k r) = r < nodes_max
 Comes w log (happenings.Fail r) = r < nodes_max
+Comes w log (happenings.Join r) = r < nodes_max
 
 -- this call is in hand
 abbrev pub IsThere : CallId → Op → Option InHand → Type 0
@@ -152,6 +154,8 @@ Answers (happenings.Show k) old new label = IsShownOf k label × (new.hands ≡ 
 Answers (happenings.Pull k) old new label = IsPulledOf k label × (new.hands ≡ old.hands)
 Answers (happenings.Put k r) old new label = IsPutOf k r label × (new.hands ≡ old.hands)
 Answers (happenings.Fail r) old new label = (label ≡ labels.Failed r (is_up r old.cluster)) × (new.cluster.moment ≡ old.cluster.moment)
+Answers (happenings.Join r) old new label =
+    (label ≡ labels.Joined r (join_answer r old.cluster)) × (new.hands ≡ old.hands) × (new.cluster.moment ≡ old.cluster.moment)
 
 -- the calls for which other clients wait are as they were
 abbrev pub KeepsOthers : Event → World → World → Type 0

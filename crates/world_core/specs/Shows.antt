@@ -173,3 +173,4 @@ pub record HasNumbersLeft (w : World) : Type 0 where
   pub identity : w.cluster.last_identity < 2 ^ 32 - 1
   pub generations : (k : ℕ) (e : Entry) → entry_of k w.cluster.entries ≡ Some e → e.generation < 2 ^ 64 - 1
   pub references : (k : ℕ) (e : Entry) (c : ℕ) → entry_of k w.cluster.entries ≡ Some e → slice_index e.references c < 2 ^ 32 - 1
+  pub incarnations : (r : ℕ) → slice_index w.cluster.last_incarnations r < 2 ^ 32 - 1

@@ -6,6 +6,7 @@ mod begins;
 mod failing;
 mod gone;
 mod hands;
+mod joining;
 mod law;
 mod moments;
 mod propagation;

@@ -37,6 +37,8 @@ pub enum Event {
     Put(CkptId, NodeId),
     /// A node fails.
     Fail(NodeId),
+    /// A node joins.
+    Join(NodeId),
 }
 
 /// The cluster.
@@ -173,6 +175,10 @@ impl World {
             }
             Event::Fail(r) => {
                 self.fail(r, log);
+                Ok(())
+            }
+            Event::Join(r) => {
+                self.join(r, log);
                 Ok(())
             }
             _ => unreachable!(),

@@ -35,3 +35,9 @@ returns-clause-ends g c = (c.machine_law.ensures.promises c.run_command.new.log.
 
 pub returns-clause-causes : goal.returns-clause-causes
 returns-clause-causes g c = (c.machine_law.ensures.promises c.run_command.new.log.labels c.run_command.ensures.run.run).causes
+
+pub returns-clause-references : goal.returns-clause-references
+returns-clause-references g c = (c.machine_law.ensures.promises c.run_command.new.log.labels c.run_command.ensures.run.run).references
+
+pub returns-clause-callbacks : goal.returns-clause-callbacks
+returns-clause-callbacks g c = (c.machine_law.ensures.promises c.run_command.new.log.labels c.run_command.ensures.run.run).callbacks

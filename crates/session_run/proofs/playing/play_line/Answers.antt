@@ -9,6 +9,7 @@ use Rattle.run_labels.specs.declared.labels.PutReply.TheVariants as puts
 use Rattle.script_lines.specs.declared.lines.Line.{Line}
 use Rattle.cluster_record.specs.RecordState.{is_up}
 use Rattle.ckpt_machine.specs.Machine.{Machine}
+use Rattle.ckpt_machine.specs.NodeJoins.{join_answer}
 use Rattle.ckpt_machine.specs.Runs.{last}
 use Rattle.session_run.specs.Follows.{AnswersLine}
 use Rattle.session_run.specs.Growing.{GrowsTowards}
@@ -46,6 +47,14 @@ returns-in-Fail-clause-front g c =
     subst (λ (line : Line). GrowsTowards old c.event-in-Fail.new.log.labels (AnswersLine (last old) line)) (sym c.in-Fail.is)
     (towards_label _ c.event-in-Fail.result old c.event-in-Fail.new.log.labels (labels.Failed r (is_up r (last old).cluster)) refl
     (OnOk-map c.event-in-Fail.result c.event-in-Fail.ensures.happens (λ h. h.grows ∙ ap (λ (l : Label). old ++ l ∷ []) (h.answers.0 ∙ ap (λ (m : Machine). labels.Failed r (is_up r m.cluster)) (sym c.requires.run.shows.same)))) c.event-in-Fail.ensures.err)
+
+pub returns-in-Join-clause-front : goal.returns-in-Join-clause-front
+returns-in-Join-clause-front g c =
+    let old = c.args.log.now.labels in
+    let r = c.in-Join.node in
+    subst (λ (line : Line). GrowsTowards old c.event-in-Join.new.log.labels (AnswersLine (last old) line)) (sym c.in-Join.is)
+    (towards_label _ c.event-in-Join.result old c.event-in-Join.new.log.labels (labels.Joined r (join_answer r (last old).cluster)) refl
+    (OnOk-map c.event-in-Join.result c.event-in-Join.ensures.happens (λ h. h.grows ∙ ap (λ (l : Label). old ++ l ∷ []) (h.answers.0 ∙ ap (λ (m : Machine). labels.Joined r (join_answer r m.cluster)) (sym c.requires.run.shows.same)))) c.event-in-Join.ensures.err)
 
 pub returns-in-Begin-clause-front : goal.returns-in-Begin-clause-front
 returns-in-Begin-clause-front g c =
