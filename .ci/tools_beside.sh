@@ -51,12 +51,8 @@ write c0 h0 x 0 'abc                  c0.3 write OK
 read c0 h0 x 0 16                     c0.4 read OK x616263" ""
 
 stepped() {
+    two_clients
     cat << 'SCRIPT'
-nodes 2
-client c0 n0 B.2.2 none
-client c1 n1 B.2.2 none
-open c0 h0 'ck 7 end 1 16 0 1 16 8
-open c1 h0 'ck 3 end
 begin write c0 h0 x 0 'abc
 step c0 3
 show K1

@@ -8,12 +8,8 @@ cut_call() {
 
 # A write that overlaps another, on two nodes, and what a client on the other node makes of it
 written() {
+    two_clients
     cat << 'SCRIPT'
-nodes 2
-client c0 n0 B.2.2 none
-client c1 n1 B.2.2 none
-open c0 h0 'ck 7 end 1 16 0 1 16 8
-open c1 h0 'ck 3 end
 write c0 h0 x 0 'old
 # the write that is cut
 write c0 h0 x 0 'new
