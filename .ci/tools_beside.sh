@@ -295,10 +295,11 @@ at_fault "a long number" "nodes $(printf '9%.0s' {1..5000})\n" 1 number "nodes $
 at_fault "a word too few" 'nodes 1\n\nclient c0 n0 B.2\n' 3 count "client c0 n0 B.2" \
     "The line has too few or too many words. Its form: client C NODE VERSION CALLBACKS"
 at_fault "begin alone" 'nodes 1\nbegin\n' 2 count "begin" "The line has too few or too many words. Its form: begin LINE"
-at_fault "a line that is to be built" 'copy n0\n' 1 "not built" "copy n0" 'No line `copy` is built yet.'
+at_fault "a line that is to be built" 'race\n' 1 "not built" "race" 'No line `race` is built yet.'
+at_fault "a client that copies" 'nodes 2\ncopy c0\n' 2 word "copy c0" '`c0` is to be a node, n0 to n7.'
 at_fault "a node too high" 'nodes 2\nfail n8\n' 2 word "fail n8" '`n8` is to be a node, n0 to n7.'
 at_fault "a client that joins" 'nodes 2\njoin c0\n' 2 word "join c0" '`c0` is to be a node, n0 to n7.'
-at_fault "the same behind begin" 'nodes 2\nbegin copy n1\n' 2 "not built" "begin copy n1" 'No line `begin copy` is built yet.'
+at_fault "the same behind begin" 'nodes 2\nbegin copy n8\n' 2 word "begin copy n8" '`n8` is to be a node, n0 to n7.'
 at_fault "other callbacks" 'nodes 1\nclient c0 n0 B.2.2 all\n' 2 word "client c0 n0 B.2.2 all" \
     '`all` is to be `none`, `open`, `sync` or `both`.'
 at_fault "an asynchronous open with half its attributes" "nodes 1\nopenasync c0 h0 7 'ck 7 1 16 0\n" 2 count \

@@ -4,21 +4,22 @@ import itertools
 import math
 import re
 
-CALL = r"(?P<call>(?P<client>c\d+)\.\d+)"
+# A call is of a client, or of a node where it is a copying.
+CALL = r"(?P<call>(?P<client>[cn]\d+)\.\d+)"
 # The kinds of lines, in the order in which a line is held against them.
 LINES = {
     "moment": re.compile(r"\+ (?P<text>at \d+)"),
     "begin": re.compile(rf"\+ (?P<text>{CALL} begin (?P<operation>[a-z]+))"),
     "step": re.compile(
         rf"\+ {CALL} (?P<verb>[a-z]+)( (?P<checkpoint>K\d+))?( (?P<node>n\d+))?"
-        r" (?P<reply>ok|done|refused|older|memory|held c\d+\.\d+|free \d+)"
+        r" (?P<reply>ok|done|refused|older|memory|held [cn]\d+\.\d+|free \d+)"
     ),
     "gone": re.compile(r"(?P<text>(?P<checkpoint>K\d+) gone)"),
     "pull": re.compile(r"(?P<text>K\d+ pull (OK \d+|HELD c\d+\.\d+|NONE))"),
     "put": re.compile(r"(?P<checkpoint>K\d+) put (?P<node>n\d+)(?P<text> (OK \d+|OLD \d+ \d+|STALE \d+ \d+|NONE))"),
     "show": re.compile(
         r"(?P<checkpoint>K\d+) (?P<node>n\d+)(?P<text>(?P<active>\*?) g(?P<generation>\d+) u(?P<updates>\d+)"
-        r" (?P<slot>free|held c\d+\.\d+|mark c\d+\.\d+)(?P<sections>( [-0-9A-Za-z]+)*))"
+        r" (?P<slot>free|held [cn]\d+\.\d+|mark c\d+\.\d+)(?P<sections>( [-0-9A-Za-z]+)*))"
     ),
     "result": re.compile(rf"(?P<text>{CALL} (?P<operation>[a-z]+) (?P<result>[A-Z_]+)(?P<details>( [-0-9A-Za-z_.]+)*))"),
     "callback": re.compile(r"(?P<text>(?P<who>c\d+) (?P<told>callback (?P<operation>open|sync) \d+ [-0-9A-Za-z_. ]+))"),

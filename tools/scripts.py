@@ -33,6 +33,7 @@ CALLS = {
     "syncasync": "C H INVOCATION",
     "dispatch": "C FLAGS",
     "finalize": "C",
+    "copy": "NODE",
 }
 # Their client does not wait for these.
 ASYNCHRONOUS = ("openasync", "syncasync")

@@ -44,7 +44,7 @@ led_by r e = record e { active = Some r; generation = e.generation + 1; hold = N
 -- a checkpoint goes on made where a node leads it anew
 pub led_goes : (r : ℕ) (e : Entry) → GoesOnMade e (led_by r e)
 led_goes r e = record {
-  made = λ made. record { made = made; generation = omega arith; active = λ same. (let still : e.generation + 1 ≡ e.generation = same in absurd (omega (arith, still))); placed = λ apart q there. there };
+  made = λ made. record { made = made; generation = omega arith; active = λ same. (let still : e.generation + 1 ≡ e.generation = same in absurd (omega (arith, still))) };
   attributes = refl;
   since = refl;
 }

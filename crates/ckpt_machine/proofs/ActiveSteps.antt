@@ -25,7 +25,9 @@ use Rattle.ckpt_machine.proofs.CallsKept.{IsSameCall, same_call-None, apart_from
 use Rattle.ckpt_machine.proofs.OnComplete.{present_generation, put_complete}
 use Rattle.ckpt_machine.proofs.OptionLemmas.{IsSomeAnd-from}
 use Rattle.ckpt_machine.proofs.Lives.{LivesOn, lives_on-one, lives_on-fewer, enters-fewer, enters-one, dead_on}
-use Rattle.ckpt_machine.proofs.OtherCalls.{LooksAlike, LooksLater-refl, making_still, IsInHand-alike, IsIn-apart, IsGoodIn-alike}
+use Rattle.ckpt_machine.proofs.LaterIncarnations.{incarnations_stay}
+use Rattle.ckpt_machine.proofs.UpdateIn.{active_apart}
+use Rattle.ckpt_machine.proofs.OtherCalls.{LooksAlike, LooksLater-refl, LiesUnder, LiesUnder-refl, making_still, IsInHand-alike, IsIn-apart, IsGoodIn-alike}
 use Rattle.ckpt_machine.specs.Whose.{put_who, same_who}
 use Rattle.ckpt_machine.proofs.Whose.{put_who-cases, put_who-other, apart_states}
 
@@ -41,7 +43,7 @@ module _ (m : Machine) (shapes : ℕ → Shape) (inv : InvariantIn shapes m) (s 
   other_by_driver z there apart = apart_states m.in_hand z s there held (λ same. apart (ap driver_of same ∙ is))
 
   owner_other : (j : ℕ) (sh : Shape) (d : CallId) (own : IsOwner m j sh d) → same_who (who own.state) (who s) ≡ false
-  owner_other j sh d own = other_by_driver own.state own.in_hand (λ same. let w : drivers.Update own.driver ≡ drivers.Active a = sym own.driver_is ∙ same in cc w)
+  owner_other j sh d own = other_by_driver own.state own.in_hand (active_apart (driver_of own.state) own.driver a own.driver_is)
 
   maker_other : (j : ℕ) (d : CallId) (own : IsMaker m j d) → same_who (who own.state) (who s) ≡ false
   maker_other j d own = other_by_driver own.state own.in_hand (λ same. let w : drivers.Open own.driver ≡ drivers.Active a = sym own.driver_is ∙ same in cc w)
@@ -66,7 +68,7 @@ module _ (m : Machine) (shapes : ℕ → Shape) (inv : InvariantIn shapes m) (s 
   -- another checkpoint is as it was
   IsGoodIn-other : (f : ℕ → ℕ → Option ReplicaState) (o : Option CallState) → LivesOn m (with_step f o) → ((j q : ℕ) → (j == a.ckpt) ≡ false → f j q ≡ m.replicas j q) → (j : ℕ) (sh : Shape) (e : Entry) (maker : Option CallId) → (j == a.ckpt) ≡ false → IsGoodIn m j sh e maker → IsGoodIn (with_step f o) j sh e maker
   IsGoodIn-other f o lives stays j sh e maker other good = IsGoodIn-alike m (with_step f o) j lives sh e (λ q there. stays j q other)
-      (λ d own. put_who-other m.in_hand (who s) o (who own.state) (owner_other j sh d own)) (λ marks stand own. put_who-other m.in_hand (who s) o (who own.state) (marker_other j marks other own)) (λ active d own. put_who-other m.in_hand (who s) o (who own.state) (holder_other j active d own)) (λ d own. put_who-other m.in_hand (who s) o (who own.state) (maker_other j d own)) maker good
+      (λ r d owns own. put_who-other m.in_hand (who s) o (who own.state) (owner_other j sh d own)) (λ marks stand own. put_who-other m.in_hand (who s) o (who own.state) (marker_other j marks other own)) (λ active d own. put_who-other m.in_hand (who s) o (who own.state) (holder_other j active d own)) (λ d own. put_who-other m.in_hand (who s) o (who own.state) (maker_other j d own)) maker good
 
   -- ---- it ends, where no marks of it stand, or its checkpoint is gone
 
@@ -78,9 +80,10 @@ module _ (m : Machine) (shapes : ℕ → Shape) (inv : InvariantIn shapes m) (s 
     none_live = inv.none_live;
     rises = inv.rises;
     up_to = inv.up_to;
+    few = inv.few;
     swept = inv.swept;
     entries = λ j e found. IsGoodIn-alike m (record m { in_hand = put_who m.in_hand (who s) None }) j (lives_on-fewer m (record m { in_hand = put_who m.in_hand (who s) None }) shapes shapes inv (λ d. refl) refl refl hands_left was_held) (shapes j) e (λ q there. refl)
-        (λ d own. put_who-other m.in_hand (who s) None (who own.state) (owner_other j (shapes j) d own)) (λ marks stand own. put_who-other m.in_hand (who s) None (who own.state) (another j e found marks stand own))
+        (λ r d owns own. put_who-other m.in_hand (who s) None (who own.state) (owner_other j (shapes j) d own)) (λ marks stand own. put_who-other m.in_hand (who s) None (who own.state) (another j e found marks stand own))
         (λ active d own. put_who-other m.in_hand (who s) None (who own.state) (holder_other j active d own)) (λ d own. put_who-other m.in_hand (who s) None (who own.state) (maker_other j d own)) e.making (inv.entries j e found);
     replicas = inv.replicas;
     reserves = inv.reserves;
@@ -99,7 +102,7 @@ module _ (m : Machine) (shapes : ℕ → Shape) (inv : InvariantIn shapes m) (s 
       ]
 
       hands_left : (b : Who) (z : CallState) → put_who m.in_hand (who s) None b ≡ Some z → IsInHand (record m { in_hand = put_who m.in_hand (who s) None }) shapes b z
-      hands_left b z left = let was = inv.hands b z (was_held b z left) in record { whose = was.whose; client = was.client; number = was.number; built = was.built; driven = was.driven; live = was.live; home = was.home; here = IsIn-apart m shapes m.next m.pending (put_who m.in_hand (who s) None) (dead_on m (record m { in_hand = put_who m.in_hand (who s) None }) (λ d. refl) refl (enters-fewer m (record m { in_hand = put_who m.in_hand (who s) None }) was_held)) z (driver_of z) was.here }
+      hands_left b z left = let was = inv.hands b z (was_held b z left) in record { whose = was.whose; asker = was.asker; number = was.number; built = was.built; driven = was.driven; live = was.live; home = was.home; here = IsIn-apart m shapes m.next m.pending (put_who m.in_hand (who s) None) (dead_on m (record m { in_hand = put_who m.in_hand (who s) None }) (λ d. refl) refl (enters-fewer m (record m { in_hand = put_who m.in_hand (who s) None }) was_held)) z was.asker (driver_of z) was.here }
 
       -- whose marks stand is another call
       another : (j : ℕ) (e : Entry) → entry_of j m.cluster.entries ≡ Some e → (marks : Marked) → (shapes j).marks ≡ Some marks → (own : IsMarker m j marks) → same_who (who own.state) (who s) ≡ false
@@ -146,6 +149,7 @@ module _ (m : Machine) (shapes : ℕ → Shape) (inv : InvariantIn shapes m) (s 
 
     spread_then : ((w : Marked) → marks ≡ Some w → IsMarker then_machine a.ckpt w) → IsSpread then_machine a.ckpt (marked_so (shapes a.ckpt) marks) e
     spread_then marked = record {
+      well_formed = was.well_formed;
       nodes = was.nodes;
       some = was.some;
       up = was.up;
@@ -169,12 +173,15 @@ module _ (m : Machine) (shapes : ℕ → Shape) (inv : InvariantIn shapes m) (s 
     looks_then : LeavesMarks → ((d : CallId) → IsDead m d → IsDead then_machine d) → (z : CallState) → z.call ≢ s.call → LooksAlike m then_machine shapes then_shapes z
     looks_then leaves dead z other = record {
       up = λ r up. up;
-      lives = refl;
+      incarnations = incarnations_stay m.cluster m.cluster refl refl;
+      lives = λ client. refl;
+      node = λ r own. refl;
       home = refl;
       handle = λ there. there;
       making = λ v at. making_still m then_machine z v (λ w at. record { there = at.there; declares = at.declares; nodes = at.nodes; reserved = at.reserved; only = at.only; within = at.within; no_later = at.no_later }) at;
       made = λ k was. was;
-      later = λ k was e found. (e, found, LooksLater-refl z (shapes k).marks e);
+      later = λ k was e found. (e, found, LooksLater-refl m.cluster.up z (shapes k) e);
+      reserved = λ k r was own f found free. refl;
       owners = λ j was q. elim (j == a.ckpt) as (λ b. (j == a.ckpt) ≡ b → is_owner z.call ((cond b (marked_so (shapes a.ckpt) marks) (shapes j)).owners q) ≡ is_owner z.call ((shapes j).owners q)) [
         | true ↦ λ same. ap (λ n. is_owner z.call ((shapes n).owners q)) (sym (eqb-true j a.ckpt same))
         | false ↦ λ same. refl
@@ -182,6 +189,10 @@ module _ (m : Machine) (shapes : ℕ → Shape) (inv : InvariantIn shapes m) (s 
       marks = λ j was. elim (j == a.ckpt) as (λ b. (j == a.ckpt) ≡ b → is_marked_by z.call (cond b (marked_so (shapes a.ckpt) marks) (shapes j)).marks ≡ is_marked_by z.call (shapes j).marks) [
         | true ↦ λ same. leaves z.call other ∙ ap (λ n. is_marked_by z.call (shapes n).marks) (sym (eqb-true j a.ckpt same))
         | false ↦ λ same. refl
+      ] refl;
+      under = λ j was x found all. elim (j == a.ckpt) as (λ b. (j == a.ckpt) ≡ b → LiesUnder (shapes j) (cond b (marked_so (shapes a.ckpt) marks) (shapes j))) [
+        | true ↦ λ same. subst (λ n. LiesUnder (shapes n) (marked_so (shapes a.ckpt) marks)) (sym (eqb-true j a.ckpt same)) (record { sections = refl; effects = refl })
+        | false ↦ λ same. LiesUnder-refl (shapes j)
       ] refl;
       dead = λ j f was found. dead;
       done = λ j was. elim (j == a.ckpt) as (λ b. (j == a.ckpt) ≡ b → IsDoneIn (shapes j) z → IsDoneIn (cond b (marked_so (shapes a.ckpt) marks) (shapes j)) z) [
@@ -199,6 +210,7 @@ module _ (m : Machine) (shapes : ℕ → Shape) (inv : InvariantIn shapes m) (s 
       none_live = inv.none_live;
       rises = inv.rises;
       up_to = inv.up_to;
+      few = inv.few;
       swept = inv.swept;
       entries = λ j f there. by_test j f there (j == a.ckpt) refl;
       replicas = put_complete m.cluster m.replicas a.ckpt r y (IsSomeAnd-from (entry_of a.ckpt m.cluster.entries) (λ e. IsCompleteOn e r × IsOfGeneration e r y.generation) e found (active_complete m shapes a.ckpt e r inv found made active, present_generation e r y.generation generation)) inv.replicas;

@@ -43,7 +43,8 @@ use Rattle.ckpt_machine.specs.Runs.{last, IsRun}
 use Rattle.ckpt_machine.specs.Shape.{IsCompleteOn}
 use Rattle.ckpt_machine.specs.After.{with_lead, led_from, change_replica, record_step, changed, kept_behind, stepped, step_of}
 use Rattle.ckpt_machine.specs.Due.{Told, IsDue, driver_of}
-use Rattle.ckpt_machine.proofs.BegunBefore.{all_began}
+use Rattle.ckpt_machine.proofs.Askers.{IsCopyAsk, asker_client}
+use Rattle.ckpt_machine.proofs.BegunBefore.{all_began, begun_on-other}
 use Rattle.ckpt_machine.proofs.Copying.{put2-here}
 use Rattle.ckpt_machine.proofs.Dropped.{held_as}
 use Rattle.ckpt_machine.proofs.EntrySteps.{entry_here, record_is, left_snapshots}
@@ -161,7 +162,7 @@ module _ (log : List Label) (run : IsRun log) (d : CallId) (answer : Answer) (de
       op = s.op;
       word = word;
       ckpt = k;
-      begun = subst (λ c. HasBegun log c s.op (Some k)) call_is (subst (HasBegun log s.call s.op) (sym own) (all_began log run s held));
+      begun = subst (λ c. HasBegun log c s.op (Some k)) call_is (subst (HasBegun log s.call s.op) (begun_on-other (asked s.op) s.kept.ckpt (subst IsCopyAsk asks_is) ∙ sym own) (all_began log run s held));
       entry = record e { active = Some r; generation = generation_under r e; hold = None };
       found = subst (λ (n : Machine). entry_of k n.cluster.entries ≡ Some (record e { active = Some r; generation = generation_under r e; hold = None })) (sym then_is) leads.0.found;
       made = made_there;
@@ -211,7 +212,7 @@ module _ (log : List Label) (run : IsRun log) (d : CallId) (answer : Answer) (de
             IfSome-at (entry_of u.ckpt (last log).cluster.entries) (λ (e : Entry). e.making ≡ None) at.made.made e (ap (λ k. entry_of k (last log).cluster.entries) (same_Some u.ckpt k (sym at.kept ∙ sym own)) ∙ at_entry.1)
 
         live_before : is_live_client (client_of s.call) (last log).cluster ≡ true
-        live_before = let hand = inv.holds.hands (who s) s held in client_live (last log).cluster s.call hand.client (hand.live leads.1)
+        live_before = let hand = inv.holds.hands (who s) s held in client_live (last log).cluster s.call (asker_client s.call.actor (asked s.op) hand.asker (subst IsCopyAsk asks_is)) (hand.live leads.1)
 
         by_hand : (o : Option Snapshot) → s.snapshot ≡ o → HasHeld log d k (leader s.snapshot).effects ⊎ HadNoOther (last log) k r (leader s.snapshot).effects
         by_hand (Some copy) is = inl (subst (HasHeld log d k) (sym (ap (λ o. (leader o).effects) is)) (subst (λ c. HasHeld log c k copy.effects) call_is (setting.some k copy (sym own) is)))
@@ -251,18 +252,18 @@ module _ (log : List Label) (run : IsRun log) (d : CallId) (answer : Answer) (de
     by_verb verbs.Hold (Some k) None reply then_is own row = absurd row.0
     by_verb verbs.Hold None q reply then_is own row = absurd row.0
     by_verb verbs.Look j q reply then_is own row = absurd (no_look reply row.2)
-    by_verb verbs.Pull j q reply then_is own row = absurd (at_node j q _ row.0 (λ k r p. no_ask _ p.2))
+    by_verb verbs.Pull j q reply then_is own row = absurd (at_node j q _ row.0 (λ k r p. elim p [ inl sync ↦ no_ask _ sync.2 | inr copy ↦ no_ask _ copy.0 ]))
     by_verb verbs.Install j q reply then_is own row = absurd (at_node j q _ row.0 (λ k r p. no_ask _ p.2))
     by_verb verbs.Enter j q reply then_is own row = absurd (at_node_alone j q _ row.0 (λ q p. no_ask _ p.2))
     by_verb verbs.Open j q reply then_is own row = absurd (row_at_ckpt j q _ row.0 (λ k p. no_ask _ p.2.asks))
     by_verb verbs.Create j q reply then_is own row = absurd (row_at_ckpt j q _ row.0 (λ k p. no_ask _ p.2.asks))
-    by_verb verbs.Reserve j q reply then_is own row = absurd (at_node j q _ row.0 (λ k r p. no_ask _ p.2.asks))
+    by_verb verbs.Reserve j q reply then_is own row = absurd (at_node j q _ row.0 (λ k r p. elim p [ inl making ↦ no_ask _ making.2.asks | inr copy ↦ no_ask _ copy.0 ]))
     by_verb verbs.Finish j q reply then_is own row = absurd (row_at_ckpt j q _ row.0 (λ k p. no_ask _ p.2.asks))
     by_verb verbs.Undo j q reply then_is own row = absurd (row_at_ckpt j q _ row.0 (λ k p. no_ask _ p.2.asks))
-    by_verb verbs.Stage j q reply then_is own row = absurd (at_node j q _ row.0 (λ k r p. no_ask _ p.2))
-    by_verb verbs.Claim j q reply then_is own row = absurd (at_node j q _ row.0 (λ k r p. no_ask _ p.2))
-    by_verb verbs.Withdraw j q reply then_is own row = absurd (at_node j q _ row.0 (λ k r p. no_ask _ p.2))
-    by_verb verbs.Commit j q reply then_is own row = absurd (at_node j q _ row (λ k r p. no_ask _ p.2))
+    by_verb verbs.Stage j q reply then_is own row = absurd (at_node j q _ row.0 (λ k r p. elim p [ inl change ↦ no_ask _ change.2 | inr copy ↦ no_ask _ copy.0 ]))
+    by_verb verbs.Claim j q reply then_is own row = absurd (at_node j q _ row.0 (λ k r p. elim p [ inl change ↦ no_ask _ change.2 | inr copy ↦ no_ask _ copy.0 ]))
+    by_verb verbs.Withdraw j q reply then_is own row = absurd (at_node j q _ row.0 (λ k r p. elim p [ inl change ↦ no_ask _ change.2 | inr copy ↦ no_ask _ copy.0 ]))
+    by_verb verbs.Commit j q reply then_is own row = absurd (at_node j q _ row (λ k r p. elim p [ inl change ↦ no_ask _ change.2 | inr copy ↦ no_ask _ copy.0 ]))
     by_verb verbs.Apply j q reply then_is own row = absurd (at_node j q _ row (λ k r p. no_ask _ p.2))
     by_verb verbs.Mark j q reply then_is own row = absurd (at_node j q _ row (λ k r p. no_ask _ p.2))
     by_verb verbs.Element j q reply then_is own row = absurd (at_node j q _ row (λ k r p. no_ask _ p.2))
@@ -275,7 +276,7 @@ module _ (log : List Label) (run : IsRun log) (d : CallId) (answer : Answer) (de
     by_verb verbs.Close j q reply then_is own row = absurd (row_at_ckpt j q _ row.0 (λ k p. no_ask _ p.1))
     by_verb verbs.Unlink j q reply then_is own row = absurd (row_at_ckpt j q _ row.0 (λ k p. no_ask _ p.1))
     by_verb verbs.Retain j q reply then_is own row = absurd (row_at_ckpt j q _ row.0 (λ k p. no_ask _ p.2))
-    by_verb verb j q reply then_is own row = absurd row
+    by_verb verbs.Complete j q reply then_is own row = absurd (at_node j q _ row.0 (λ k r p. no_ask _ p.0))
 
   -- whichever step ends it
   by_step : (verb : Verb) (j q : Option ℕ) (reply : StepReply) → Allowed (last log) (l_of verb j q reply) → IsDue (last log) (l_of verb j q reply) → IsActiveSet log (l_of verb j q reply) d

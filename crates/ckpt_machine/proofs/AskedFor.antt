@@ -1,6 +1,7 @@
 -- What drives a call is what its operation asks for, by the call's own steps alone.
 use Rattle.std.proofs.Common.{◌≡◌, ℕ, List, [], ◌∷◌, Option, Some, None, Bool, true, false, ℤ, refl, ap, sym, subst, ◌∙◌}
 use Rattle.std.specs.Prelude.{IfSome}
+use Rattle.std.proofs.lemmas.Option.{same_Some}
 use Rattle.ckpt_types.specs.declared.calls.OpenAsk.{OpenAsk}
 use Rattle.ckpt_types.specs.declared.identities.CallId.{CallId}
 use Rattle.node_msgs.specs.declared.steps.Verb.{Verb}
@@ -9,8 +10,10 @@ use Rattle.node_msgs.specs.declared.steps.StepReply.{StepReply}
 use Rattle.node_msgs.specs.declared.steps.StepReply.TheVariants as words
 use Rattle.cluster_record.specs.declared.calls.Making.{Making}
 use Rattle.cluster_record.specs.Calls.{client_of}
+use Rattle.cluster_record.specs.DueCopy.{CopyState, copy_begun, copy_taken}
 use Rattle.cluster_record.specs.DueOnce as once
 use Rattle.cluster_record.specs.DueOpen.{OpenState, create_taken, with_making, reserve_taken, open_taken_by}
+use Rattle.cluster_record.specs.DueUpdate.{update_begun}
 use Rattle.cluster_record.specs.StepDone.{StepDone}
 use Rattle.ckpt_types.specs.Asks.{Ask, asked}
 use Rattle.ckpt_types.specs.Asks as asks
@@ -38,6 +41,7 @@ pub record IsRetentionFor (ask : Ask) (duration : ℤ) : Type 0 where
 abbrev pub DrivesFor : CallId → Ask → Driver → Type 0
 DrivesFor call ask (drivers.Open o) = IsOpenFor call ask o
 DrivesFor call ask (drivers.Once (once.Retain k duration)) = IsRetentionFor ask duration
+DrivesFor call ask (drivers.Copy c) = ask ≡ asks.Copy
 DrivesFor call ask driver = Unit {0}
 
 -- ---- at the beginning
@@ -63,6 +67,7 @@ start_drives call (asks.Next iteration) kept = kept_drives call (asks.Next itera
 start_drives call (asks.Close place) kept = kept_drives call (asks.Close place) kept.ckpt _ (λ k. tt)
 start_drives call (asks.Synchronize place timeout) kept = kept_drives call (asks.Synchronize place timeout) kept.ckpt _ (λ k. tt)
 start_drives call (asks.SetActive place) kept = kept_drives call (asks.SetActive place) kept.ckpt _ (λ k. tt)
+start_drives call asks.Copy kept = refl
 start_drives call ask kept = tt
 
 -- ---- behind a step
@@ -105,12 +110,26 @@ taken_drives call ask d (drivers.Open o) drives =
 taken_drives call ask d (drivers.Update u) drives = tt
 taken_drives call ask d (drivers.Active a) drives = tt
 taken_drives call ask d (drivers.Sync u) drives = tt
+taken_drives call ask d (drivers.Copy c) drives = drives
 
 -- ---- in any state of a call
 
 steps_drive : (call : CallId) (ask : Ask) (begun : Driver) (steps : List StepDone) → DrivesFor call ask begun → DrivesFor call ask (driver_state begun steps)
 steps_drive call ask begun [] drives = drives
 steps_drive call ask begun (d ∷ steps) drives = taken_drives call ask d (driver_state begun steps) (steps_drive call ask begun steps drives)
+
+-- a copying's driver is a copying behind each step
+copy_steps : (c : CopyState) (steps : List StepDone) → (x : CopyState) × (driver_state (drivers.Copy c) steps ≡ drivers.Copy x)
+copy_steps c [] = (c, refl)
+copy_steps c (d ∷ steps) = let (x, is) = copy_steps c steps in (copy_taken d x, ap (driver_taken d) is)
+
+-- so it is in any state of one
+pub copy_driven : (s : CallState) → IsDriven s → asked s.op ≡ asks.Copy → (c : CopyState) × (driver_of s ≡ drivers.Copy c)
+copy_driven s driven copies =
+    let start : CopyState = copy_begun s.call (update_begun s.call 0) in
+    let begun : drivers.Copy start ≡ s.begun = same_Some (drivers.Copy start) s.begun (ap (λ ask. driver_start s.call ask s.kept) (sym copies) ∙ driven) in
+    let (x, is) = copy_steps start s.steps in
+    (x, ap (λ d. driver_state d s.steps) (sym begun) ∙ is)
 
 -- where its steps have led it
 pub state_drives : (s : CallState) → IsDriven s → DrivesFor s.call (asked s.op) (driver_of s)

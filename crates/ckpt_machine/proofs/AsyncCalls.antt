@@ -31,3 +31,4 @@ async_no_enter m shapes z async (drivers.Open o) at = refl
 async_no_enter m shapes z async (drivers.Update u) at = refl
 async_no_enter m shapes z async (drivers.Active a) at = refl
 async_no_enter m shapes z async (drivers.Sync u) at = refl
+async_no_enter m shapes z async (drivers.Copy c) at = refl

@@ -8,8 +8,9 @@ use Rattle.ckpt_types.specs.declared.answers.Cause.TheVariants.{Plain, Count}
 use Rattle.ckpt_types.specs.declared.answers.Outcome.{Outcome}
 use Rattle.ckpt_types.specs.declared.answers.Outcome.TheVariants.{Done, Refused, NoMemory}
 use Rattle.ckpt_types.specs.declared.calls.AsyncKind.TheVariants as kinds
-use Rattle.ckpt_types.specs.declared.identities.ActorName.TheVariants.{Client}
+use Rattle.ckpt_types.specs.declared.identities.ActorName.TheVariants.{Client, Node}
 use Rattle.ckpt_types.specs.declared.identities.Who.TheVariants.{Actor, Call}
+use Rattle.ckpt_types.specs.declared.operation.Op.TheVariants as ops
 use Rattle.ckpt_types.specs.declared.update.Update.TheVariants as updates
 use Rattle.ckpt_types.specs.Limits.{wr_all_replicas, wr_active_replica, checkpoint_read, checkpoint_create, dispatch_one, dispatch_all, sections_any, release, major_max, minor_answered, end_of_time, nodes_max}
 use Rattle.call_dispatch.specs.PendingCalls.{PendingCalls, no_pending}
@@ -345,6 +346,37 @@ a_synchronisation_goes_on = (record { version = refl; handle = refl; callback = 
 pub not_where_a_refusal_applies : BeginRow (a_client for_reading) (an_iteration 0) None → ⊥
 not_where_a_refusal_applies row = true≢false row.0.arguments
 
+-- ---- a copying
+
+-- of a node that is up
+abbrev a_node : Standing
+a_node = a_client no_handle
+
+pub a_copying_goes_on : BeginRow a_node asks.Copy None
+a_copying_goes_on = (record { version = refl; handle = refl; callback = refl; flags = refl; arguments = refl; access = refl; operation = refl }, refl)
+
+pub it_takes_room : BeginRow a_node asks.Copy (Some NoMemory)
+it_takes_room = (record { version = refl; handle = refl; callback = refl; flags = refl; arguments = refl; access = refl; operation = refl }, refl, tt)
+
+pub it_answers_nothing_at_once : BeginRow a_node asks.Copy done_at_once → ⊥
+it_answers_nothing_at_once row = false≢true row.1
+
+-- all eight nodes are up, and nothing else has happened
+abbrev all_up : Machine
+all_up = record empty_cluster { cluster = brought_up nodes_max empty_cluster.cluster }
+
+pub n2_copies : Allowed all_up (labels.Began (record { actor = Node 2; number = 1 }) ops.Copy None beside.Nothing)
+n2_copies = record { asker = omega arith; built = tt; number = refl; none_in_hand = refl; may = refl; row = (record { version = refl; handle = refl; callback = refl; flags = refl; arguments = refl; access = refl; operation = refl }, refl); told = refl }
+
+pub not_where_it_is_down : Allowed empty_cluster (labels.Began (record { actor = Node 2; number = 1 }) ops.Copy None beside.Nothing) → ⊥
+not_where_it_is_down is = false≢true is.may
+
+pub no_client_copies : Allowed all_up (labels.Began (record { actor = Client 2; number = 1 }) ops.Copy None beside.Nothing) → ⊥
+no_client_copies is = is.asker
+
+pub no_node_leaves : Allowed all_up (labels.Began (record { actor = Node 2; number = 1 }) ops.Finalize None beside.Nothing) → ⊥
+no_node_leaves is = is.asker
+
 -- ---- words
 
 -- c0 is told this in place of an Initialize, or of a step
@@ -353,10 +385,6 @@ initialize_of_c0 said = labels.Word (Actor (Client 0)) (linewords.Op opwords.Cli
 
 abbrev step_of_c0 : Said → Label
 step_of_c0 said = labels.Word (Actor (Client 0)) linewords.Step said
-
--- all eight nodes are up, and nothing else has happened
-abbrev all_up : Machine
-all_up = record empty_cluster { cluster = brought_up nodes_max empty_cluster.cluster }
 
 pub idle_without_a_call : Allowed empty_cluster (step_of_c0 Idle)
 idle_without_a_call = (tt, refl)
@@ -374,13 +402,29 @@ pub not_busy_without_a_call : Allowed empty_cluster (initialize_of_c0 Busy) → 
 not_busy_without_a_call row = false≢true row.1
 
 pub not_live_before_it_entered : Allowed empty_cluster (initialize_of_c0 Live) → ⊥
-not_live_before_it_entered row = false≢true row.2
+not_live_before_it_entered row = false≢true row.1.1
 
 pub down_where_no_node_is_up : Allowed empty_cluster (initialize_of_c0 Down)
-down_where_no_node_is_up = (tt, refl, refl, record { node = 0; below = omega arith; down = refl })
+down_where_no_node_is_up = (refl, (tt, refl, record { node = 0; below = omega arith; down = refl }))
 
 pub not_down_where_all_are_up : Allowed all_up (initialize_of_c0 Down) → ⊥
 not_down_where_all_are_up row =
-    let node = row.3.node in
-    let up : is_up node all_up.cluster ≡ true = agree_below_at (λ r. is_up r all_up.cluster) (λ r. true) nodes_max node refl row.3.below in
-    true≢false (sym up ∙ row.3.down)
+    let node = row.1.2.node in
+    let up : is_up node all_up.cluster ≡ true = agree_below_at (λ r. is_up r all_up.cluster) (λ r. true) nodes_max node refl row.1.2.below in
+    true≢false (sym up ∙ row.1.2.down)
+
+-- n2 is told this in place of a copying
+abbrev copying_of_n2 : Said → Label
+copying_of_n2 said = labels.Word (Actor (Node 2)) (linewords.Op opwords.Copy) said
+
+pub down_where_n2_is_not_up : Allowed empty_cluster (copying_of_n2 Down)
+down_where_n2_is_not_up = (refl, (tt, omega arith, refl))
+
+pub not_down_where_n2_is_up : Allowed all_up (copying_of_n2 Down) → ⊥
+not_down_where_n2_is_up row = true≢false row.1.2
+
+pub live_is_no_word_for_a_node : Allowed all_up (copying_of_n2 Live) → ⊥
+live_is_no_word_for_a_node row = row.1
+
+pub nor_is_down_to_an_initialize : Allowed empty_cluster (labels.Word (Actor (Node 2)) (linewords.Op opwords.Client) Down) → ⊥
+nor_is_down_to_an_initialize row = row.1.0

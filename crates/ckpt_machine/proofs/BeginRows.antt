@@ -9,6 +9,7 @@ use Rattle.ckpt_types.specs.declared.answers.Cause.TheVariants.{Plain, Count}
 use Rattle.ckpt_types.specs.declared.answers.Given.{Given}
 use Rattle.ckpt_types.specs.declared.answers.Outcome.{Outcome}
 use Rattle.ckpt_types.specs.declared.answers.Outcome.TheVariants.{Done, Refused, NoMemory}
+use Rattle.ckpt_types.specs.declared.identities.ActorName.TheVariants.{Client, Node}
 use Rattle.ckpt_types.specs.declared.identities.CallId.{CallId}
 use Rattle.ckpt_types.specs.declared.identities.Who.{Who}
 use Rattle.ckpt_types.specs.declared.identities.Who.TheVariants.{Actor}
@@ -129,7 +130,7 @@ first_refusal_is st (asks.Synchronize place (Some timeout)) built = by_flags st.
 first_refusal_is st (asks.Synchronize place None) built = by_alone st.live st.handle st.callbacks.opens st.callbacks.syncs st.pending place
 first_refusal_is st (asks.SetActive place) built = by_flags st.live st.handle false (asks.SetActive place)
 first_refusal_is st (asks.Dispatch flags) built = by_client st.live st.handle (asks.Dispatch flags) false false _ (unrefused st (asks.Dispatch flags)) (λ flags. refl)
-first_refusal_is st asks.Unbuilt built = absurd built
+first_refusal_is st asks.Copy built = λ i. first_of false false false false false (sym (needs_none st.handle) i) (sym (forbids_none st.handle asks.Copy (λ flags. refl)) i) None
 
 -- ---- where no cause is there
 
@@ -260,7 +261,7 @@ module _ (st : Standing) (ask : Ask) where
 -- a beginning that is due is allowed
 pub begin_row : (m : Machine) (call : CallId) (op : Op) (end : Option Outcome) (details : Details) → IsBegun m call op end details → IsAllowedBegin m call op end details
 begin_row m call op end details is = record {
-  client = is.client;
+  asker = is.asker;
   built = is.built;
   number = is.number;
   none_in_hand = is.none_in_hand;
@@ -272,7 +273,7 @@ begin_row m call op end details is = record {
 -- and one that is allowed is due
 pub begin_due : (m : Machine) (call : CallId) (op : Op) (end : Option Outcome) (details : Details) → IsAllowedBegin m call op end details → IsBegun m call op end details
 begin_due m call op end details is = record {
-  client = is.client;
+  asker = is.asker;
   built = is.built;
   number = is.number;
   none_in_hand = is.none_in_hand;
@@ -290,8 +291,9 @@ some_in_hand (Some s) there = refl
 -- a word that is due is allowed
 pub word_row : (m : Machine) (who : Who) (line : LineWord) (said : Said) → IsWord m who line said → IsAllowedWord m who line said
 word_row m (Actor a) (linewords.Op op) Busy is = (tt, some_in_hand (m.in_hand (Actor a)) is)
-word_row m (Actor a) (linewords.Op opwords.Client) Live is = (tt, is.0, is.1)
-word_row m (Actor a) (linewords.Op opwords.Client) Down is = (tt, is.0, is.1, record { node = is.2.0; below = is.2.1; down = is.2.2 })
+word_row m (Actor (Client c)) (linewords.Op opwords.Client) Live is = (is.0, (tt, is.1))
+word_row m (Actor (Client c)) (linewords.Op opwords.Client) Down is = (is.0, (tt, is.1, record { node = is.2.0; below = is.2.1; down = is.2.2 }))
+word_row m (Actor (Node r)) (linewords.Op opwords.Copy) Down is = (is.0, (tt, is.1, is.2))
 word_row m (Actor a) linewords.Step Idle is = (tt, is)
 word_row m (Actor a) linewords.Finish Idle is = (tt, is)
 word_row m (whos.Call call) linewords.Step Idle is = (tt, is)
@@ -301,13 +303,16 @@ word_row m who line said is = absurd is
 -- and one that is allowed is due
 pub word_due : (m : Machine) (who : Who) (line : LineWord) (said : Said) → IsAllowedWord m who line said → IsWord m who line said
 word_due m (Actor a) (linewords.Op op) Busy row = λ none. false≢true (sym (ap is_some none) ∙ row.1)
-word_due m (Actor a) (linewords.Op opwords.Client) Live row = (row.1, row.2)
-word_due m (Actor a) (linewords.Op opwords.Client) Down row = (row.1, row.2, (row.3.node, row.3.below, row.3.down))
+word_due m (Actor (Client c)) (linewords.Op opwords.Client) Live row = (row.0, row.1.1)
+word_due m (Actor (Client c)) (linewords.Op opwords.Client) Down row = (row.0, row.1.1, (row.1.2.node, row.1.2.below, row.1.2.down))
+word_due m (Actor (Node r)) (linewords.Op opwords.Copy) Down row = (row.0, row.1.1, row.1.2)
 word_due m (Actor a) linewords.Step Idle row = row.1
 word_due m (Actor a) linewords.Finish Idle row = row.1
 word_due m (Actor a) line Busy row = absurd row.0
-word_due m (Actor a) line Live row = absurd row.0
-word_due m (Actor a) line Down row = absurd row.0
+word_due m (Actor (Client c)) line Live row = absurd row.1.0
+word_due m (Actor (Node r)) line Live row = absurd row.1
+word_due m (Actor (Client c)) line Down row = absurd row.1.0
+word_due m (Actor (Node r)) line Down row = absurd row.1.0
 word_due m (Actor a) line Idle row = absurd row.0
 word_due m (whos.Call call) linewords.Step Idle row = row.1
 word_due m (whos.Call call) linewords.Finish Idle row = row.1

@@ -9,6 +9,8 @@ use Rattle.std.proofs.lemmas.Option.{same_Some}
 use Rattle.ckpt_types.specs.declared.answers.Outcome.{Outcome}
 use Rattle.ckpt_types.specs.declared.answers.Outcome.TheVariants.{Done}
 use Rattle.ckpt_types.specs.declared.attributes.CreationAttributes.{CreationAttributes}
+use Rattle.ckpt_types.specs.declared.identities.ActorName.{ActorName}
+use Rattle.ckpt_types.specs.declared.identities.ActorName.TheVariants.{Client, Node}
 use Rattle.ckpt_types.specs.declared.identities.CallId.{CallId}
 use Rattle.ckpt_types.specs.declared.identities.Who.TheVariants.{Actor}
 use Rattle.ckpt_types.specs.declared.operation.Op.{Op}
@@ -26,17 +28,18 @@ use Rattle.cluster_record.specs.declared.calls.ActiveKind.{ActiveKind}
 use Rattle.cluster_record.specs.declared.calls.ActiveKind.TheVariants as kinds
 use Rattle.cluster_record.specs.declared.clients.LiveClient.{LiveClient}
 use Rattle.cluster_record.specs.declared.entries.Entry.{Entry}
-use Rattle.cluster_record.specs.Calls.{number_of, IsClient, same_call}
+use Rattle.cluster_record.specs.Calls.{same_call}
 use Rattle.cluster_record.specs.LookUps.{declared_in}
 use Rattle.cluster_record.specs.Places.{find_key}
-use Rattle.cluster_record.specs.RecordState.{entry_of, client_key, node_of_client, is_live, is_live_client, is_up}
-use Rattle.ckpt_types.specs.Asks.{Ask, asked}
+use Rattle.cluster_record.specs.RecordState.{entry_of, client_key, node_of_client, is_live, is_up}
+use Rattle.ckpt_types.specs.Asks.{Ask, MayAsk, asked}
 use Rattle.ckpt_types.specs.Asks as asks
 use Rattle.ckpt_machine.specs.Beginning.{Standing, are_of_all, are_not_collocated, update_is_bad, attributes_are_bad, name_is_bad, timeout_is_bad}
 use Rattle.ckpt_machine.specs.BeginRows.{has_bad_operation, BeginRow}
 use Rattle.ckpt_machine.specs.Drivers.{Driver}
 use Rattle.ckpt_machine.specs.Drivers as drivers
 use Rattle.cluster_record.specs.DueActive.{active_begun}
+use Rattle.cluster_record.specs.DueCopy.{copy_begun}
 use Rattle.cluster_record.specs.DueOnce as once
 use Rattle.cluster_record.specs.DueSync.{sync_begun}
 use Rattle.cluster_record.specs.declared.calls.SyncKind.TheVariants.{Synchronize, ActiveSet}
@@ -50,7 +53,7 @@ use Rattle.weak_marks.specs.Marks.{Marked}
 use Rattle.ckpt_machine.specs.Invariant.{IsGoodClient, IsGoodHandle, IsGoodIn, InvariantIn, Invariant}
 use Rattle.ckpt_machine.specs.Machine.{Machine, CallState, who}
 use Rattle.ckpt_machine.specs.After.{goes_on, after_beginning, begun_call, call_begun, started_call}
-use Rattle.ckpt_machine.specs.Due.{IsBegun, MayBegin, asked_handle, standing_of, kept_at_beginning, room_in}
+use Rattle.ckpt_machine.specs.Due.{IsBegun, MayBegin, asked_handle, home_by, is_live_actor, standing_of, kept_at_beginning, room_in}
 use Rattle.ckpt_machine.specs.Tables.{handle_asked, ckpt_of_handle, choice_of, ended_at_once}
 use Rattle.ckpt_machine.specs.Shape.{Shape, IsCompleteOn, IsSpread}
 use Rattle.ckpt_machine.proofs.Actors.{same_call-true}
@@ -58,7 +61,8 @@ use Rattle.ckpt_machine.proofs.BeginRows.{row_of}
 use Rattle.ckpt_machine.proofs.Begun.{is_new, own_name_idle, IsBeginning, begun_keeps, begun_live, update_begins}
 use Rattle.ckpt_machine.proofs.CallsPending.{calls_begun}
 use Rattle.ckpt_machine.proofs.ByActor.{same_tables}
-use Rattle.ckpt_machine.proofs.EndedTables.{client_by_number, ended_at_once_keeps}
+use Rattle.ckpt_machine.proofs.Askers.{asker_client, client_home, client_lives, node_by_number, node_number}
+use Rattle.ckpt_machine.proofs.EndedTables.{ended_at_once_keeps}
 use Rattle.ckpt_machine.proofs.OptionLemmas.{IfSome-from, IfSome-at}
 use Rattle.ckpt_machine.proofs.Served.{slice_get-replicate}
 use Rattle.ckpt_machine.proofs.Starting.{live_client, handle_there, HasPassed, begun_passed, driven_begun, none_begun, begun_goes}
@@ -152,12 +156,9 @@ change_fits false update good = tt
 
 -- ---- where a call begins
 
-module _ (m : Machine) (shapes : ℕ → Shape) (inv : InvariantIn shapes m) (call : CallId) (client : IsClient call.actor) (number : call.number ≡ m.next call.actor) where
-  abbrev c : ℕ
-  c = number_of call.actor
-
+module _ (m : Machine) (shapes : ℕ → Shape) (inv : InvariantIn shapes m) (call : CallId) (number : call.number ≡ m.next call.actor) where
   abbrev kept_with : Option HandleView → Kept
-  kept_with h = kept_at_beginning m.cluster (number_of call.actor) h
+  kept_with h = kept_at_beginning m.cluster call.actor h
 
   abbrev state_with : Op → Option HandleView → Driver → CallState
   state_with op h d = started_call call op (kept_with h) d
@@ -170,16 +171,17 @@ module _ (m : Machine) (shapes : ℕ → Shape) (inv : InvariantIn shapes m) (ca
   asked_made : (op : Op) (h : HandleView) → asked_handle m call.actor op ≡ Some h → WasMade m.cluster h.id
   asked_made op h e = (asked_good op h e).made
 
-  -- where the client is live, its call is, and its node is up
-  live_then : is_live_client c m.cluster ≡ true → is_live m.cluster call ≡ true
-  live_then live = begun_live m shapes inv call number c (client_by_number call.actor client) live
+  -- where its actor is live, so is the call, and the node of this is up
+  live_then : is_live_actor call.actor m.cluster ≡ true → is_live m.cluster call ≡ true
+  live_then live = begun_live m shapes inv call number live
 
-  node_up : is_live_client c m.cluster ≡ true → is_up (node_of_client (find_key client_key c m.cluster.clients)) m.cluster ≡ true
-  node_up live = by_client (find_key client_key c m.cluster.clients) live (inv.clients c)
+  node_up : (a : ActorName) → is_live_actor a m.cluster ≡ true → is_up (home_by a m.cluster) m.cluster ≡ true
+  node_up (Client c) live = by_client (find_key client_key c m.cluster.clients) live (inv.clients c)
     where
       by_client : (o : Option LiveClient) → is_some o ≡ true → IfSome o (IsGoodClient m.next m.cluster c) → is_up (node_of_client o) m.cluster ≡ true
       by_client None live good = absurd (cc live)
       by_client (Some x) live good = good.1
+  node_up (Node r) up = up
 
   -- a call that begins is driven by what it asks for, is where its operation begins, and live, unless it is an Initialize
   record Starts (op : Op) (ask : Ask) (h : Option HandleView) : Type 0 where
@@ -190,18 +192,19 @@ module _ (m : Machine) (shapes : ℕ → Shape) (inv : InvariantIn shapes m) (ca
 
   -- what its beginning looks at, with this handle
   abbrev standing_with : Option HandleView → Standing
-  standing_with h = record { live = is_live_client c m.cluster; handle = h; callbacks = (m.tables call.actor).callbacks; pending = m.pending call.actor }
+  standing_with h = record { live = is_live_actor call.actor m.cluster; handle = h; callbacks = (m.tables call.actor).callbacks; pending = m.pending call.actor }
 
   -- one that goes on, on a handle where it needs one
   record GoesOn (op : Op) (ask : Ask) (h : Option HandleView) : Type 0 where
     is : asked op ≡ ask
-    may : MayBegin m.cluster c ask
+    asker : MayAsk call.actor ask
+    may : MayBegin m.cluster call.actor ask
     passed : HasPassed (standing_with h) ask
     named : asked_handle m call.actor op ≡ h
 
   -- its client is live
-  if_live : (bad : Bool) → (not (is_live_client c m.cluster) || bad) ≡ false → (is_live m.cluster call ≡ true) × (bad ≡ false)
-  if_live bad good = let (live, rest) = live_client (is_live_client c m.cluster) bad good in (live_then live, rest)
+  if_live : (bad : Bool) → (not (is_live_actor call.actor m.cluster) || bad) ≡ false → (is_live m.cluster call ≡ true) × (bad ≡ false)
+  if_live bad good = let (live, rest) = live_client (is_live_actor call.actor m.cluster) bad good in (live_then live, rest)
 
   -- nobody has marks under its name yet
   has_no_marks : (k : ℕ) (e : Entry) → entry_of k m.cluster.entries ≡ Some e → e.making ≡ None → is_marked_by call (shapes k).marks ≡ false
@@ -256,7 +259,7 @@ module _ (m : Machine) (shapes : ℕ → Shape) (inv : InvariantIn shapes m) (ca
   }
 
   -- on a handle
-  starts_active : (op : Op) (ask : Ask) (kind : ActiveKind) (h : Option HandleView) → GoesOn op ask h → ((o : Option HandleView) → driver_start call ask (kept_with o) ≡ active_start call kind (ckpt_of_handle o)) → ((all weak : Bool) → active_kind all weak ask ≡ Some kind) → MarksFit kind None → (not (is_live_client c m.cluster) || is_none h) ≡ false → Starts op ask h
+  starts_active : (op : Op) (ask : Ask) (kind : ActiveKind) (h : Option HandleView) → GoesOn op ask h → ((o : Option HandleView) → driver_start call ask (kept_with o) ≡ active_start call kind (ckpt_of_handle o)) → ((all weak : Bool) → active_kind all weak ask ≡ Some kind) → MarksFit kind None → (not (is_live_actor call.actor m.cluster) || is_none h) ≡ false → Starts op ask h
   starts_active op ask kind h on begins is fit good =
       let (live, stands) = if_live (is_none h) good in
       let (x, there) = handle_there h stands in
@@ -265,9 +268,12 @@ module _ (m : Machine) (shapes : ℕ → Shape) (inv : InvariantIn shapes m) (ca
 
   -- each operation that goes on
   starts : (op : Op) (ask : Ask) (h : Option HandleView) → GoesOn op ask h → Starts op ask h
-  starts op (asks.Enter r version callbacks) h on = record { driver = drivers.Once (once.Enter r); driven = refl; at = record { version = version; callbacks = callbacks; asks = on.is; client = client; up = on.may.1; not_live = on.may.0 }; live = λ others. absurd (cc others) }
+  starts op (asks.Enter r version callbacks) h on =
+      let client = asker_client call.actor (asks.Enter r version callbacks) on.asker (λ copy. copy) in
+      record { driver = drivers.Once (once.Enter r); driven = refl; at = record { version = version; callbacks = callbacks; asks = on.is; client = client; up = on.may.1; not_live = sym (client_lives m.cluster call.actor client) ∙ on.may.0 }; live = λ others. absurd (cc others) }
   starts op (asks.Open place name flags timeout a) h on =
-      let (live, rest) = live_client (is_live_client c m.cluster) false on.passed.unrefused.handle in
+      let client = asker_client call.actor (asks.Open place name flags timeout a) on.asker (λ copy. copy) in
+      let (live, rest) = live_client (is_live_actor call.actor m.cluster) false on.passed.unrefused.handle in
       let (names, attributes) = or_parts (name_is_bad name || timeout_is_bad timeout) (attributes_are_bad flags a) on.passed.unrefused.arguments in
       record {
         driver = _;
@@ -276,7 +282,7 @@ module _ (m : Machine) (shapes : ℕ → Shape) (inv : InvariantIn shapes m) (ca
           caller = client;
           client = refl;
           within = IsClient-number call.actor client;
-          node = node_up live;
+          node = node_up call.actor live;
           home = refl;
           asks = record { place = place; flags = flags; timeout = timeout; asks = on.is };
           named = (or_parts (name_is_bad name) (timeout_is_bad timeout) names).0;
@@ -299,7 +305,7 @@ module _ (m : Machine) (shapes : ℕ → Shape) (inv : InvariantIn shapes m) (ca
       by_all x named live true all = record {
         driver = drivers.Update (update_begun call x.id);
         driven = ap (λ b. change_start call b (kind_of_change (kept_with (Some x)).weak update) (Some x.id)) all;
-        at = update_begins m shapes inv call number c op x place update on.is (asked_made op x named) all;
+        at = update_begins m shapes inv call number op x place update on.is (asked_made op x named) all;
         live = λ others. live;
       }
       by_all x named live false none = starts_on op (asks.Change place update) (kind_of_change (kept_with (Some x)).weak update) x on.is named live (ap (λ b. change_start call b (kind_of_change (kept_with (Some x)).weak update) (Some x.id)) none) (ap (λ b. change_kind b (kind_of_change (kept_with (Some x)).weak update)) none) (few (kept_with (Some x)).weak)
@@ -322,7 +328,10 @@ module _ (m : Machine) (shapes : ℕ → Shape) (inv : InvariantIn shapes m) (ca
         live = λ others. live;
       })
   starts op (asks.Unlink name) h on = let (live, rest) = if_live false on.passed.unrefused.handle in record { driver = drivers.Once (once.Unlink name); driven = refl; at = on.is; live = λ others. live }
-  starts op asks.Leave h on = let (live, rest) = live_client (is_live_client c m.cluster) false on.passed.unrefused.handle in record { driver = drivers.Once once.Leave; driven = refl; at = record { asks = on.is; live = live }; live = λ others. live_then live }
+  starts op asks.Leave h on =
+      let client = asker_client call.actor asks.Leave on.asker (λ copy. copy) in
+      let (live, rest) = live_client (is_live_actor call.actor m.cluster) false on.passed.unrefused.handle in
+      record { driver = drivers.Once once.Leave; driven = refl; at = record { asks = on.is; live = sym (client_lives m.cluster call.actor client) ∙ live }; live = λ others. live_then live }
   starts op (asks.Synchronize place timeout) h on =
       let (live, stands) = if_live (is_none h) on.passed.unrefused.handle in
       let (x, there) = handle_there h stands in
@@ -349,7 +358,8 @@ module _ (m : Machine) (shapes : ℕ → Shape) (inv : InvariantIn shapes m) (ca
         live = λ others. live;
       })
   starts op (asks.SetActive place) h on =
-      let (lives, stands) = live_client (is_live_client c m.cluster) (is_none h) on.passed.unrefused.handle in
+      let client = asker_client call.actor (asks.SetActive place) on.asker (λ copy. copy) in
+      let (lives, stands) = live_client (is_live_actor call.actor m.cluster) (is_none h) on.passed.unrefused.handle in
       let (x, there) = handle_there h stands in
       let allowed : are_not_collocated x.creation_flags ≡ false = ap (λ o. has_bad_operation o (asks.SetActive place)) (sym there) ∙ on.passed.unrefused.operation in
       let good = asked_good op x (on.named ∙ there) in
@@ -362,18 +372,23 @@ module _ (m : Machine) (shapes : ℕ → Shape) (inv : InvariantIn shapes m) (ca
           place = place;
           asks = on.is;
           node = refl;
-          within = ltb-true (kept_with (Some x)).node 8 (and_parts (nat_lt (kept_with (Some x)).node 8) (not (slice_index m.cluster.up (kept_with (Some x)).node == 0)) (node_up lives)).0;
+          within = ltb-true (kept_with (Some x)).node 8 (and_parts (nat_lt (kept_with (Some x)).node 8) (not (slice_index m.cluster.up (kept_with (Some x)).node == 0)) (node_up call.actor lives)).0;
           kept = refl;
           made = asked_made op x (on.named ∙ there);
           collocated = collocated;
-          complete = IfSome-from (entry_of x.id m.cluster.entries) (λ e. IsCompleteOn e (kept_with (Some x)).node) (λ e found. IfSome-at (entry_of x.id m.cluster.entries) _ good.placed e found (IfSome-at (entry_of x.id m.cluster.entries) _ collocated e found));
+          complete = IfSome-from (entry_of x.id m.cluster.entries) (λ e. IsCompleteOn e (kept_with (Some x)).node) (λ e found. subst (IsCompleteOn e) (sym (client_home m.cluster call.actor client)) (IfSome-at (entry_of x.id m.cluster.entries) _ good.placed e found (IfSome-at (entry_of x.id m.cluster.entries) _ collocated e found)));
           declares = declares_itself (entry_of x.id m.cluster.entries);
           held = IfSome-from (entry_of x.id m.cluster.entries) _ (λ e found. has_no_hold x.id e found (IfSome-at (entry_of x.id m.cluster.entries) _ good.made.made e found));
         };
         live = λ others. live_then lives;
       })
   starts op (asks.Dispatch flags) h on = absurd (let none = on.passed.takes in cc none)
-  starts op asks.Unbuilt h on = absurd (let none = on.passed.takes in cc none)
+  starts op asks.Copy h on = record {
+    driver = drivers.Copy (copy_begun call (update_begun call 0));
+    driven = refl;
+    at = record { call = refl; asks = on.is; node = node_by_number call.actor on.asker; within = node_number call.actor on.asker; at = tt };
+    live = λ others. live_then on.may;
+  }
 
   -- ---- the state after a beginning
 
@@ -391,13 +406,13 @@ module _ (m : Machine) (shapes : ℕ → Shape) (inv : InvariantIn shapes m) (ca
     begins z there =
         let h = asked_handle m call.actor op in
         let goes = begun_goes end call op (kept_with h) z there in
-        let first = starts op (asked op) h (record { is = refl; may = is.may; passed = begun_passed m call op end details is goes; named = refl }) in
+        let first = starts op (asked op) h (record { is = refl; asker = is.asker; may = is.may; passed = begun_passed m call op end details is goes; named = refl }) in
         subst (IsBeginning m shapes inv call number (word_of_op op)) (same_Some (state_with op h first.driver) z (sym (driven_begun end call op (kept_with h) first.driver goes first.driven) ∙ there))
-        (record { call_is = refl; word_is = refl; built = is.built; driven = first.driven; live = first.live; home = λ others. refl; at = first.at })
+        (record { call_is = refl; asker = is.asker; word_is = refl; built = is.built; driven = first.driven; live = first.live; home = λ others. refl; at = first.at })
 
     -- all is so of the calls in hand, and of the call that begins
     begun_holds : InvariantIn shapes (begun_call m call op end)
-    begun_holds = begun_keeps m shapes inv call number (word_of_op op) _ (call_begun end call op (kept_with (asked_handle m call.actor op))) (own_name_idle m shapes inv call number (word_of_op op) is.none_in_hand) client
+    begun_holds = begun_keeps m shapes inv call number (word_of_op op) _ (call_begun end call op (kept_with (asked_handle m call.actor op))) (own_name_idle m shapes inv call number (word_of_op op) is.none_in_hand)
         (calls_begun m.in_hand m.pending m.next inv.calls (λ w z held. (inv.hands w z held).number) end call op (asked_handle m call.actor op) (kept_with (asked_handle m call.actor op)) number is_told) begins
 
     -- one that is answered at once is in hand under no name of its client's

@@ -1,9 +1,9 @@
 -- A call begins, with any calls of others in hand.
-use Rattle.std.proofs.Common.{◌≡◌, ◌≢◌, ℕ, ◌+◌, ◌<◌, inl, inr, Option, Some, None, Bool, true, false, cond, not, refl, sym, ap, subst, ◌∙◌, arith}
+use Rattle.std.proofs.Common.{◌≡◌, ◌≢◌, ℕ, zero, suc, ◌+◌, ◌<◌, ◌≤◌, ◌==◌, ◌&&◌, List, inl, inr, Option, Some, None, Bool, true, false, cond, not, refl, sym, ap, subst, ◌∙◌, arith}
 use Rattle.std.specs.Prelude.{is_some, IfSome, slice_index}
 use Rattle.std.proofs.lemmas.Bool.{le-ltb}
 use Rattle.ckpt_types.specs.declared.identities.ActorName.{ActorName}
-use Rattle.ckpt_types.specs.declared.identities.ActorName.TheVariants.{Client}
+use Rattle.ckpt_types.specs.declared.identities.ActorName.TheVariants.{Client, Node}
 use Rattle.ckpt_types.specs.declared.identities.CallId.{CallId}
 use Rattle.ckpt_types.specs.declared.identities.Who.{Who}
 use Rattle.ckpt_types.specs.declared.identities.Who.TheVariants.{Actor}
@@ -16,31 +16,32 @@ use Rattle.call_dispatch.specs.PendingCalls.{PendingCalls}
 use Rattle.client_handles.specs.declared.handle_view.HandleView.{HandleView}
 use Rattle.cluster_record.specs.declared.clients.LiveClient.{LiveClient}
 use Rattle.cluster_record.specs.declared.entries.Entry.{Entry}
-use Rattle.cluster_record.specs.Calls.{IsClient, client_of, same_actor, put_actor}
+use Rattle.cluster_record.specs.Calls.{same_actor, put_actor}
 use Rattle.cluster_record.specs.DueUpdate.{update_begun}
 use Rattle.cluster_record.specs.LookUps.{declared_in}
 use Rattle.cluster_record.specs.Places.{find_key}
-use Rattle.cluster_record.specs.RecordState.{RecordState, entry_of, home_of, client_key, is_live, is_live_client, is_live_from, is_up}
+use Rattle.cluster_record.specs.RecordState.{RecordState, entry_of, client_key, is_live, is_live_client, is_live_from, is_up}
 use Rattle.cluster_record.specs.StepDone.{has}
-use Rattle.ckpt_types.specs.Asks.{asked, IsBuilt}
+use Rattle.ckpt_types.specs.Asks.{MayAsk, asked, IsBuilt}
 use Rattle.ckpt_types.specs.Asks as asks
 use Rattle.ckpt_machine.specs.Drivers as drivers
 use Rattle.ckpt_machine.specs.Entries.{WasMade}
 use Rattle.ckpt_machine.specs.Dead.{IsDead}
-use Rattle.ckpt_machine.specs.InHand.{is_enter, IsInPlace, IsInHand, IsUpdateIn}
+use Rattle.ckpt_machine.specs.InHand.{is_enter, IsInPlace, IsInHand, IsUpdateAsk, IsUpdateIn}
 use Rattle.ckpt_machine.specs.Invariant.{AreCalls, IsGoodClient, IsGoodIn, InvariantIn}
 use Rattle.ckpt_machine.specs.Machine.{Machine, CallState, who}
 use Rattle.ckpt_machine.specs.Options.{if_declared}
 use Rattle.cluster_record.specs.Placement.{is_all}
 use Rattle.ckpt_machine.specs.Shape.{Shape, is_owner, IsSpread}
 use Rattle.ckpt_machine.specs.After.{started_call}
-use Rattle.ckpt_machine.specs.Due.{driver_of, IsDriven, kept_at_beginning, declares_at}
+use Rattle.ckpt_machine.specs.Due.{driver_of, IsDriven, is_live_actor, home_by, kept_at_beginning, declares_at}
 use Rattle.ckpt_machine.specs.Whose.{put_who}
 use Rattle.ckpt_machine.proofs.Actors.{same_actor-true}
 use Rattle.ckpt_machine.proofs.NodeLists.{has-none}
 use Rattle.ckpt_machine.proofs.Lives.{LivesOn}
 use Rattle.ckpt_machine.proofs.OtherCalls.{IsIn-apart, IsGoodIn-apart}
 use Rattle.ckpt_machine.proofs.Owning.{is_owner-true}
+use Rattle.ckpt_machine.proofs.UpdateIn.{no_enter}
 use Rattle.ckpt_machine.proofs.ByActor.{put_actor-here}
 use Rattle.ckpt_machine.proofs.Whose.{put_who-cases, put_who-other, held_by_other}
 use Rattle.ckpt_types.proofs.Lists.{slice_index-replicate}
@@ -93,6 +94,10 @@ module _ (m : Machine) (shapes : ℕ → Shape) (inv : InvariantIn shapes m) (ca
     | false ↦ λ other. below
   ] refl
 
+  next_no_lower : (a : ActorName) (n : ℕ) → n ≤ m.next a → n ≤ then_next a
+  next_no_lower a zero below = omega arith
+  next_no_lower a (suc n) below = next_rises a n (omega (arith, below))
+
   IfSome-rises : (c : ℕ) (o : Option LiveClient) → IfSome o (IsGoodClient m.next m.cluster c) → IfSome o (IsGoodClient then_next m.cluster c)
   IfSome-rises c None was = tt
   IfSome-rises c (Some live) was = (next_rises (Client c) live.initialize was.0, was.1)
@@ -100,11 +105,12 @@ module _ (m : Machine) (shapes : ℕ → Shape) (inv : InvariantIn shapes m) (ca
   -- the call that begins is so
   pub record IsBeginning (word : OpWord) (z : CallState) : Type 0 where
     pub call_is : z.call ≡ call
+    pub asker : MayAsk z.call.actor (asked z.op)
     pub word_is : word_of_op z.op ≡ word
     pub built : IsBuilt z.op
     pub driven : IsDriven z
     pub live : is_enter (driver_of z) ≡ false → is_live m.cluster z.call ≡ true
-    pub home : is_enter (driver_of z) ≡ false → z.kept.node ≡ home_of (client_of z.call) m.cluster
+    pub home : is_enter (driver_of z) ≡ false → z.kept.node ≡ home_by z.call.actor m.cluster
     pub at : IsInPlace m shapes z (driver_of z)
 
   -- a dead call is of a lower number than one that begins
@@ -115,16 +121,17 @@ module _ (m : Machine) (shapes : ℕ → Shape) (inv : InvariantIn shapes m) (ca
       omega (arith, of_call, at, below)
 
   -- the invariant holds after it, where it holds of the call that begins
-  pub begun_keeps : (word : OpWord) (pending : ActorName → PendingCalls) (o : Option CallState) → m.in_hand (stepped_as call word) ≡ None → IsClient call.actor → AreCalls (put_who m.in_hand (stepped_as call word) o) pending then_next → ((z : CallState) → o ≡ Some z → IsBeginning word z) → InvariantIn shapes (then_machine (stepped_as call word) pending o)
-  begun_keeps word pending o idle client calls own = record {
+  pub begun_keeps : (word : OpWord) (pending : ActorName → PendingCalls) (o : Option CallState) → m.in_hand (stepped_as call word) ≡ None → AreCalls (put_who m.in_hand (stepped_as call word) o) pending then_next → ((z : CallState) → o ≡ Some z → IsBeginning word z) → InvariantIn shapes (then_machine (stepped_as call word) pending o)
+  begun_keeps word pending o idle calls own = record {
     up = inv.up;
     first_up = inv.first_up;
-    incarnations = inv.incarnations;
+    incarnations = (let was = inv.incarnations in record { nodes = was.nodes; first_nodes = was.first_nodes; no_later = was.no_later; from_one = λ r. next_rises (Node r) 0 (was.from_one r); present = λ r. next_no_lower (Node r) (slice_index m.cluster.first_calls r) (was.present r) });
     none_live = inv.none_live;
     rises = inv.rises;
     up_to = inv.up_to;
+    few = inv.few;
     swept = inv.swept;
-    entries = λ k e found. IsGoodIn-apart m shapes then_next pending (put_who m.in_hand w o) lives (λ k sh d own. stays own.state own.in_hand) (λ k sh marks stand own. stays own.state own.in_hand) (λ k active d own. stays own.state own.in_hand) (λ k d own. stays own.state own.in_hand)
+    entries = λ k e found. IsGoodIn-apart m shapes then_next pending (put_who m.in_hand w o) lives (λ k sh r d owns own. stays own.state own.in_hand) (λ k sh marks stand own. stays own.state own.in_hand) (λ k active d own. stays own.state own.in_hand) (λ k d own. stays own.state own.in_hand)
         k (shapes k) e e.making (inv.entries k e found);
     replicas = inv.replicas;
     reserves = inv.reserves;
@@ -157,29 +164,32 @@ module _ (m : Machine) (shapes : ℕ → Shape) (inv : InvariantIn shapes m) (ca
       hands_then v z there = elim (put_who-cases m.in_hand w o v z there) [
         | inl here ↦ (let mine = own z here.1 in record {
           whose = (λ i. stepped_as (mine.call_is i) (mine.word_is i)) ∙ sym here.0;
-          client = subst IsClient (sym (ap (λ (c : CallId). c.actor) mine.call_is)) client;
+          asker = mine.asker;
           number = subst (λ (c : CallId). c.number < then_next c.actor) (sym mine.call_is) (subst (λ n. call.number < n) (sym (put_actor-here m.next call.actor (m.next call.actor + 1))) (omega (arith, number)));
           built = mine.built;
           driven = mine.driven;
           live = mine.live;
           home = mine.home;
-          here = IsIn-apart m shapes then_next pending (put_who m.in_hand w o) dead z (driver_of z) mine.at;
+          here = IsIn-apart m shapes then_next pending (put_who m.in_hand w o) dead z mine.asker (driver_of z) mine.at;
         })
-        | inr other ↦ (let was = inv.hands v z other.1 in record { whose = was.whose; client = was.client; number = next_rises z.call.actor z.call.number was.number; built = was.built; driven = was.driven; live = was.live; home = was.home; here = IsIn-apart m shapes then_next pending (put_who m.in_hand w o) dead z (driver_of z) was.here })
+        | inr other ↦ (let was = inv.hands v z other.1 in record { whose = was.whose; asker = was.asker; number = next_rises z.call.actor z.call.number was.number; built = was.built; driven = was.driven; live = was.live; home = was.home; here = IsIn-apart m shapes then_next pending (put_who m.in_hand w o) dead z was.asker (driver_of z) was.here })
       ]
 
       lives : LivesOn m (then_machine w pending o)
       lives = record {
         dead = dead;
-        owners = λ k sh d own. ap (is_live m.cluster) (sym own.call_is) ∙ (hands_then (who own.state) own.state own.in_hand).live (ap is_enter own.driver_is);
+        owners = λ k sh d own. ap (is_live m.cluster) (sym own.call_is) ∙ (hands_then (who own.state) own.state own.in_hand).live (no_enter (driver_of own.state) own.driver own.driver_is);
         up = λ r there. refl;
       }
 
-  -- it is live, where its client is
-  pub begun_live : (c : ℕ) → call.actor ≡ Client c → is_live_client c m.cluster ≡ true → is_live m.cluster call ≡ true
-  begun_live c actor live =
-      let n : call.number ≡ m.next (Client c) = number ∙ ap m.next actor in
-      (λ i. is_live m.cluster (record { actor = actor i; number = n i })) ∙ live_call m.cluster c (m.next (Client c)) live (inv.clients c)
+  -- it is live, where its client is, or its node is up
+  pub begun_live : is_live_actor call.actor m.cluster ≡ true → is_live m.cluster call ≡ true
+  begun_live live = by_actor call.actor call.number number live where
+    by_actor : (a : ActorName) (n : ℕ) → n ≡ m.next a → is_live_actor a m.cluster ≡ true → is_live m.cluster (record { actor = a; number = n }) ≡ true
+    by_actor (Client c) n is live = ap (λ n. is_live m.cluster (record { actor = Client c; number = n })) is ∙ live_call m.cluster c (m.next (Client c)) live (inv.clients c)
+    by_actor (Node r) n is up =
+        let present = inv.incarnations.present r in
+        (λ i. up i && not (le-ltb n (slice_index m.cluster.first_calls r) (omega (arith, is, present)) i))
 
   -- ---- an update that begins
 
@@ -202,13 +212,11 @@ module _ (m : Machine) (shapes : ℕ → Shape) (inv : InvariantIn shapes m) (ca
   all_there (Some e) all = all
 
   -- it is where an update begins
-  pub update_begins : (c : ℕ) (op : Op) (h : HandleView) (place : ℕ) (update : Update) → asked op ≡ asks.Change place update → WasMade m.cluster h.id → declares_at is_all m.cluster (Some h.id) ≡ true
-      → IsUpdateIn m shapes (started_call call op (kept_at_beginning m.cluster c (Some h)) (drivers.Update (update_begun call h.id))) (update_begun call h.id)
-  update_begins c op h place update is made all = record {
+  pub update_begins : (op : Op) (h : HandleView) (place : ℕ) (update : Update) → asked op ≡ asks.Change place update → WasMade m.cluster h.id → declares_at is_all m.cluster (Some h.id) ≡ true
+      → IsUpdateIn m shapes (started_call call op (kept_at_beginning m.cluster call.actor (Some h)) (drivers.Update (update_begun call h.id))) (update_begun call h.id)
+  update_begins op h place update is made all = record {
     call = refl;
-    place = place;
-    update = update;
-    asks = is;
+    asks = subst IsUpdateAsk (sym is) tt;
     kept = refl;
     made = made;
     all = all_there (entry_of h.id m.cluster.entries) all;
@@ -216,4 +224,16 @@ module _ (m : Machine) (shapes : ℕ → Shape) (inv : InvariantIn shapes m) (ca
     owns = λ e found r there. ap (has (slice_index e.complete r)) (slice_index-replicate 8 r) ∙ has-none (slice_index e.complete r) there
         ∙ sym (owns_nothing h.id e r found (subst (λ o. IfSome o (λ (e : Entry). e.making ≡ None)) found made.made));
     keeps = λ e found. tt;
+    within = λ e r found there. absurd (has_nothing (slice_index m.cluster.up r) (ap (has (slice_index m.cluster.up r)) (sym (slice_index-replicate 8 r)) ∙ there));
+    no_later = λ r. (let none : slice_index update_owned r ≡ 0 = slice_index-replicate 8 r in omega (arith, none));
   }
+    where
+      update_owned : List ℕ
+      update_owned = (update_begun call h.id).owned
+
+      -- it keeps no node yet
+      has_nothing : (n : ℕ) → has n 0 ≡ true → ⊥
+      has_nothing n is = by_test (n == 0) is where
+        by_test : (b : Bool) → (not b && b) ≡ true → ⊥
+        by_test true is = cc is
+        by_test false is = cc is

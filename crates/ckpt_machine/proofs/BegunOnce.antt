@@ -5,6 +5,7 @@ use Rattle.ckpt_machine.proofs.Dropped.{held_as}
 use Rattle.node_msgs.specs.declared.details.Details.{Details}
 use Rattle.ckpt_types.specs.declared.answers.Outcome.{Outcome}
 use Rattle.ckpt_types.specs.declared.identities.ActorName.{ActorName}
+use Rattle.ckpt_types.specs.Asks.{asked}
 use Rattle.ckpt_types.specs.declared.identities.CallId.{CallId}
 use Rattle.ckpt_types.specs.declared.operation.Op.{Op}
 use Rattle.ckpt_types.specs.declared.words.OpWord.{OpWord}
@@ -22,7 +23,7 @@ use Rattle.ckpt_machine.specs.After.{step_of, after}
 use Rattle.ckpt_machine.specs.Due.{IsDue, asked_handle}
 use Rattle.ckpt_machine.specs.Tables.{ckpt_of_handle}
 use Rattle.ckpt_machine.proofs.Actors.{same_actor-true}
-use Rattle.ckpt_machine.proofs.BegunBefore.{all_began, begun_more}
+use Rattle.ckpt_machine.proofs.BegunBefore.{all_began, begun_more, begun_on}
 use Rattle.ckpt_machine.proofs.Quiet.{quiet}
 use Rattle.ckpt_machine.proofs.Histories.{HasHistory, follows, run_history}
 use Rattle.ckpt_machine.proofs.ByActor.{put_actor-here}
@@ -123,9 +124,9 @@ step_begun log run before behind d word verb j q reply end details call is same 
     let (front, allowed, due) = run_before _ before step (run_front log (before ++ step ∷ []) behind (is ∙ sym (append_assoc before (step ∷ []) behind)) run) in
     let s = due.state in
     let held : (last before).in_hand (who s) ≡ Some s = held_as (last before) d word s due.in_hand due.call_is due.word in
-    let first : HasBegun before call s.op s.kept.ckpt = subst (λ c. HasBegun before c s.op s.kept.ckpt) (due.call_is ∙ same) (all_began before front s held) in
-    let longer : HasBegun log call s.op s.kept.ckpt = subst (λ (xs : List Label). HasBegun xs call s.op s.kept.ckpt) (sym is) (begun_more before (step ∷ behind) call s.op s.kept.ckpt first) in
-    let one = begins_once log run call op s.op ckpt s.kept.ckpt begun longer in
+    let first : HasBegun before call s.op (begun_on (asked s.op) s.kept.ckpt) = subst (λ c. HasBegun before c s.op (begun_on (asked s.op) s.kept.ckpt)) (due.call_is ∙ same) (all_began before front s held) in
+    let longer : HasBegun log call s.op (begun_on (asked s.op) s.kept.ckpt) = subst (λ (xs : List Label). HasBegun xs call s.op (begun_on (asked s.op) s.kept.ckpt)) (sym is) (begun_more before (step ∷ behind) call s.op (begun_on (asked s.op) s.kept.ckpt) first) in
+    let one = begins_once log run call op s.op ckpt (begun_on (asked s.op) s.kept.ckpt) begun longer in
     subst (λ (o : Op). HasBegun before call o ckpt) one.0 (subst (HasBegun before call s.op) one.1 first)
 
 -- the number of a call that has begun is below that of its actor's next
@@ -140,5 +141,5 @@ step_below log run before behind d word verb j q reply end details call is same 
     let (front, allowed, due) = run_before _ before step (run_front log (before ++ step ∷ []) behind (is ∙ sym (append_assoc before (step ∷ []) behind)) run) in
     let s = due.state in
     let held : (last before).in_hand (who s) ≡ Some s = held_as (last before) d word s due.in_hand due.call_is due.word in
-    let first : HasBegun before call s.op s.kept.ckpt = subst (λ c. HasBegun before c s.op s.kept.ckpt) (due.call_is ∙ same) (all_began before front s held) in
-    begun_below log run call s.op s.kept.ckpt (subst (λ (xs : List Label). HasBegun xs call s.op s.kept.ckpt) (sym is) (begun_more before (step ∷ behind) call s.op s.kept.ckpt first))
+    let first : HasBegun before call s.op (begun_on (asked s.op) s.kept.ckpt) = subst (λ c. HasBegun before c s.op (begun_on (asked s.op) s.kept.ckpt)) (due.call_is ∙ same) (all_began before front s held) in
+    begun_below log run call s.op (begun_on (asked s.op) s.kept.ckpt) (subst (λ (xs : List Label). HasBegun xs call s.op (begun_on (asked s.op) s.kept.ckpt)) (sym is) (begun_more before (step ∷ behind) call s.op (begun_on (asked s.op) s.kept.ckpt) first))

@@ -3,7 +3,7 @@ use Rattle.cluster_record.specs.declared.calls.ActiveKind.{ActiveKind}
 use Rattle.cluster_record.specs.declared.calls.ActiveKind.TheVariants as kinds
 use Rattle.ckpt_machine.specs.Drivers.{Rooms, Driver}
 use Rattle.std.proofs.Common.{◌≡◌, ℕ, List, [], ◌∷◌, Bool, true, false, cond, ◌==◌, refl, subst, ◌∙◌}
-use Rattle.std.specs.Prelude.{Option, Some, None, IfSome}
+use Rattle.std.specs.Prelude.{Option, Some, None, IfSome, slice_index}
 use Rattle.ckpt_types.specs.declared.identities.CallId.{CallId}
 use Rattle.ckpt_types.specs.Asks.{Ask, asked}
 use Rattle.ckpt_types.specs.Asks as asks
@@ -16,6 +16,10 @@ use Rattle.node_msgs.specs.declared.steps.Verb.TheVariants as verbs
 use Rattle.node_msgs.specs.declared.steps.StepReply.{StepReply}
 use Rattle.node_msgs.specs.declared.steps.StepReply.TheVariants as words
 use Rattle.ckpt_machine.specs.Drivers as drivers
+use Rattle.cluster_record.specs.declared.copying.Copying.{Copying}
+use Rattle.cluster_record.specs.declared.copying.CopyPhase.{CopyPhase}
+use Rattle.cluster_record.specs.declared.copying.CopyPhase.TheVariants.{PulledStaged}
+use Rattle.cluster_record.specs.DueCopy.{CopyState, behind_completion, behind_completion_in, complete_taken, copy_taken_by, pull_taken, reserve_taken}
 use Rattle.cluster_record.specs.DueUpdate.{UpdateState, update_taken_by}
 use Rattle.cluster_record.specs.RecordState.{RecordState}
 use Rattle.cluster_record.specs.StepDone.{StepDone}
@@ -24,7 +28,8 @@ use Rattle.cluster_record.specs.DueActive.{weak_request, request_by, active_requ
 use Rattle.cluster_record.specs.declared.calls.MarksMade.{MarksMade}
 use Rattle.ckpt_machine.specs.Machine.{CallState}
 use Rattle.ckpt_machine.specs.Due.{IsDriven, driver_of}
-use Rattle.ckpt_machine.proofs.NextOf.{OfAsked, next_of}
+use Rattle.ckpt_machine.proofs.NextOf.{OfAsked, OfCopying, next_of}
+use Rattle.ckpt_machine.proofs.OptionLemmas.{IfSome-from}
 
 -- a request that a call makes in its own name
 abbrev pub IsOwn : CallId → Request → Type 0
@@ -42,10 +47,11 @@ Asks c (Serve r request) = IsOwn c request
 Asks c (Event step) = Unit {0}
 Asks c (End o) = Unit {0}
 
--- a driver of an update, or of a call to the active, is the call's
+-- a driver of an update, of a call to the active or of a copying is the call's, and so is the update of a copying
 abbrev Of : CallId → Driver → Type 0
 Of c (drivers.Update u) = u.call ≡ c
 Of c (drivers.Active a) = a.call ≡ c
+Of c (drivers.Copy x) = (x.call ≡ c) × (x.staging.call ≡ c)
 Of c driver = Unit {0}
 
 taken_call : (d : StepDone) (u : UpdateState) (verb : Verb) (reply : StepReply) → (update_taken_by (record d { reply = reply }) u verb).call ≡ u.call
@@ -61,6 +67,37 @@ taken_call d u verbs.Withdraw reply = refl
 taken_call d u verbs.Commit words.Ok = refl
 taken_call d u verbs.Commit reply = refl
 taken_call d u verb reply = refl
+
+-- a copying, and its update
+abbrev IsOfCall : CallId → CopyState → Type 0
+IsOfCall call x = (x.call ≡ call) × (x.staging.call ≡ call)
+
+reserve_call : (x : CopyState) (k : Option ℕ) (reply : StepReply) (call : CallId) → IsOfCall call x → IsOfCall call (reserve_taken x k reply)
+reserve_call x (Some k) words.Ok call is = (is.0, is.0)
+reserve_call x (Some k) reply call is = is
+reserve_call x None reply call is = is
+
+pull_call : (generation : ℕ) (x : CopyState) (reply : StepReply) (call : CallId) → IsOfCall call x → IsOfCall call (pull_taken generation x reply)
+pull_call generation x words.Ok call is = is
+pull_call generation x reply call is = is
+
+completion_call : (incarnation : ℕ) (x : CopyState) (k : ℕ) (phase : CopyPhase) (call : CallId) → IsOfCall call x → IsOfCall call (behind_completion_in incarnation x k phase)
+completion_call incarnation x k PulledStaged call is = is
+completion_call incarnation x k phase call is = is
+
+behind_call : (incarnation : ℕ) (x : CopyState) (o : Option Copying) (call : CallId) → IsOfCall call x → IsOfCall call (behind_completion incarnation x o)
+behind_call incarnation x None call is = is
+behind_call incarnation x (Some at) call is = completion_call incarnation x at.ckpt at.phase call is
+
+complete_call : (incarnation : ℕ) (x : CopyState) (reply : StepReply) (call : CallId) → IsOfCall call x → IsOfCall call (complete_taken incarnation x reply)
+complete_call incarnation x words.Ok call is = behind_call incarnation x x.copying call is
+complete_call incarnation x reply call is = is
+
+copy_call : (d : StepDone) (x : CopyState) (verb : Verb) (call : CallId) → IsOfCall call x → IsOfCall call (copy_taken_by d x verb)
+copy_call d x verbs.Reserve call is = reserve_call x d.ckpt d.reply call is
+copy_call d x verbs.Pull call is = pull_call d.generation x d.reply call is
+copy_call d x verbs.Complete call is = complete_call (slice_index d.up x.node) x d.reply call is
+copy_call d x verb call is = (is.0, taken_call d x.staging d.verb d.reply ∙ is.1)
 
 of_kept : (c : CallId) (o : Option ℕ) (start : ℕ → Driver) → ((k : ℕ) → Of c (start k)) → IfSome (on_kept o start) (Of c)
 of_kept c None start h = tt
@@ -80,11 +117,13 @@ of_start call (asks.Close place) kept = of_kept call kept.ckpt _ (λ k. tt)
 of_start call (asks.Retain place duration) kept = of_kept call kept.ckpt _ (λ k. tt)
 of_start call (asks.Synchronize place timeout) kept = of_kept call kept.ckpt _ (λ k. tt)
 of_start call (asks.SetActive place) kept = of_kept call kept.ckpt _ (λ k. tt)
+of_start call asks.Copy kept = (refl, refl)
 of_start call ask kept = tt
 
 of_taken : (call : CallId) (d : StepDone) (x : Driver) → Of call x → Of call (driver_taken d x)
 of_taken call d (drivers.Update u) h = taken_call d u d.verb d.reply ∙ h
 of_taken call d (drivers.Active a) h = h
+of_taken call d (drivers.Copy x) h = copy_call d x d.verb call h
 of_taken call d x h = tt
 
 of_steps : (call : CallId) (begun : Driver) (steps : List StepDone) → Of call begun → Of call (driver_state begun steps)
@@ -116,6 +155,11 @@ own_asked : (c : CallId) (x : Driver) → Of c x → OfAsked (Asks c) x
 own_asked c (drivers.Update u) is = (λ r t. is, λ r. is, λ r. is, λ r. tt)
 own_asked c (drivers.Active a) is = λ r. subst (λ d. IsOwn d (active_request a)) is (own_kind a.call a.ckpt a.kind a.marks)
 own_asked c (drivers.Sync u) is = (λ r. tt, λ r. tt, λ r. tt, λ r. tt)
+own_asked c (drivers.Copy x) is = IfSome-from x.copying (OfCopying (Asks c) x) (λ at some. record {
+  update = (λ r t. is.1, λ r. is.1, λ r. is.1, λ r. tt);
+  pulls = λ r. tt;
+  completes = λ moment. tt;
+})
 own_asked c x is = tt
 
 -- what a call asks a node, it asks as itself

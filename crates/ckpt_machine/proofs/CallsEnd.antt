@@ -160,6 +160,7 @@ module _ (m : Machine) (inv : Invariant m) (t : CallState) (w : Who) (s : CallSt
   changed_either verbs.Next k r reply = inl (at_entry reply k _ (λ k. where_some r _ (λ r. held)))
   changed_either verbs.Hold k r reply = inl (at_entry reply k _ (λ k. held))
   changed_either verbs.Activate k r reply = inl (at_entry reply k _ (λ k. where_some r _ (λ r. at_replica (record_step (active_set k r) m) k r ((record_step (active_set k r) m).replicas k r) _ held)))
+  changed_either verbs.Complete k r reply = inl (at_entry reply k _ (λ k. where_some r _ (λ r. held)))
   changed_either verbs.Look k r reply = looked_either k r reply
   changed_either verb k r reply = inl held
 

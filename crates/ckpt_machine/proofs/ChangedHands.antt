@@ -83,5 +83,6 @@ module _ (P : (Who → Option CallState) → (ActorName → PendingCalls) → Ty
     changed_holds s verbs.Next k r reply = at_entry reply k _ (λ k. where_some r _ (λ r. here))
     changed_holds s verbs.Hold k r reply = at_entry reply k _ (λ k. here)
     changed_holds s verbs.Activate k r reply = at_entry reply k _ (λ k. where_some r _ (λ r. at_replica (record_step (active_set k r) m) k r ((record_step (active_set k r) m).replicas k r) _ here))
+    changed_holds s verbs.Complete k r reply = at_entry reply k _ (λ k. where_some r _ (λ r. here))
     changed_holds s verbs.Look k r reply = where_look reply _ _ (over_handle s) (unmade (making_of s.call m.cluster))
     changed_holds s verb k r reply = here

@@ -100,5 +100,6 @@ module _ (P : (ActorName → ClientState) → Type 0) (m : Machine) (s : CallSta
     changed_tables verbs.Next j q reply row = where_ok reply _ (where_both j q _ (λ k r. goes _))
     changed_tables verbs.Hold j q reply row = where_ok reply _ (where_some j _ (λ k. here))
     changed_tables verbs.Activate j q reply row = where_ok reply _ (where_both j q _ (λ k r. at_replica (record_step (active_set k r) m) k r ((record_step (active_set k r) m).replicas k r) _ here))
+    changed_tables verbs.Complete j q reply row = where_ok reply _ (where_both j q _ (λ k r. here))
     changed_tables verbs.Look j q reply row = where_look reply _ _ closes (unmade (making_of s.call m.cluster))
     changed_tables verb j q reply row = here

@@ -29,7 +29,7 @@ use Rattle.ckpt_machine.proofs.AcknowledgedExamples.{call_numbered, answered_ok,
 
 -- the replica on n1 has what the write asks for
 pub a_write_was_asked : WasAsked until_one_has_it 1 (call_numbered 3) abc
-a_write_was_asked = record { op = a_write; asks = tt; begun = it_has_begun; update_is = refl }
+a_write_was_asked = inl (record { op = a_write; asks = tt; begun = it_has_begun; update_is = refl })
 
 pub and_no_more : EachWasAsked until_one_has_it 1 (Applied (call_numbered 3) abc (pos 0) ∷ [])
 and_no_more = (a_write_was_asked, tt)
@@ -147,4 +147,4 @@ and_none_holds_it = refl
 
 -- which was asked for by c0
 pub c0_has_asked_for_it : EachWasAsked (until_it_holds ++ second_set ∷ []) 1 written
-c0_has_asked_for_it = (record { op = a_write; asks = tt; begun = record { before = until_both_have_it ++ first_set ∷ []; behind = _; end = None; details = beside.Nothing; log_is = refl; goes = refl; ckpt_is = refl }; update_is = refl }, tt)
+c0_has_asked_for_it = (inl (record { op = a_write; asks = tt; begun = record { before = until_both_have_it ++ first_set ∷ []; behind = _; end = None; details = beside.Nothing; log_is = refl; goes = refl; ckpt_is = refl }; update_is = refl }), tt)

@@ -20,7 +20,8 @@ use Rattle.ckpt_machine.specs.Tables.{handle_asked}
 use Rattle.ckpt_machine.specs.Shape.{Shape}
 use Rattle.ckpt_machine.proofs.Actors.{same_actor-true}
 use Rattle.ckpt_machine.proofs.Lives.{LivesOn, lives_on-fewer, enters-fewer, dead_on}
-use Rattle.ckpt_machine.proofs.OtherCalls.{LooksAlike, LooksLater-refl, making_still, IsInHand-alike, IsGoodIn-alike}
+use Rattle.ckpt_machine.proofs.LaterIncarnations.{incarnations_stay}
+use Rattle.ckpt_machine.proofs.OtherCalls.{LooksAlike, LooksLater-refl, LiesUnder-refl, making_still, IsInHand-alike, IsGoodIn-alike}
 use Rattle.ckpt_machine.proofs.Whose.{stepped_as-plain}
 
 -- the handle that an actor's call is about, for which it waits, is there still
@@ -49,14 +50,18 @@ module _ (m : Machine) (shapes : ℕ → Shape) (inv : InvariantIn shapes m) (a 
   looks_same : (z : CallState) → m.in_hand (who z) ≡ Some z → LooksAlike m then_machine shapes shapes z
   looks_same z at = record {
     up = λ r up. up;
-    lives = refl;
+    incarnations = incarnations_stay m.cluster m.cluster refl refl;
+    lives = λ client. refl;
+    node = λ r own. refl;
     home = refl;
     handle = by_word (is_async (word_of_op z.op)) refl;
     making = λ o at. making_still m then_machine z o (λ w at. record { there = at.there; declares = at.declares; nodes = at.nodes; reserved = at.reserved; only = at.only; within = at.within; no_later = at.no_later }) at;
     made = λ k was. was;
-    later = λ k was e found. (e, found, LooksLater-refl z (shapes k).marks e);
+    later = λ k was e found. (e, found, LooksLater-refl m.cluster.up z (shapes k) e);
+    reserved = λ k r was own f found free. refl;
     owners = λ k was r. refl;
     marks = λ k was. refl;
+    under = λ k was e found all. LiesUnder-refl (shapes k);
     dead = λ k f was found. dead_on m then_machine (λ d. refl) refl (enters-fewer m then_machine (λ w z held. held));
     done = λ k was done. done;
   }
@@ -80,8 +85,9 @@ module _ (m : Machine) (shapes : ℕ → Shape) (inv : InvariantIn shapes m) (a 
     none_live = inv.none_live;
     rises = inv.rises;
     up_to = inv.up_to;
+    few = inv.few;
     swept = inv.swept;
-    entries = λ k e found. IsGoodIn-alike m then_machine k lives (shapes k) e (λ r there. refl) (λ d own. refl) (λ marks stand own. refl) (λ active d own. refl) (λ d own. refl) e.making (inv.entries k e found);
+    entries = λ k e found. IsGoodIn-alike m then_machine k lives (shapes k) e (λ r there. refl) (λ r d owns own. refl) (λ marks stand own. refl) (λ active d own. refl) (λ d own. refl) e.making (inv.entries k e found);
     replicas = inv.replicas;
     reserves = inv.reserves;
     handles = λ b h. elim (same_actor b a) as (λ t. same_actor b a ≡ t → Contains (cond t (change (m.tables a)) (m.tables b)).handles h → IsGoodHandle m.cluster b h) [ true ↦ λ same among. subst (λ c. IsGoodHandle m.cluster c h) (sym (same_actor-true b a same)) (good h among) | false ↦ λ other among. inv.handles b h among ] refl;

@@ -21,7 +21,7 @@ use Rattle.cluster_record.specs.DueSync.{SyncState}
 use Rattle.cluster_record.specs.RecordState.{RecordState}
 use Rattle.ckpt_machine.specs.Drivers.{Driver}
 use Rattle.ckpt_machine.specs.Drivers as drivers
-use Rattle.ckpt_machine.specs.InHand.{active_kind, IsSyncBy, IsInPlace}
+use Rattle.ckpt_machine.specs.InHand.{active_kind, IsSyncBy, IsInPlace, IsUpdateAsk}
 use Rattle.ckpt_machine.specs.Invariant.{IsKeptOf, AreCalls, InvariantIn}
 use Rattle.ckpt_machine.specs.Machine.{Machine, ReplicaState, Snapshot, CallState, who}
 use Rattle.ckpt_machine.specs.Shape.{Shape}
@@ -54,9 +54,10 @@ module _ (m : Machine) (shapes : ℕ → Shape) (z : CallState) (place : ℕ) (t
   sync_plain : (d : Driver) → IsInPlace m shapes z d → is_plain d z.snapshot ≡ true
   sync_plain (drivers.Once x) at = refl
   sync_plain (drivers.Open o) at = let open_asks = at.asks in absurd (let w : asks.Synchronize place timeout ≡ asks.Open open_asks.place o.ask.name open_asks.flags open_asks.timeout o.ask.attrs = sym is ∙ open_asks.asks in cc w)
-  sync_plain (drivers.Update u) at = absurd (let w : asks.Synchronize place timeout ≡ asks.Change at.place at.update = sym is ∙ at.asks in cc w)
+  sync_plain (drivers.Update u) at = absurd (subst IsUpdateAsk is at.asks)
   sync_plain (drivers.Active a) at = absurd (let w : None ≡ Some a.kind = ap (active_kind z.kept.all z.kept.weak) (sym is) ∙ at.kind in cc w)
   sync_plain (drivers.Sync u) at = by_kind u u.kind at
+  sync_plain (drivers.Copy c) at = absurd (let w : asks.Synchronize place timeout ≡ asks.Copy = sym is ∙ at.asks in cc w)
 
 -- ---- those that go with a handle
 

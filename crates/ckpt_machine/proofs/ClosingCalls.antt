@@ -102,13 +102,13 @@ module _ (m : Machine) (s : CallState) (place : ℕ) (closes : asked s.op ≡ as
   step_ends verbs.Enter j q reply row = at_node_alone j q _ row.0 (λ r p. apart _ p.2 refl)
   step_ends verbs.Open j q reply row = row_at_ckpt j q _ row.0 (λ k p. apart _ p.2.asks refl)
   step_ends verbs.Create j q reply row = row_at_ckpt j q _ row.0 (λ k p. apart _ p.2.asks refl)
-  step_ends verbs.Reserve j q reply row = at_node j q _ row.0 (λ k r p. apart _ p.2.asks refl)
+  step_ends verbs.Reserve j q reply row = at_node j q _ row.0 (λ k r p. elim p [ inl asks ↦ apart _ asks.2.asks refl | inr copy ↦ apart _ copy.0 refl ])
   step_ends verbs.Finish j q reply row = row_at_ckpt j q _ row.0 (λ k p. apart _ p.2.asks refl)
   step_ends verbs.Undo j q reply row = row_at_ckpt j q _ row.0 (λ k p. apart _ p.2.asks refl)
-  step_ends verbs.Stage j q reply row = at_node j q _ row.0 (λ k r p. apart _ p.2 refl)
-  step_ends verbs.Claim j q reply row = at_node j q _ row.0 (λ k r p. apart _ p.2 refl)
-  step_ends verbs.Withdraw j q reply row = at_node j q _ row.0 (λ k r p. apart _ p.2 refl)
-  step_ends verbs.Commit j q reply row = at_node j q _ row (λ k r p. apart _ p.2 refl)
+  step_ends verbs.Stage j q reply row = at_node j q _ row.0 (λ k r p. elim p [ inl asks ↦ apart _ asks.2 refl | inr copy ↦ apart _ copy.0 refl ])
+  step_ends verbs.Claim j q reply row = at_node j q _ row.0 (λ k r p. elim p [ inl asks ↦ apart _ asks.2 refl | inr copy ↦ apart _ copy.0 refl ])
+  step_ends verbs.Withdraw j q reply row = at_node j q _ row.0 (λ k r p. elim p [ inl asks ↦ apart _ asks.2 refl | inr copy ↦ apart _ copy.0 refl ])
+  step_ends verbs.Commit j q reply row = at_node j q _ row (λ k r p. elim p [ inl asks ↦ apart _ asks.2 refl | inr copy ↦ apart _ copy.0 refl ])
   step_ends verbs.Apply j q reply row = at_node j q _ row (λ k r p. apart _ p.2 refl)
   step_ends verbs.Mark j q reply row = at_node j q _ row (λ k r p. apart _ p.2 refl)
   step_ends verbs.Element j q reply row = at_node j q _ row (λ k r p. apart _ p.2 refl)
@@ -117,7 +117,7 @@ module _ (m : Machine) (s : CallState) (place : ℕ) (closes : asked s.op ≡ as
   step_ends verbs.Status j q reply row = at_node j q _ row (λ k r p. apart _ p.1 refl)
   step_ends verbs.Iter j q reply row = at_node j q _ row.0 (λ k r p. apart _ p.4 refl)
   step_ends verbs.Next j q reply row = at_node j q _ row (λ k r p. apart _ p.1 refl)
-  step_ends verbs.Pull j q reply row = at_node j q _ row.0 (λ k r p. apart _ p.2 refl)
+  step_ends verbs.Pull j q reply row = at_node j q _ row.0 (λ k r p. elim p [ inl asks ↦ apart _ asks.2 refl | inr copy ↦ apart _ copy.0 refl ])
   step_ends verbs.Install j q reply row = at_node j q _ row.0 (λ k r p. apart _ p.2 refl)
   step_ends verbs.Hold j q reply row = at_node j q _ row.0 (λ k r p. apart _ p.1 refl)
   step_ends verbs.Activate j q reply row = at_node j q _ row.0 (λ k r p. apart _ p.1 refl)
@@ -126,8 +126,8 @@ module _ (m : Machine) (s : CallState) (place : ℕ) (closes : asked s.op ≡ as
   step_ends verbs.Close j q reply row = row_at_ckpt j q _ row.0 (λ k p. p.2)
   step_ends verbs.Unlink j q reply row = row_at_ckpt j q _ row.0 (λ k p. apart _ p.1 refl)
   step_ends verbs.Retain j q reply row = row_at_ckpt j q _ row.0 (λ k p. apart _ p.2 refl)
+  step_ends verbs.Complete j q reply row = at_node j q _ row.0 (λ k r p. apart _ p.0 refl)
   step_ends verbs.Look j q reply row = look_ends reply row.2
-  step_ends verb j q reply row = row
 
 -- ---- the place of its handle
 

@@ -16,8 +16,8 @@ use Rattle.cluster_record.specs.StepDone.{StepDone, done_of, has, last_having}
 use Rattle.node_msgs.specs.declared.steps.Verb.TheVariants as verbs
 use Rattle.node_msgs.specs.declared.steps.StepReply.TheVariants as words
 use Rattle.replica.specs.Replicas.{or_same}
-use Rattle.ckpt_machine.specs.Drivers as drivers
-use Rattle.ckpt_machine.specs.Driving.{driver_taken}
+use Rattle.ckpt_machine.specs.Drivers.{update_in}
+use Rattle.ckpt_machine.specs.InHand.{IsUpdateIn}
 use Rattle.ckpt_machine.specs.Invariant.{InvariantIn, Invariant}
 use Rattle.ckpt_machine.specs.Machine.{Machine, Effect, Applied, ReplicaState, CallState, who}
 use Rattle.ckpt_machine.specs.Owned.{HasUpdate}
@@ -25,10 +25,11 @@ use Rattle.ckpt_machine.specs.Shape.{Shape, IsCompleteOn, IsShaped, AreOwn, IsSp
 use Rattle.ckpt_machine.specs.Due.{driver_of}
 use Rattle.ckpt_machine.specs.After.{committed_slot, created_by}
 use Rattle.ckpt_machine.specs.Whose.{put_who, same_who}
-use Rattle.ckpt_machine.proofs.CallsKept.{same_call-Some}
-use Rattle.ckpt_machine.proofs.Owning.{spread}
+use Rattle.ckpt_machine.proofs.BehindStep.{IsBehind, IsOwnCommit, IsPlacedBehind, does_then}
+use Rattle.ckpt_machine.proofs.Owning.{spread, all_is}
 use Rattle.ckpt_machine.proofs.LetGo.{after_it, own_r, owner_cases, let_go_keeps}
 use Rattle.ckpt_machine.proofs.Turns.{end_keeps}
+use Rattle.ckpt_machine.proofs.UpdateIn.{update_there}
 use Rattle.ckpt_machine.proofs.Whose.{put_who-here}
 
 -- the last is of the call
@@ -48,15 +49,16 @@ put_who-twice f w x y = λ i v. at_name v i
     at_name : (v : Who) → put_who (put_who f w x) w y v ≡ put_who f w y v
     at_name v = elim (same_who v w) as (λ b. cond b y (cond b x (f v)) ≡ cond b y (f v)) [ true ↦ refl | false ↦ refl ]
 
-module _ (m : Machine) (shapes : ℕ → Shape) (inv : InvariantIn shapes m) (s : CallState) (u : UpdateState) (held : m.in_hand (who s) ≡ Some s) (is : driver_of s ≡ drivers.Update u)
+module _ (m : Machine) (shapes : ℕ → Shape) (inv : InvariantIn shapes m) (s : CallState) (u : UpdateState) (held : m.in_hand (who s) ≡ Some s) (is : update_in (driver_of s) ≡ Some u) (at : IsUpdateIn m shapes s u)
     (e : Entry) (found : entry_of u.ckpt m.cluster.entries ≡ Some e) (r : ℕ) (had : has (slice_index e.complete r) (slice_index u.owned r) ≡ true) (behind : (q : ℕ) → r < q → has (slice_index e.complete q) (slice_index u.owned q) ≡ false)
     (x : ReplicaState) (there : m.replicas u.ckpt r ≡ Some x) (shaped : IsShaped (shapes u.ckpt) (Some s.call) x)
-    (origin : (shapes u.ckpt).origin ≡ s.call) (update : (shapes u.ckpt).update ≡ update_of s.op) (alone : AreOwn (shapes u.ckpt) s.call) (rest : ((shapes u.ckpt).done ≡ true) ⊎ ((q : ℕ) → IsCompleteOn e q → (shapes u.ckpt).owners q ≡ Some s.call)) (phase : committing u.phase ≡ Committing) where
+    (origin : (shapes u.ckpt).origin ≡ s.call) (update : (shapes u.ckpt).update ≡ update_of s.op) (alone : AreOwn (shapes u.ckpt) s.call) (rest : ((shapes u.ckpt).done ≡ true) ⊎ ((q : ℕ) → IsCompleteOn e q → (shapes u.ckpt).owners q ≡ Some s.call)) (phase : committing u.phase ≡ Committing)
+    (placed : IsPlacedBehind m shapes s u) (own : IsOwnCommit e u) where
   abbrev z : Shape
   z = shapes u.ckpt
 
   abbrev was : IsSpread m u.ckpt z e
-  was = spread m shapes inv s u held is e found
+  was = spread m shapes inv s u held is at e found
 
   done_free : (q : ℕ) → IsCompleteOn e q → z.owners q ≡ None → z.done ≡ true
   done_free q full none = elim rest [
@@ -70,21 +72,24 @@ module _ (m : Machine) (shapes : ℕ → Shape) (inv : InvariantIn shapes m) (s 
   abbrev pub committed_state : CallState
   committed_state = record s { steps = commit_done ∷ s.steps; created = created_by m s verbs.Commit (Some u.ckpt) (Some r) }
 
-  driver_then : driver_of committed_state ≡ drivers.Update (record u { owned = slice_set u.owned r 0; phase = Committing })
-  driver_then = ap (driver_taken commit_done) is ∙ ap (λ ph. drivers.Update (record u { owned = slice_set u.owned r 0; phase = ph })) phase
+  abbrev then_driver : UpdateState
+  then_driver = record u { owned = slice_set u.owned r 0; phase = Committing }
+
+  committed_is : IsBehind s u committed_state then_driver
+  committed_is = record { step = commit_done; of = tt; call = refl; op = refl; kept = refl; begun = refl; steps = refl; update = ap (λ ph. record u { owned = slice_set u.owned r 0; phase = ph }) phase }
 
   abbrev pub committed : ReplicaState
   committed = committed_slot e.attributes x (Some (record { owner = s.call; origin = z.origin; update = z.update; moment = z.moment }))
 
-  shaped_committed : IsShaped (after_it m shapes inv s u held is e found r had behind alone x there true) None committed
+  shaped_committed : IsShaped (after_it m shapes inv s u held is at e found r had behind alone x there true) None committed
   shaped_committed = record {
     slot = refl;
-    sections = (let outcome_is = ap (outcome e.attributes z.update z.moment) shaped.sections ∙ was.fits r s.call (own_r m shapes inv s u held is e found r had behind alone x there true) in ap (λ o. or_same o x.sections) outcome_is);
+    sections = (let outcome_is = ap (outcome e.attributes z.update z.moment) shaped.sections ∙ was.fits r s.call (own_r m shapes inv s u held is at e found r had behind alone x there true) in ap (λ o. or_same o x.sections) outcome_is);
     effects = ap (λ es. es ++ Applied z.origin z.update z.moment ∷ []) shaped.effects;
     unmarked = shaped.unmarked;
   }
 
-  others : (q : ℕ) → IsCompleteOn e q → z.owners q ≡ None → (w : ReplicaState) → IsShaped z None w → IsShaped (after_it m shapes inv s u held is e found r had behind alone x there true) None w
+  others : (q : ℕ) → IsCompleteOn e q → z.owners q ≡ None → (w : ReplicaState) → IsShaped z None w → IsShaped (after_it m shapes inv s u held is at e found r had behind alone x there true) None w
   others q full none w it = let is_done = done_free q full none in record {
     slot = it.slot;
     sections = it.sections ∙ ap (λ b. cond b z.outcome z.sections) is_done;
@@ -99,22 +104,27 @@ module _ (m : Machine) (shapes : ℕ → Shape) (inv : InvariantIn shapes m) (s 
       by_done true it = it
       by_done false it = HasUpdate-front c.call (update_of c.op) z.effects (Applied z.origin z.update z.moment ∷ []) it
 
-  left : (q : ℕ) (c : CallId) → (after_it m shapes inv s u held is e found r had behind alone x there true).owners q ≡ Some c → c ≡ s.call
-  left q c has_it = (owner_cases m shapes inv s u held is e found r had behind alone x there true q c has_it).2
+  left : (q : ℕ) (c : CallId) → (after_it m shapes inv s u held is at e found r had behind alone x there true).owners q ≡ Some c → c ≡ s.call
+  left q c has_it = (owner_cases m shapes inv s u held is at e found r had behind alone x there true q c has_it).2
 
   abbrev pub then_machine : Machine
   then_machine = record m { replicas = put2 m.replicas u.ckpt r (Some committed); in_hand = put_who m.in_hand (who s) (Some committed_state) }
 
   -- THE LAW OF A COMMIT, with more to come
   pub commit_keeps : Invariant then_machine
-  commit_keeps = let_go_keeps m shapes inv s u held is e found r had behind alone x there true committed refl shaped_committed others has_still committed_state (same_call-Some s committed_state refl refl) refl refl refl refl Committing driver_then
+  commit_keeps = let_go_keeps m shapes inv s u held is at e found r had behind alone x there true committed refl shaped_committed others has_still committed_state Committing committed_is
       (record { origin = origin; update = update; is_done = refl; alone = left })
       (record { free = HasUpdate-last s.call (update_of s.op) z.effects z.origin z.update z.moment origin update; under = λ q c has_it apart. absurd (apart (left q c has_it)) })
+      placed (λ f f_found. inl (refl, subst (λ (g : Entry). IsOwnCommit g u) (same_Some e f (sym found ∙ f_found)) own))
 
-  -- THE LAW OF THE LAST COMMIT: the call ends by it
+  -- behind it the update is where it has led it
+  at_then : (shapes' : ℕ → Shape) → InvariantIn shapes' then_machine → IsUpdateIn then_machine shapes' committed_state then_driver
+  at_then shapes' kept = update_there then_machine shapes' committed_state (driver_of committed_state) then_driver (kept.hands (who s) committed_state (put_who-here m.in_hand (who s) (Some committed_state))).here (does_then m shapes s u is committed_state then_driver committed_is) e found (all_is m shapes inv s u held is at e found)
+
+  -- THE LAW OF THE LAST COMMIT: the call may end by it
   pub last_commit_keeps : last_having 0 e.complete (slice_set u.owned r 0) ≡ None → Invariant (record m { replicas = put2 m.replicas u.ckpt r (Some committed); in_hand = put_who m.in_hand (who s) None })
   last_commit_keeps none =
       let kept = commit_keeps in
       subst (λ f. Invariant (record m { replicas = put2 m.replicas u.ckpt r (Some committed); in_hand = f })) (put_who-twice m.in_hand (who s) (Some committed_state) None)
-      (end_keeps then_machine kept.shapes kept.holds committed_state (record u { owned = slice_set u.owned r 0; phase = Committing }) (put_who-here m.in_hand (who s) (Some committed_state)) driver_then
+      (end_keeps then_machine kept.shapes kept.holds committed_state then_driver (put_who-here m.in_hand (who s) (Some committed_state)) (does_then m shapes s u is committed_state then_driver committed_is) (at_then kept.shapes kept.holds)
       (λ f f_found. subst (λ (g : Entry). last_having 0 g.complete (slice_set u.owned r 0) ≡ None) (same_Some e f (sym found ∙ f_found)) none))

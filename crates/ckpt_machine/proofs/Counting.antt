@@ -1,7 +1,7 @@
 -- Each label counts up by at most one.
 use Rattle.std.proofs.Common.{◌≡◌, ◌⊎◌, ℕ, zero, suc, ◌+◌, ◌-◌, ◌≤◌, inl, inr, List, [], ◌∷◌, ◌++◌, filter, length, Option, Some, None, Bool, true, false, cond, not, ◌==◌, ◌&&◌, ℤ, refl, sym, ap, subst, ◌∙◌, arith}
 use Rattle.std.specs.Option.{option_map}
-use Rattle.std.specs.Prelude.{map, nat_lt, slice_index, slice_set, if◌then◌else◌}
+use Rattle.std.specs.Prelude.{slice_index, slice_set, if◌then◌else◌}
 use Rattle.std.proofs.lemmas.List.{length_push}
 use Rattle.std.proofs.lemmas.Option.{same_Some}
 use Rattle.ckpt_types.specs.declared.answers.Outcome.{Outcome}
@@ -31,13 +31,15 @@ use Rattle.cluster_record.specs.declared.entries.Entry.{Entry}
 use Rattle.cluster_record.specs.Calls.{same_actor, client_of, left}
 use Rattle.cluster_record.specs.Failing.{goes_with_node}
 use Rattle.cluster_record.specs.Identities.{IdentitiesRise, AllUpTo}
+use Rattle.cluster_record.specs.Joining.{can_complete, completed, completed_on, led_by, led_by_lowest, with_node}
 use Rattle.cluster_record.specs.LookUps.{creation_flags_of}
 use Rattle.cluster_record.specs.Makings.{making_of}
 use Rattle.cluster_record.specs.Places.{change_key, put2}
-use Rattle.cluster_record.specs.Placement.{adds}
-use Rattle.cluster_record.specs.RecordState.{RecordState, all_nodes, first_nodes, entry_of, identity_of, has_references, stays, swept, entered, created_as, new_entry, referred, opened_with, home_of, made_with, unreferred, released_all, unnamed, retaining, is_call_of, departed, moved, undone, complete_of, is_active, is_live, can_be_held, with_hold, can_lead, generation_under, with_active, active_set}
+use Rattle.cluster_record.specs.Placement.{adds, is_all}
+use Rattle.cluster_record.specs.RecordState.{RecordState, entry_of, identity_of, has_references, stays, swept, entered, created_as, new_entry, referred, opened_with, home_of, made_with, first_complete, unreferred, released_all, unnamed, retaining, is_call_of, departed, moved, undone, complete_of, is_active, is_live, can_be_held, with_hold, can_lead, generation_under, with_active, active_set}
 use Rattle.cluster_record.specs.StepDone.{generation_in}
 use Rattle.ckpt_machine.proofs.HeldIdentity.{with_hold-identity, with_active-identity}
+use Rattle.cluster_record.proofs.KeptLaws.{completed_on-keeps}
 use Rattle.cluster_record.proofs.IdentityLaws.{KeepsIdentity, IdentitiesRise-change_key, IdentitiesRise-filter, IdentitiesRise-map, IdentitiesRise-push}
 use Rattle.ckpt_types.specs.Asks.{Ask, asked, update_of}
 use Rattle.ckpt_types.specs.Asks as asks
@@ -48,7 +50,7 @@ use Rattle.ckpt_machine.specs.Laws.{CountsUp}
 use Rattle.ckpt_machine.specs.Propagation.{source_at, copied, with_pulled, target_at, replica_from, with_put}
 use Rattle.ckpt_machine.specs.NodeJoins.{joined_at}
 use Rattle.ckpt_machine.specs.Runs.{Counts}
-use Rattle.ckpt_machine.specs.After.{given_at, chosen_at, with_pending, with_closed, goes_with, without_syncs, left_over, left_in_hand, ended_calls, with_record, record_step, with_tables, with_given, with_started, with_gone_on, created_for, retained_for, change_replica, with_committed, committed_slot, with_applied, with_marks, without_marks, marks_ended, with_installed, with_lead, effect_of, after_beginning, begun_call, call_begun, changed, pulled_by, kept_behind, step_of, on_ok, on_look, without_making, at_some, replica_under, snapshot_under, opened_state}
+use Rattle.ckpt_machine.specs.After.{given_at, chosen_at, with_pending, with_closed, goes_with, without_syncs, left_over, left_in_hand, ended_calls, with_record, record_step, with_tables, with_given, with_started, with_gone_on, created_for, retained_for, change_replica, with_committed, committed_slot, with_applied, with_marks, without_marks, marks_ended, with_installed, with_lead, effect_of, after_beginning, begun_call, call_begun, changed, pulled_by, kept_behind, step_of, on_ok, on_look, without_making, at_some, replica_under, snapshot_under, opened_state, replica_copied, staged_moment, with_replica_copied}
 use Rattle.ckpt_machine.specs.Whose.{is_of}
 use Rattle.call_dispatch.specs.PendingCalls.{PendingCalls, no_pending, given_by}
 use Rattle.call_dispatch.specs.declared.async_call.EndedCall.{EndedCall}
@@ -64,6 +66,7 @@ use Rattle.ckpt_machine.proofs.Entries.{ComesOf, ComesOf-filter, ComesOf-change_
 use Rattle.ckpt_machine.proofs.FailedCalls.{left_is as left_was_in_hand}
 use Rattle.ckpt_machine.proofs.FailedEntries.{failed_at_most}
 use Rattle.ckpt_machine.proofs.FailedHands.{was_entry}
+use Rattle.ckpt_machine.proofs.NodeLists.{first_life}
 use Rattle.ckpt_machine.proofs.Follows.{element_effects}
 use Rattle.ckpt_machine.proofs.Propagated.{source_there}
 use Rattle.ckpt_machine.proofs.Dropped.{left_was, held_as}
@@ -145,6 +148,24 @@ Counts-replaced m k r x n counts few = record {
   last_iterations = counts.last_iterations;
   effects = λ j q y is. elim ((j == k) && (q == r)) as (λ b. cond b (Some x) (m.replicas j q) ≡ Some y → length y.effects ≤ n) [
     | true ↦ λ here. subst (λ (z : ReplicaState). length z.effects ≤ n) (same_Some x y here) few
+    | false ↦ λ there. counts.effects j q y there
+  ] is;
+  snapshots = counts.snapshots;
+  copies = counts.copies;
+  identity = counts.identity;
+  generations = counts.generations;
+  references = counts.references;
+  incarnations = counts.incarnations;
+}
+
+-- so does one in place of which none is
+Counts-removed : (m : Machine) (k r : ℕ) (n : ℕ) → Counts m n → Counts (record m { replicas = put2 m.replicas k r None }) n
+Counts-removed m k r n counts = record {
+  next = counts.next;
+  last_handles = counts.last_handles;
+  last_iterations = counts.last_iterations;
+  effects = λ j q y is. elim ((j == k) && (q == r)) as (λ b. cond b None (m.replicas j q) ≡ Some y → length y.effects ≤ n) [
+    | true ↦ λ here. absurd (cc here)
     | false ↦ λ there. counts.effects j q y there
   ] is;
   snapshots = counts.snapshots;
@@ -255,6 +276,22 @@ OneMore-led r e = elim (can_lead r e) as (λ b. OneMore e (cond b (record e { ac
   | true ↦ record { few = λ n few c. let a = few c in omega (arith, a); low = elim (is_active e.active r) as (λ b. cond b e.generation (e.generation + 1) ≤ e.generation + 1) [ true ↦ omega arith | false ↦ omega arith ] }
   | false ↦ OneMore-same e
 ]
+
+OneMore-completed : (r n : ℕ) (e : Entry) → OneMore e (completed_on r n e)
+OneMore-completed r n e = elim (can_complete r n e) as (λ b. OneMore e (cond b (led_by_lowest (with_node r n e)) e)) [
+  | true ↦ elim (is_all e.attributes) as (λ b. OneMore e (cond b (led_by (first_complete 0 (slice_set e.complete r n)) (with_node r n e)) (with_node r n e))) [
+    | true ↦ led (first_complete 0 (slice_set e.complete r n))
+    | false ↦ record { few = λ m few c. let a = few c in omega (arith, a); low = omega arith }
+  ]
+  | false ↦ OneMore-same e
+]
+  where
+    led : (o : Option ℕ) → OneMore e (led_by o (with_node r n e))
+    led None = record { few = λ m few c. let a = few c in omega (arith, a); low = omega arith }
+    led (Some q) = record {
+      few = λ m few c. let a = few c in omega (arith, a);
+      low = elim (is_active e.active q) as (λ b. cond b e.generation (e.generation + 1) ≤ e.generation + 1) [ true ↦ omega arith | false ↦ omega arith ];
+    }
 
 -- ---- the record
 
@@ -492,6 +529,15 @@ module _ (m : Machine) (n : ℕ) (counts : Counts m n) where
       by_snapshot None none = Counts-replaced b k r (with_lead None generation x) (n + 1) on (on.effects k r x there)
       by_snapshot (Some p) is = Counts-replaced b k r (with_lead (Some p) generation x) (n + 1) on (more.copies a s p held is)
 
+  -- so does one that is completed with what is in a hand, on a node that the record behind a step has complete
+  copied_on : (a : Who) (s : CallState) → m.in_hand a ≡ Some s → (b : Machine) → Counts b (n + 1) → (k r : ℕ) (t : ℤ) → Counts (with_replica_copied s k r t b) (n + 1)
+  copied_on a s held b on k r t = by_both (entry_of k b.cluster.entries) s.snapshot refl
+    where
+      by_both : (o : Option Entry) (p : Option Snapshot) → s.snapshot ≡ p → Counts (record b { replicas = put2 b.replicas k r (replica_copied s.call t o p) }) (n + 1)
+      by_both None p is = Counts-removed b k r (n + 1) on
+      by_both (Some e) None is = Counts-removed b k r (n + 1) on
+      by_both (Some e) (Some p) is = Counts-replaced b k r _ (n + 1) on (more.copies a s p held is)
+
   -- a copy of a replica has no more than that
   copy_few : (k r : ℕ) (x : Snapshot) (o : Option ReplicaState) → m.replicas k r ≡ o → option_map copied o ≡ Some x → length x.effects ≤ n
   copy_few k r x None none gone = absurd (cc gone)
@@ -501,6 +547,7 @@ module _ (m : Machine) (n : ℕ) (counts : Counts m n) where
   pulled_few : (a : Who) (s : CallState) → m.in_hand a ≡ Some s → (verb : Verb) (k r : Option ℕ) (reply : StepReply) (x : Snapshot) → pulled_by m s verb k r reply ≡ Some x → length x.effects ≤ n
   pulled_few a s held verbs.Pull (Some k) (Some r) words.Ok x is = copy_few k r x (m.replicas k r) refl is
   pulled_few a s held verbs.Hold (Some k) (Some r) words.Ok x is = copy_few k r x (m.replicas k r) refl is
+  pulled_few a s held verbs.Reserve k r words.Ok x is = absurd (cc is)
   pulled_few a s held verb k r reply x is = counts.copies a s x held is
 
   -- and a put gives a replica what a snapshot has
@@ -615,6 +662,9 @@ module _ (m : Machine) (n : ℕ) (rises : IdentitiesRise m.cluster.entries) (up_
       led_on m n counts (who s) s held b (entry_changed k (with_active r) (with_active-identity r) (OneMore-led r)) k r (generation_in (entry_of k b.cluster.entries)) (b.replicas k r) refl))
   changed_counts verbs.Iter k r reply = ok_on m n counts reply _ (both_on m n counts k r _ started_counts)
   changed_counts verbs.Next k r reply = ok_on m n counts reply _ (both_on m n counts k r _ gone_on_counts)
+  changed_counts verbs.Complete k r reply = ok_on m n counts reply _ (both_on m n counts k r _ (λ k r.
+      let n' = slice_index m.cluster.up r in
+      copied_on m n counts (who s) s held (record_step (completed k r) m) (entry_changed k (completed_on r n') (completed_on-keeps r n').1 (OneMore-completed r n')) k r (staged_moment m k)))
   changed_counts verbs.Look k r reply =
       looked_on m n counts reply _ _ (closed_counts m (more m n counts) refl) (without_making_on m n counts rises up_to (making_of s.call m.cluster))
   changed_counts verb k r reply = more m n counts
@@ -703,18 +753,6 @@ module _ (m : Machine) (n : ℕ) (inv : Invariant m) (few : Counts m n) (r : ℕ
   }
 
 -- ---- the lives of nodes
-
--- a node that comes up first is in its first life
-first_life : (n r : ℕ) → slice_index (first_nodes n) r ≤ 1
-first_life n r = within all_nodes r where
-  by : (b : Bool) → cond b 1 0 ≤ 1
-  by true = omega arith
-  by false = omega arith
-
-  within : (nodes : List ℕ) (i : ℕ) → slice_index (map (λ r. if nat_lt r n then 1 else 0) nodes) i ≤ 1
-  within [] i = omega arith
-  within (r ∷ nodes) zero = by (nat_lt r n)
-  within (r ∷ nodes) (suc i) = within nodes i
 
 -- a node that joins is in its next one
 joined_counts : (m : Machine) (n : ℕ) (r : ℕ) → Counts m n → Counts (joined_at r m) (n + 1)

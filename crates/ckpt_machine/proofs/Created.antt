@@ -1,6 +1,6 @@
 -- A checkpoint is created: one entry more, in the making by a call that made nothing before; what holds of every other call and of every other checkpoint stays.
 use Rattle.std.proofs.Common.{◌≡◌, ℕ, ◌+◌, ◌<◌, ◌≤◌, length, inl, inr, List, Option, Some, None, Bool, true, false, cond, ◌==◌, refl, sym, ap, subst, ◌∙◌, arith}
-use Rattle.std.specs.Prelude.{is_some, IsSome, IsSomeAnd, IfSome, slice_index}
+use Rattle.std.specs.Prelude.{is_some, IsSomeAnd, IfSome, slice_index}
 use Rattle.std.proofs.lemmas.Bool.{eqb-true, eq-eqb}
 use Rattle.std.proofs.lemmas.List.{length-replicate}
 use Rattle.std.proofs.lemmas.Option.{same_Some}
@@ -15,8 +15,9 @@ use Rattle.cluster_record.specs.Calls.{IsClient, client_of}
 use Rattle.cluster_record.specs.Makings.{makings_of}
 use Rattle.cluster_record.proofs.MakingCounts.{is_call_of-own, is_call_of-other, makings_of-created_own, makings_of-created_other}
 use Rattle.ckpt_types.specs.declared.identities.ActorName.TheVariants.{Client}
-use Rattle.ckpt_types.specs.Limits.{handles_max}
+use Rattle.ckpt_types.specs.Limits.{checkpoints_max, handles_max}
 use Rattle.ckpt_types.specs.OpWord.{word_of_op, stepped_as}
+use Rattle.ckpt_machine.proofs.FewEntries.{few-push}
 use Rattle.ckpt_machine.proofs.CallsKept.{same_call-Some, calls_left}
 use Rattle.ckpt_machine.proofs.EndedTables.{client_by_number}
 use Rattle.cluster_record.specs.RecordState.{RecordState, entry_of, identity_of, complete_of, new_entry, created_as}
@@ -26,7 +27,7 @@ use Rattle.ckpt_machine.specs.Drivers as drivers
 use Rattle.ckpt_machine.specs.Entries.{WasMade}
 use Rattle.ckpt_machine.specs.Dead.{IsDead}
 use Rattle.ckpt_machine.specs.InHand.{attributes_asked, IsMakingIn, IsInHand}
-use Rattle.ckpt_machine.specs.Invariant.{IsMaker, IsGoodIn, IsOfGeneration, InvariantIn}
+use Rattle.ckpt_machine.specs.Invariant.{IsMaker, IsGoodIn, IsOfGeneration, IsReservedFor, InvariantIn}
 use Rattle.ckpt_machine.specs.Machine.{Machine, CallState, who}
 use Rattle.ckpt_machine.specs.After.{with_record, replica_under, reservation_under, opened_state}
 use Rattle.ckpt_machine.specs.Due.{IsDriven, driver_of}
@@ -34,7 +35,8 @@ use Rattle.ckpt_machine.specs.Shape.{Shape, IsCompleteOn}
 use Rattle.ckpt_machine.proofs.EntryLists.{entry_of-given, find_key-push, AllStay-push}
 use Rattle.ckpt_machine.proofs.Handles.{IsGoodHandle-later}
 use Rattle.ckpt_machine.proofs.Lives.{LivesOn, lives_on-one, enters-one, dead_on}
-use Rattle.ckpt_machine.proofs.OtherCalls.{LooksAlike, LooksLater-refl, making_still, IsInHand-alike, IsGoodIn-alike}
+use Rattle.ckpt_machine.proofs.LaterIncarnations.{incarnations_stay}
+use Rattle.ckpt_machine.proofs.OtherCalls.{LooksAlike, LooksLater-refl, LiesUnder-refl, home_stays, making_still, IsInHand-alike, IsGoodIn-alike}
 use Rattle.ckpt_machine.proofs.OptionLemmas.{IsSomeAnd-at, IsSomeAnd-from}
 use Rattle.ckpt_machine.proofs.OnComplete.{under_complete}
 use Rattle.ckpt_machine.proofs.ReservedUnder.{was_reserved}
@@ -114,7 +116,7 @@ module _ (m : Machine) (shapes : ℕ → Shape) (inv : InvariantIn shapes m) (s 
   -- a checkpoint that was there is as it was
   IsGoodIn-then : LivesOn m then_machine → (j : ℕ) (sh : Shape) (e : Entry) (maker : Option CallId) → entry_of j m.cluster.entries ≡ Some e → IsGoodIn m j sh e maker → IsGoodIn then_machine j sh e maker
   IsGoodIn-then lives j sh e maker found was = IsGoodIn-alike m then_machine j lives sh e (λ r there. replica_other j r e found there)
-      (λ d own. put_who-other m.in_hand (who s) (Some w) (who own.state) (owner_apart m shapes inv s held plain j sh d own)) (λ marks stand own. put_who-other m.in_hand (who s) (Some w) (who own.state) (marker_apart m shapes inv s held plain j marks own))
+      (λ r d owns own. put_who-other m.in_hand (who s) (Some w) (who own.state) (owner_apart m shapes inv s held plain j sh d own)) (λ marks stand own. put_who-other m.in_hand (who s) (Some w) (who own.state) (marker_apart m shapes inv s held plain j marks own))
       (λ active d own. put_who-other m.in_hand (who s) (Some w) (who own.state) (holder_apart m shapes inv s held plain j active d own)) (λ d own. put_who-other m.in_hand (who s) (Some w) (who own.state) (maker_apart m shapes inv s held plain j d own)) maker was
 
   -- the new one is as it was created
@@ -152,26 +154,30 @@ module _ (m : Machine) (shapes : ℕ → Shape) (inv : InvariantIn shapes m) (s 
     looks_then : ((d : CallId) → IsDead m d → IsDead then_machine d) → LooksAlike m then_machine shapes shapes z
     looks_then dead = record {
       up = λ r up. up;
-      lives = refl;
-      home = refl;
+      incarnations = incarnations_stay m.cluster R refl refl;
+      lives = λ client. refl;
+      node = λ r own. refl;
+      home = home_stays z.call.actor m.cluster R refl;
       handle = λ there. there;
       making = λ x at. making_still m then_machine z x making_then at;
       made = WasMade-then;
-      later = λ j was e found. (e, sym (entry_other j (given_apart j was.given)) ∙ found, LooksLater-refl z (shapes j).marks e);
+      later = λ j was e found. (e, sym (entry_other j (given_apart j was.given)) ∙ found, LooksLater-refl m.cluster.up z (shapes j) e);
+      reserved = λ j r was own f found free. ap (λ o. reservation_under o r (m.reserved j r)) found ∙ ap (λ b. cond b (m.reserved j r) None) free;
       owners = λ j was r. refl;
       marks = λ j was. refl;
+      under = λ j was e found all. LiesUnder-refl (shapes j);
       dead = λ j f was found. dead;
       done = λ j was done. done;
     }
 
   -- ---- the whole
 
-  -- what is reserved is for a checkpoint that is in the making: the new one, or one for which it was
-  reserves_then : (j q n : ℕ) (f : Entry) → entry_of j R.entries ≡ Some f → m.reserved j q ≡ Some n → (b : Bool) → (j == next) ≡ b → IsSome f.making
-  reserves_then j q n f found was false other = subst (λ o. IsSomeAnd o (λ (x : Entry). IsSome x.making)) (sym (entry_other j other) ∙ found) (inv.reserves j q n was)
+  -- what is reserved is for the new checkpoint, which is in the making, or for what it was
+  reserves_then : (j q n : ℕ) (f : Entry) → entry_of j R.entries ≡ Some f → m.reserved j q ≡ Some n → (b : Bool) → (j == next) ≡ b → IsReservedFor R q n f
+  reserves_then j q n f found was false other = subst (λ o. IsSomeAnd o (IsReservedFor m.cluster q n)) (sym (entry_other j other) ∙ found) (inv.reserves j q n was)
   reserves_then j q n f found was true same =
       let new_is : new ≡ f = same_Some new f (sym entry_new ∙ ap (λ n. entry_of n R.entries) (sym (eqb-true j next same)) ∙ found) in
-      ap (λ (x : Entry). is_some x.making) (sym new_is)
+      inl (ap (λ (x : Entry). is_some x.making) (sym new_is))
 
   -- its client has room for a handle of it, and other clients make what they made
   places_then : (d : ℕ) → length (m.tables (Client d)).handles + makings_of d R.entries ≤ handles_max
@@ -189,18 +195,19 @@ module _ (m : Machine) (shapes : ℕ → Shape) (inv : InvariantIn shapes m) (s 
           omega (arith, few, apart)
 
   -- the invariant holds after it, where it holds of the call
-  pub created_keeps : IsInHand then_machine shapes (who s) w → InvariantIn shapes then_machine
-  created_keeps own = record {
+  pub created_keeps : length m.cluster.entries < checkpoints_max → IsInHand then_machine shapes (who s) w → InvariantIn shapes then_machine
+  created_keeps few own = record {
     up = inv.up;
     first_up = inv.first_up;
     incarnations = inv.incarnations;
     none_live = inv.none_live;
     rises = IdentitiesRise-push m.cluster.last_identity m.cluster.entries new inv.rises inv.up_to (omega arith);
     up_to = AllUpTo-push m.cluster.last_identity m.cluster.entries new inv.up_to refl;
+    few = few-push m.cluster.entries new checkpoints_max few;
     swept = AllStay-push m.cluster.moment m.cluster.entries new inv.swept refl;
     entries = λ j e found. by_test j e found (j == next) refl;
     replicas = λ j q x is. under_complete (entry_of j R.entries) (slice_index (complete_of (entry_of j m.cluster.entries)) q) q (m.replicas j q) x (λ f found was. let (g, there, at) = IsSomeAnd-at (entry_of j m.cluster.entries) (λ (e : Entry). IsCompleteOn e q × IsOfGeneration e q x.generation) (inv.replicas j q x was) in subst (λ (e : Entry). IsOfGeneration e q x.generation) (same_Some g f (sym (entry_other j (was_there j g there) ∙ there) ∙ found)) at.1) is;
-    reserves = λ j q n reserved. was_reserved (entry_of j R.entries) q n (m.reserved j q) (λ f. IsSome f.making) (λ f found free was. reserves_then j q n f found was (j == next) refl) reserved;
+    reserves = λ j q n reserved. was_reserved (entry_of j R.entries) q n (m.reserved j q) (IsReservedFor R q n) (λ f found free was. reserves_then j q n f found was (j == next) refl) reserved;
     handles = λ b h among. IsGoodHandle-later m.cluster R WasMade-then (λ j was e found. (e, sym (entry_other j (given_apart j was.given)) ∙ found, refl, λ r there. there)) b h refl (inv.handles b h among);
     rest = inv.rest;
     clients = inv.clients;

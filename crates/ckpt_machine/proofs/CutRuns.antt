@@ -60,23 +60,23 @@ reserves r = labels.Stepped (call_numbered 2) opwords.Open verbs.Reserve (Some 1
 abbrev pub writes : ℕ → List ℕ → Op
 writes offset bytes = ops.Write 0 (updates.Write (record { id = []; offset = offset; bytes = bytes } ∷ []))
 
-abbrev step : CallId → Verb → ℕ → StepReply → Label
+abbrev pub step : CallId → Verb → ℕ → StepReply → Label
 step call verb r reply = labels.Stepped call opwords.Write verb (Some 1) (Some r) reply None beside.Nothing
 
 abbrev pub ends : CallId → Verb → ℕ → Label
 ends call verb r = labels.Stepped call opwords.Write verb (Some 1) (Some r) words.Ok answered_ok beside.Nothing
 
 -- a read of c0 of all that is there, and its step at a node, which gives these bytes
-abbrev reads : ℕ → Label
+abbrev pub reads : ℕ → Label
 reads n = begins (call_numbered n) (ops.Read 0 (record { id = []; offset = 0; len = 16 } ∷ []))
 
-abbrev gives : ℕ → ℕ → List ℕ → Label
+abbrev pub gives : ℕ → ℕ → List ℕ → Label
 gives n r bytes = labels.Stepped (call_numbered n) opwords.Read verbs.Read (Some 1) (Some r) words.Ok (Some (Done answers.Pieces)) (beside.Pieces (bytes ∷ []))
 
 -- ---- a checkpoint that is made
 
 -- these nodes come up, these clients enter, and c0 makes a checkpoint with these flags
-abbrev made : List ℕ → List Label → ℕ → List Label
+abbrev pub made : List ℕ → List Label → ℕ → List Label
 made nodes clients flags =
     labels.Nodes (length nodes)
     ∷ clients

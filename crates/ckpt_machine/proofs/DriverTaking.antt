@@ -3,6 +3,7 @@ use Rattle.std.proofs.Common.{◌≡◌, ℕ, Option, Some, None, Bool, true, fa
 use Rattle.std.specs.Prelude.{is_some, nat_le}
 use Rattle.std.specs.Option.{option_map}
 use Rattle.ckpt_types.specs.declared.answers.Outcome.{Outcome}
+use Rattle.ckpt_types.specs.declared.answers.Outcome.TheVariants.{Done}
 use Rattle.ckpt_types.specs.declared.attributes.CreationAttributes.{CreationAttributes}
 use Rattle.ckpt_types.specs.declared.identities.CallId.{CallId}
 use Rattle.ckpt_types.specs.declared.operation.Op.{Op}
@@ -25,13 +26,14 @@ use Rattle.cluster_record.specs.declared.calls.UpdatePhase.{UpdatePhase}
 use Rattle.cluster_record.specs.declared.calls.UpdatePhase.TheVariants.{Committing}
 use Rattle.cluster_record.specs.declared.entries.Entry.{Entry}
 use Rattle.cluster_record.specs.DueActive.{ActiveState, active_end, active_next, active_on, active_request, is_update, marks_taken, on_active, starts_iteration, unless_changed, unless_on_hold}
+use Rattle.cluster_record.specs.DueCopy.{CopyState, copy_end, copy_next, copy_outcome, copy_outcome_by, copy_told, copy_told_by, done_by}
 use Rattle.cluster_record.specs.DueOnce.{OneStep, once_next, close_of, unlink_of_making, unlink_of, retain_of}
 use Rattle.cluster_record.specs.DueOnce as once
 use Rattle.cluster_record.specs.DueOpen.{OpenState, accepts, by_making, create_next, entry_by, entry_next, on_named, open_next}
 use Rattle.cluster_record.specs.DueSync.{SyncState, ended_by, first_unserved, sync_ended, sync_next}
 use Rattle.cluster_record.specs.DueUpdate.{UpdateState, commit_end, done_end_by, done_if_none, update_next}
 use Rattle.cluster_record.specs.Ends.{active_done, active_ended, active_outcome, active_told, making_outcome_by, making_told_by, open_outcome, open_outcome_by, open_told, open_told_by, refused_end, served_done, sync_end, sync_outcome, sync_outcome_by, sync_told, sync_told_by, update_end, update_outcome, update_outcome_by, update_told, update_told_by}
-use Rattle.cluster_record.specs.RecordState.{RecordState, entry_of, named}
+use Rattle.cluster_record.specs.RecordState.{RecordState, entry_of, is_live, named}
 use Rattle.cluster_record.specs.StepDone.{StepDone, last_having}
 use Rattle.ckpt_machine.specs.Drivers.{Driver}
 use Rattle.ckpt_machine.specs.Drivers as drivers
@@ -46,8 +48,8 @@ refused_told : (op : Op) (live : Bool) (by : CallId) → option_map (index_told 
 refused_told op true by = refl
 refused_told op false by = refl
 
-module _ (op : Op) (d : StepDone) where
-  update_told_so : (reply : Reply) (u : UpdateState) → option_map (index_told op) (update_end d reply u) ≡ driver_end op d reply (drivers.Update u)
+module _ (R : RecordState) (op : Op) (d : StepDone) where
+  update_told_so : (reply : Reply) (u : UpdateState) → option_map (index_told op) (update_end d reply u) ≡ driver_end R op d reply (drivers.Update u)
   update_told_so (replies.Done answer) u = by_verb d.verb
     where
       by_last : (last : Option ℕ) → option_map (index_told op) (done_if_none answer last) ≡ done_if_none answer last
@@ -64,7 +66,7 @@ module _ (op : Op) (d : StepDone) where
   update_told_so (replies.Held by) u = refused_told op d.live by
   update_told_so reply u = refl
 
-  active_told_so : (reply : Reply) (a : ActiveState) → option_map (index_told op) (active_ended d reply) ≡ driver_end op d reply (drivers.Active a)
+  active_told_so : (reply : Reply) (a : ActiveState) → option_map (index_told op) (active_ended d reply) ≡ driver_end R op d reply (drivers.Active a)
   active_told_so (replies.Done answer) a = by_verb d.verb
     where
       by_verb : (verb : Verb) → option_map (index_told op) (active_end answer verb) ≡ active_end answer verb
@@ -74,7 +76,7 @@ module _ (op : Op) (d : StepDone) where
   active_told_so (replies.Held by) a = refused_told op d.live by
   active_told_so reply a = refl
 
-  open_told_so : (reply : Reply) (o : OpenState) → option_map (index_told op) (refused_end d.live reply) ≡ driver_end op d reply (drivers.Open o)
+  open_told_so : (reply : Reply) (o : OpenState) → option_map (index_told op) (refused_end d.live reply) ≡ driver_end R op d reply (drivers.Open o)
   open_told_so (replies.Held by) o = refused_told op d.live by
   open_told_so reply o = refl
 
@@ -89,11 +91,21 @@ module _ (op : Op) (d : StepDone) where
       by_pulled None = refl
       by_pulled (Some p) = by_left p.count (first_unserved 0 d.complete s.served)
 
-  sync_told_so : (reply : Reply) (s : SyncState) → option_map (index_told op) (sync_end d reply s) ≡ driver_end op d reply (drivers.Sync s)
+  sync_told_so : (reply : Reply) (s : SyncState) → option_map (index_told op) (sync_end d reply s) ≡ driver_end R op d reply (drivers.Sync s)
   sync_told_so (replies.Done answer) s = sync_ended_so s
   sync_told_so (replies.Held by) s = refused_told op d.live by
   sync_told_so (replies.Older generation count) s = sync_ended_so s
   sync_told_so reply s = refl
+
+-- a copying
+done_told_so : (op : Op) (next : Next) → option_map (index_told op) (done_by next) ≡ done_by next
+done_told_so op (End (Done answer)) = refl
+done_told_so op next = refl
+
+copy_told_so : (R : RecordState) (op : Op) (r : ℕ) (request : Request) (reply : Reply) (c : CopyState) → option_map (index_told op) (copy_end R reply c) ≡ driver_end R op (served_done R request r reply) reply (drivers.Copy c)
+copy_told_so R op r request (replies.Done answer) c = done_told_so op (copy_next R c)
+copy_told_so R op r request (replies.Held by) c = refused_told op (is_live R by) by
+copy_told_so R op r request reply c = refl
 
 -- ---- some ask no node
 
@@ -192,20 +204,29 @@ module _ (R : RecordState) (op : Op) (reply : Reply) (r : ℕ) (request : Reques
   pub update_keeps : (u : UpdateState) → update_next R u ≡ Serve r request → drivers.Update (update_told R reply u) ≡ driver_taken done (drivers.Update u)
   update_keeps u next = ap (λ n. drivers.Update (update_told_by R reply u n)) next
 
-  pub update_ends : (u : UpdateState) → update_next R u ≡ Serve r request → option_map (index_told op) (update_outcome R reply u) ≡ driver_end op done reply (drivers.Update (update_told R reply u))
+  pub update_ends : (u : UpdateState) → update_next R u ≡ Serve r request → option_map (index_told op) (update_outcome R reply u) ≡ driver_end R op done reply (drivers.Update (update_told R reply u))
   update_ends u next =
       ap (λ n. option_map (index_told op) (update_outcome_by R reply u n)) next
-      ∙ update_told_so op done reply (update_told_by R reply u (Serve r request))
-      ∙ ap (λ n. driver_end op done reply (drivers.Update (update_told_by R reply u n))) (sym next)
+      ∙ update_told_so R op done reply (update_told_by R reply u (Serve r request))
+      ∙ ap (λ n. driver_end R op done reply (drivers.Update (update_told_by R reply u n))) (sym next)
 
   pub sync_keeps : (s : SyncState) → sync_next R s ≡ Serve r request → drivers.Sync (sync_told R reply s) ≡ driver_taken done (drivers.Sync s)
   sync_keeps s next = ap (λ n. drivers.Sync (sync_told_by R reply s n)) next
 
-  pub sync_ends : (s : SyncState) → sync_next R s ≡ Serve r request → option_map (index_told op) (sync_outcome R reply s) ≡ driver_end op done reply (drivers.Sync (sync_told R reply s))
+  pub sync_ends : (s : SyncState) → sync_next R s ≡ Serve r request → option_map (index_told op) (sync_outcome R reply s) ≡ driver_end R op done reply (drivers.Sync (sync_told R reply s))
   sync_ends s next =
       ap (λ n. option_map (index_told op) (sync_outcome_by R reply s n)) next
-      ∙ sync_told_so op done reply (sync_told_by R reply s (Serve r request))
-      ∙ ap (λ n. driver_end op done reply (drivers.Sync (sync_told_by R reply s n))) (sym next)
+      ∙ sync_told_so R op done reply (sync_told_by R reply s (Serve r request))
+      ∙ ap (λ n. driver_end R op done reply (drivers.Sync (sync_told_by R reply s n))) (sym next)
+
+  pub copy_keeps : (c : CopyState) → copy_next R c ≡ Serve r request → drivers.Copy (copy_told R reply c) ≡ driver_taken done (drivers.Copy c)
+  copy_keeps c next = ap (λ n. drivers.Copy (copy_told_by R reply c n)) next
+
+  pub copy_ends : (c : CopyState) → copy_next R c ≡ Serve r request → option_map (index_told op) (copy_outcome R reply c) ≡ driver_end R op done reply (drivers.Copy (copy_told R reply c))
+  copy_ends c next =
+      ap (λ n. option_map (index_told op) (copy_outcome_by R reply c n)) next
+      ∙ copy_told_so R op r request reply (copy_told_by R reply c (Serve r request))
+      ∙ ap (λ n. driver_end R op done reply (drivers.Copy (copy_told_by R reply c n))) (sym next)
 
   -- an open that is making nothing asks no node
   never_named : (room : Bool) (o : OpenState) → on_named R room o.deadline o.ask.attrs (named o.ask.name R.entries) ≡ Serve r request → ⊥
@@ -218,12 +239,12 @@ module _ (R : RecordState) (op : Op) (reply : Reply) (r : ℕ) (request : Reques
       by_what None next = absurd (never_named room o next)
       by_what (Some m) next = ap (λ n. drivers.Open (making_told_by R reply o n)) next
 
-  pub open_ends : (room : Bool) (o p : OpenState) → open_next R room o ≡ Serve r request → option_map (index_told op) (open_outcome R reply o) ≡ driver_end op done reply (drivers.Open p)
+  pub open_ends : (room : Bool) (o p : OpenState) → open_next R room o ≡ Serve r request → option_map (index_told op) (open_outcome R reply o) ≡ driver_end R op done reply (drivers.Open p)
   open_ends room o p next = by_what o.making next
     where
-      by_what : (making : Option Making) → by_making R room o making ≡ Serve r request → option_map (index_told op) (open_outcome_by R reply o making) ≡ driver_end op done reply (drivers.Open p)
+      by_what : (making : Option Making) → by_making R room o making ≡ Serve r request → option_map (index_told op) (open_outcome_by R reply o making) ≡ driver_end R op done reply (drivers.Open p)
       by_what None next = absurd (never_named room o next)
-      by_what (Some m) next = ap (λ n. option_map (index_told op) (making_outcome_by R reply m n)) next ∙ open_told_so op done reply p
+      by_what (Some m) next = ap (λ n. option_map (index_told op) (making_outcome_by R reply m n)) next ∙ open_told_so R op done reply p
 
   -- what is asked of the active is its request
   asks_so : (room : Bool) (a : ActiveState) → active_next R room a ≡ Serve r request → active_request a ≡ request
@@ -243,11 +264,11 @@ module _ (R : RecordState) (op : Op) (reply : Reply) (r : ℕ) (request : Reques
       by_verb verbs.Element word = refl
       by_verb verb word = refl
 
-  pub active_ends : (room : Bool) (a b : ActiveState) → active_next R room a ≡ Serve r request → option_map (index_told op) (active_outcome R reply a) ≡ driver_end op done reply (drivers.Active b)
+  pub active_ends : (room : Bool) (a b : ActiveState) → active_next R room a ≡ Serve r request → option_map (index_told op) (active_outcome R reply a) ≡ driver_end R op done reply (drivers.Active b)
   active_ends room a b next =
-      active_told_so op (active_done R reply a) reply b ∙ by_reply reply
+      active_told_so R op (active_done R reply a) reply b ∙ by_reply reply
     where
-      by_reply : (reply : Reply) → driver_end op (active_done R reply a) reply (drivers.Active b) ≡ driver_end op (served_done R request r reply) reply (drivers.Active b)
+      by_reply : (reply : Reply) → driver_end R op (active_done R reply a) reply (drivers.Active b) ≡ driver_end R op (served_done R request r reply) reply (drivers.Active b)
       by_reply (replies.Done answer) = ap (λ q. active_end answer (verb_of q)) (asks_so room a next)
       by_reply reply = refl
 
@@ -264,10 +285,12 @@ module _ (R : RecordState) (reply : Reply) (r : ℕ) (request : Request) where
   driver_keeps op (drivers.Update u) asks = update_keeps R op reply r request u asks.next_is
   driver_keeps op (drivers.Active a) asks = active_keeps R op reply r request asks.rooms.iterations a asks.next_is
   driver_keeps op (drivers.Sync s) asks = sync_keeps R op reply r request s asks.next_is
+  driver_keeps op (drivers.Copy c) asks = copy_keeps R op reply r request c asks.next_is
 
-  pub driver_ends : (op : Op) (x : Driver) → AsksNode R x r request → option_map (index_told op) (driver_outcome R reply x) ≡ driver_end op (served_done R request r reply) reply (driver_told R reply x)
+  pub driver_ends : (op : Op) (x : Driver) → AsksNode R x r request → option_map (index_told op) (driver_outcome R reply x) ≡ driver_end R op (served_done R request r reply) reply (driver_told R reply x)
   driver_ends op (drivers.Once x) asks = absurd (once_serves R op reply r request x asks.next_is)
   driver_ends op (drivers.Open o) asks = open_ends R op reply r request asks.rooms.handles o (open_told R reply o) asks.next_is
   driver_ends op (drivers.Update u) asks = update_ends R op reply r request u asks.next_is
   driver_ends op (drivers.Active a) asks = active_ends R op reply r request asks.rooms.iterations a (active_told R reply a) asks.next_is
   driver_ends op (drivers.Sync s) asks = sync_ends R op reply r request s asks.next_is
+  driver_ends op (drivers.Copy c) asks = copy_ends R op reply r request c asks.next_is

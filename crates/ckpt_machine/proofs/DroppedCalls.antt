@@ -14,7 +14,7 @@ use Rattle.ckpt_machine.specs.Due.{driver_of}
 use Rattle.ckpt_machine.proofs.FewerCalls.{calls_fewer}
 use Rattle.ckpt_machine.proofs.Lives.{lives_on-fewer, enters-fewer, dead_on}
 use Rattle.ckpt_machine.proofs.OtherCalls.{IsIn-apart, IsGoodIn-apart}
-use Rattle.ckpt_machine.proofs.PlainCalls.{is_plain, is_plain_sync}
+use Rattle.ckpt_machine.proofs.PlainCalls.{is_plain, is_plain_sync, does_not_plain}
 
 -- without those in hand under some names
 abbrev pub without_those : (Who → Bool) → Machine → Machine
@@ -35,8 +35,8 @@ module _ (m : Machine) (shapes : ℕ → Shape) (inv : InvariantIn shapes m) whe
       | false ↦ λ is. refl
     ] refl
 
-    owner_stays : (k : ℕ) (sh : Shape) (d : CallId) (own : IsOwner m k sh d) → (without_those gone m).in_hand (who own.state) ≡ m.in_hand (who own.state)
-    owner_stays k sh d own = stays (who own.state) own.state own.in_hand (ap (λ d. is_plain d own.state.snapshot) own.driver_is)
+    owner_stays : (k : ℕ) (sh : Shape) (r : ℕ) (d : CallId) → sh.owners r ≡ Some d → (own : IsOwner m k sh d) → (without_those gone m).in_hand (who own.state) ≡ m.in_hand (who own.state)
+    owner_stays k sh r d owns own = stays (who own.state) own.state own.in_hand (does_not_plain (driver_of own.state) own.driver own.state.snapshot own.driver_is)
 
     marker_stays : (k : ℕ) (sh : Shape) (marks : Marked) → sh.marks ≡ Some marks → (own : IsMarker m k marks) → (without_those gone m).in_hand (who own.state) ≡ m.in_hand (who own.state)
     marker_stays k sh marks stand own = stays (who own.state) own.state own.in_hand (ap (λ d. is_plain d own.state.snapshot) own.driver_is ∙ ap (λ w. not (is_some w)) own.made_is)
@@ -48,7 +48,7 @@ module _ (m : Machine) (shapes : ℕ → Shape) (inv : InvariantIn shapes m) whe
     maker_stays k d own = stays (who own.state) own.state own.in_hand (ap (λ d. is_plain d own.state.snapshot) own.driver_is ∙ ap (λ w. not (is_some w)) own.making_is)
 
     hands_left : (w : Who) (z : CallState) → (without_those gone m).in_hand w ≡ Some z → IsInHand (without_those gone m) shapes w z
-    hands_left w z left = let was = inv.hands w z (left_in gone m w z left).1 in record { whose = was.whose; client = was.client; number = was.number; built = was.built; driven = was.driven; live = was.live; home = was.home; here = IsIn-apart m shapes m.next m.pending (without_those gone m).in_hand (dead_on m (without_those gone m) (λ d. refl) refl (enters-fewer m (without_those gone m) (λ w z left. (left_in gone m w z left).1))) z (driver_of z) was.here }
+    hands_left w z left = let was = inv.hands w z (left_in gone m w z left).1 in record { whose = was.whose; asker = was.asker; number = was.number; built = was.built; driven = was.driven; live = was.live; home = was.home; here = IsIn-apart m shapes m.next m.pending (without_those gone m).in_hand (dead_on m (without_those gone m) (λ d. refl) refl (enters-fewer m (without_those gone m) (λ w z left. (left_in gone m w z left).1))) z was.asker (driver_of z) was.here }
 
     pub dropped_keeps : InvariantIn shapes (without_those gone m)
     dropped_keeps = record {
@@ -58,6 +58,7 @@ module _ (m : Machine) (shapes : ℕ → Shape) (inv : InvariantIn shapes m) whe
       none_live = inv.none_live;
       rises = inv.rises;
       up_to = inv.up_to;
+      few = inv.few;
       swept = inv.swept;
       entries = λ k e found. IsGoodIn-apart m shapes m.next m.pending (without_those gone m).in_hand (lives_on-fewer m (without_those gone m) shapes shapes inv (λ d. refl) refl refl hands_left (λ w z left. (left_in gone m w z left).1)) owner_stays marker_stays holder_stays maker_stays k (shapes k) e e.making (inv.entries k e found);
       replicas = inv.replicas;
@@ -73,7 +74,7 @@ module _ (m : Machine) (shapes : ℕ → Shape) (inv : InvariantIn shapes m) whe
   -- ---- others are not dispatched
 
   hands_still : (pending : ActorName → PendingCalls) (w : Who) (z : CallState) → m.in_hand w ≡ Some z → IsInHand (record m { pending = pending }) shapes w z
-  hands_still pending w z held = let was = inv.hands w z held in record { whose = was.whose; client = was.client; number = was.number; built = was.built; driven = was.driven; live = was.live; home = was.home; here = IsIn-apart m shapes m.next pending m.in_hand (dead_on m (record m { pending = pending }) (λ d. refl) refl (enters-fewer m (record m { pending = pending }) (λ w z held. held))) z (driver_of z) was.here }
+  hands_still pending w z held = let was = inv.hands w z held in record { whose = was.whose; asker = was.asker; number = was.number; built = was.built; driven = was.driven; live = was.live; home = was.home; here = IsIn-apart m shapes m.next pending m.in_hand (dead_on m (record m { pending = pending }) (λ d. refl) refl (enters-fewer m (record m { pending = pending }) (λ w z held. held))) z was.asker (driver_of z) was.here }
 
   pub pending_keeps : (pending : ActorName → PendingCalls) → AreCalls m.in_hand pending m.next → InvariantIn shapes (record m { pending = pending })
   pending_keeps pending calls = record {
@@ -83,8 +84,9 @@ module _ (m : Machine) (shapes : ℕ → Shape) (inv : InvariantIn shapes m) whe
     none_live = inv.none_live;
     rises = inv.rises;
     up_to = inv.up_to;
+    few = inv.few;
     swept = inv.swept;
-    entries = λ k e found. IsGoodIn-apart m shapes m.next pending m.in_hand (lives_on-fewer m (record m { pending = pending }) shapes shapes inv (λ d. refl) refl refl (hands_still pending) (λ w z held. held)) (λ k sh d own. refl) (λ k sh marks stand own. refl) (λ k active d own. refl) (λ k d own. refl) k (shapes k) e e.making (inv.entries k e found);
+    entries = λ k e found. IsGoodIn-apart m shapes m.next pending m.in_hand (lives_on-fewer m (record m { pending = pending }) shapes shapes inv (λ d. refl) refl refl (hands_still pending) (λ w z held. held)) (λ k sh r d owns own. refl) (λ k sh marks stand own. refl) (λ k active d own. refl) (λ k d own. refl) k (shapes k) e e.making (inv.entries k e found);
     replicas = inv.replicas;
     reserves = inv.reserves;
     handles = inv.handles;

@@ -14,7 +14,7 @@ use Rattle.ckpt_types.specs.declared.identities.CallId.{CallId}
 use Rattle.ckpt_types.specs.declared.identities.Who.TheVariants.{Actor}
 use Rattle.ckpt_types.specs.declared.operation.Op.{Op}
 use Rattle.ckpt_types.specs.declared.words.OpWord.{OpWord}
-use Rattle.ckpt_types.specs.Asks.{Ask, asked, IsBuiltAsk}
+use Rattle.ckpt_types.specs.Asks.{Ask, MayAsk, asked, IsBuiltAsk}
 use Rattle.ckpt_types.specs.Asks as asks
 use Rattle.ckpt_types.specs.Limits.{nodes_max, client_numbers, places_max}
 use Rattle.ckpt_types.specs.OpWord.{word_of_op, stepped_as}
@@ -38,19 +38,19 @@ use Rattle.node_core.specs.Seen.{record_seen}
 use Rattle.node_core.specs.Serving.{reply_at}
 use Rattle.run_labels.specs.declared.labels.Label.{Label}
 use Rattle.run_labels.specs.declared.labels.Label.TheVariants as labels
-use Rattle.cluster_record.specs.Calls.{number_of, IsClient}
-use Rattle.cluster_record.specs.RecordState.{RecordState, is_live_client, is_up}
+use Rattle.cluster_record.specs.RecordState.{RecordState, is_up}
 use Rattle.ckpt_machine.specs.After.{after}
 use Rattle.ckpt_machine.specs.Beginning.{begin_end, callbacks_told}
-use Rattle.ckpt_machine.specs.Driving.{driver_end, driver_taken, event_ckpt, event_node, event_end, event_refusal}
+use Rattle.ckpt_machine.specs.Driving.{driver_end, driver_taken, event_ckpt, event_node, event_refusal}
 use Rattle.ckpt_machine.specs.NodeJoins.{join_answer, MayJoin}
-use Rattle.ckpt_machine.specs.Due.{Told, IsDue, IsDueStep, IsDone, IsBegun, IsEventAnswer, MayAnswer, MayBegin, MayFail, driver_of, due, payload_due, details_due, ended_details, step_told, kept_off, look_word, look_end, look_details, standing_of}
+use Rattle.ckpt_machine.specs.Due.{Told, IsDue, IsDueStep, IsDone, IsBegun, IsEventAnswer, MayAnswer, MayBegin, MayFail, driver_of, due, event_done, is_live_actor, payload_due, details_due, ended_details, step_told, kept_off, look_word, look_end, look_details, standing_of}
 use Rattle.ckpt_machine.specs.Invariant.{Invariant}
 use Rattle.ckpt_machine.specs.Listing.{listing_at}
 use Rattle.ckpt_machine.specs.Machine.{Machine, CallState, empty_cluster}
 use Rattle.ckpt_machine.specs.Propagation.{pull_answer, put_answer}
 use Rattle.ckpt_machine.specs.Runs.{last_from, IsRunFrom, IsRun}
 use Rattle.ckpt_machine.specs.Seen.{seen_at}
+use Rattle.ckpt_machine.specs.Tables.{takes_copy}
 use Rattle.ckpt_machine.proofs.Lawful.{lawful}
 use Rattle.ckpt_machine.proofs.Runs.{IsRunFrom-back}
 use Rattle.ckpt_machine.proofs.Start.{invariant_empty}
@@ -86,42 +86,43 @@ step_at verb k r reply = record { verb = verb; ckpt = k; node = r; reply = reply
 abbrev served_told : Machine → CallState → ℕ → Request → Reply → Told
 served_told m s r request answer =
     let t = step_at (verb_of request) (Some (ckpt_of request)) (Some r) (word_of answer) in
-    let end = (let done = step_told m t in driver_end s.op done answer (driver_taken done (driver_of s))) in
+    let end = (let done = step_told m t in driver_end m.cluster s.op done answer (driver_taken done (driver_of s))) in
     record t { end = end; details = ended_details end (details_due m s request r) }
 
--- the record takes it, refuses it, or marks keep it off; none is refused memory
-abbrev event_told : Verb → Option ℕ → Option ℕ → Option CallId → Option Outcome → RecordStep → Told
-event_told verb k r (Some by) refusal step = record (step_at verb k r (words.Held by)) { end = Some (Refused TryAgain (Holder by)) }
-event_told verb k r None (Some end) step = record (step_at verb k r words.Refused) { end = Some end }
-event_told verb k r None None step = record (step_at verb k r words.Ok) { end = event_end step k }
+-- the record takes it, which ends its call so, refuses it, or marks keep it off; none is refused memory
+abbrev event_told : Verb → Option ℕ → Option ℕ → Option CallId → Option Outcome → Option Outcome → Told
+event_told verb k r (Some by) refusal finish = record (step_at verb k r (words.Held by)) { end = Some (Refused TryAgain (Holder by)) }
+event_told verb k r None (Some end) finish = record (step_at verb k r words.Refused) { end = Some end }
+event_told verb k r None None finish = record (step_at verb k r words.Ok) { end = finish }
 
 -- what it tells, by what it does next
 abbrev next_told : Machine → CallState → Next → Told
 next_told m s (Serve r request) = served_told m s r request (answer_told m s request r)
 next_told m s (Event step) =
     let k = event_ckpt m.cluster (driver_of s) step in
-    event_told (event_verb step) k (event_node (driver_of s) step) (kept_off m k step) (event_refusal m.cluster step (driver_of s)) step
+    let r = event_node (driver_of s) step in
+    event_told (event_verb step) k r (kept_off m k step) (event_refusal m.cluster step (driver_of s)) (event_done m s step (step_at (event_verb step) k r words.Ok))
 next_told m s (End o) = record (step_at verbs.Look None None (look_word o)) { end = Some (look_end s o); details = look_details s (look_end s o) }
 
 may_tell : (m : Machine) (s : CallState) (request : Request) (r : ℕ) → MayAnswer m s request r (answer_told m s request r)
-may_tell m s (requests.Reserve k) r = may_reserve (m.reserved k r) where
-  may_reserve : (standing : Option ℕ) → MayReserve (is_some standing) (replies.Done answers.Nothing)
-  may_reserve None = inl refl
-  may_reserve (Some n) = refl
+may_tell m s (requests.Reserve k) r = may_reserve (is_some (m.reserved k r) && not (takes_copy (asked s.op))) where
+  may_reserve : (stands : Bool) → MayReserve stands (replies.Done answers.Nothing)
+  may_reserve false = inl refl
+  may_reserve true = refl
 may_tell m s request r = refl
 
-event_answers : (verb : Verb) (k r : Option ℕ) (by : Option CallId) (refusal : Option Outcome) (step : RecordStep)
-    → IsEventAnswer by refusal step (event_told verb k r by refusal step)
-event_answers verb k r (Some by) refusal step = (refl, refl)
-event_answers verb k r None (Some end) step = (refl, refl)
-event_answers verb k r None None step = inl (refl, refl)
+event_answers : (m : Machine) (s : CallState) (verb : Verb) (k r : Option ℕ) (by : Option CallId) (refusal : Option Outcome) (step : RecordStep)
+    → let t = event_told verb k r by refusal (event_done m s step (step_at verb k r words.Ok)) in IsEventAnswer by refusal (event_done m s step t) step t
+event_answers m s verb k r (Some by) refusal step = (refl, refl)
+event_answers m s verb k r None (Some end) step = (refl, refl)
+event_answers m s verb k r None None step = inl (refl, refl)
 
 -- the parts of an event's label, whatever it answers
-event_parts : (verb : Verb) (k r : Option ℕ) (by : Option CallId) (refusal : Option Outcome) (step : RecordStep)
-    → let t = event_told verb k r by refusal step in (t.verb ≡ verb) × (t.ckpt ≡ k) × (t.node ≡ r) × (t.details ≡ beside.Nothing)
-event_parts verb k r (Some by) refusal step = (refl, refl, refl, refl)
-event_parts verb k r None (Some end) step = (refl, refl, refl, refl)
-event_parts verb k r None None step = (refl, refl, refl, refl)
+event_parts : (verb : Verb) (k r : Option ℕ) (by : Option CallId) (refusal finish : Option Outcome)
+    → let t = event_told verb k r by refusal finish in (t.verb ≡ verb) × (t.ckpt ≡ k) × (t.node ≡ r) × (t.details ≡ beside.Nothing)
+event_parts verb k r (Some by) refusal finish = (refl, refl, refl, refl)
+event_parts verb k r None (Some end) finish = (refl, refl, refl, refl)
+event_parts verb k r None None finish = (refl, refl, refl, refl)
 
 -- what it tells is done
 told_done : (m : Machine) (s : CallState) (next : Next) → IsDone m s next (next_told m s next)
@@ -132,14 +133,14 @@ told_done m s (Event step) =
     let r = event_node (driver_of s) step in
     let by = kept_off m k step in
     let refusal = event_refusal m.cluster step (driver_of s) in
-    let parts = event_parts (event_verb step) k r by refusal step in
-    let answers = event_answers (event_verb step) k r by refusal step in
+    let parts = event_parts (event_verb step) k r by refusal (event_done m s step (step_at (event_verb step) k r words.Ok)) in
+    let answers = event_answers m s (event_verb step) k r by refusal step in
     record {
       verb = parts.0;
       ckpt = parts.1;
       node = parts.2;
       details = parts.3;
-      answer = subst (λ c. IsEventAnswer (kept_off m c step) refusal step (next_told m s (Event step))) (sym parts.1) answers;
+      answer = subst (λ c. IsEventAnswer (kept_off m c step) refusal (event_done m s step (next_told m s (Event step))) step (next_told m s (Event step))) (sym parts.1) answers;
     }
 told_done m s (End o) = refl
 
@@ -155,13 +156,15 @@ abbrev label_begun : Bool → Option CallState → Label → Option Label
 label_begun true None l = Some l
 label_begun may hand l = None
 
--- a client there is
-abbrev is_client : ActorName → Bool
-is_client (Client c) = nat_lt c client_numbers
-is_client (Node r) = false
+-- a client that there is, of anything but a copying, and a node of that alone
+abbrev may_ask : ActorName → Ask → Bool
+may_ask (Client c) asks.Copy = false
+may_ask (Client c) ask = nat_lt c client_numbers
+may_ask (Node r) asks.Copy = nat_lt r nodes_max
+may_ask (Node r) ask = false
 
 -- a node or a place that there is, of an Initialize, an open, an update, a read, a close, a synchronisation or the setting of an active; an unlink, a
--- Finalize and a dispatch name neither
+-- Finalize, a dispatch and a copying name neither
 abbrev is_placed : Ask → Bool
 is_placed (asks.Enter r version callbacks) = nat_lt r nodes_max
 is_placed (asks.Open place name flags timeout a) = nat_lt place places_max
@@ -173,15 +176,17 @@ is_placed (asks.Synchronize place timeout) = nat_lt place places_max
 is_placed (asks.SetActive place) = nat_lt place places_max
 is_placed asks.Leave = true
 is_placed (asks.Dispatch flags) = true
+is_placed asks.Copy = true
 is_placed ask = false
 
--- an Initialize is of a client that is not live, on a node that is up
-abbrev may_begin : RecordState → ℕ → Ask → Bool
-may_begin R c (asks.Enter r version callbacks) = not (is_live_client c R) && is_up r R
-may_begin R c ask = true
+-- an Initialize is of a client that is not live, on a node that is up; a copying is of a node that is up
+abbrev may_begin : RecordState → ActorName → Ask → Bool
+may_begin R a (asks.Enter r version callbacks) = not (is_live_actor a R) && is_up r R
+may_begin R a asks.Copy = is_live_actor a R
+may_begin R a ask = true
 
 abbrev may_go : Machine → CallId → Op → Bool
-may_go m call op = is_client call.actor && is_placed (asked op) && may_begin m.cluster (number_of call.actor) (asked op)
+may_go m call op = may_ask call.actor (asked op) && is_placed (asked op) && may_begin m.cluster call.actor (asked op)
 
 -- a beginning has the next number of its client, and is answered by the first refusal, or OK, or goes on
 abbrev began_told : Machine → CallId → Op → Option Outcome → Label
@@ -231,9 +236,11 @@ step_due m call op t (Some s) here told =
     let done = subst (IsDone m s (due m s)) (ap (λ (x : Step). x.2) same) (told_done m s (due m s)) in
     record { state = s; in_hand = here; call_is = ap (λ (x : Step). x.0) same; word = ap (λ (x : Step). x.1) same; done = done }
 
-client_is : (a : ActorName) → is_client a ≡ true → IsClient a
-client_is (Client c) is = ltb-true c client_numbers is
-client_is (Node r) is = absurd (false≢true is)
+asker_is : (a : ActorName) (ask : Ask) → may_ask a ask ≡ true → MayAsk a ask
+asker_is (Client c) asks.Copy is = absurd (false≢true is)
+asker_is (Client c) ask is = ltb-true c client_numbers is
+asker_is (Node r) asks.Copy is = ltb-true r nodes_max is
+asker_is (Node r) ask is = absurd (false≢true is)
 
 placed_is : (ask : Ask) → is_placed ask ≡ true → IsBuiltAsk ask
 placed_is (asks.Enter r version callbacks) is = ltb-true r nodes_max is
@@ -246,27 +253,29 @@ placed_is (asks.Synchronize place timeout) is = ltb-true place places_max is
 placed_is (asks.SetActive place) is = ltb-true place places_max is
 placed_is asks.Leave is = tt
 placed_is (asks.Dispatch flags) is = tt
+placed_is asks.Copy is = tt
 placed_is ask is = absurd (false≢true is)
 
-may_is : (R : RecordState) (c : ℕ) (ask : Ask) → may_begin R c ask ≡ true → MayBegin R c ask
-may_is R c (asks.Enter r version callbacks) is =
-    let (not_live, up) = and_parts (not (is_live_client c R)) (is_up r R) is in
-    (not-true (is_live_client c R) not_live, up)
-may_is R c ask is = tt
+may_is : (R : RecordState) (a : ActorName) (ask : Ask) → may_begin R a ask ≡ true → MayBegin R a ask
+may_is R a (asks.Enter r version callbacks) is =
+    let (not_live, up) = and_parts (not (is_live_actor a R)) (is_up r R) is in
+    (not-true (is_live_actor a R) not_live, up)
+may_is R a asks.Copy is = is
+may_is R a ask is = tt
 
 begin_due : (m : Machine) (call : CallId) (op : Op) (end : Option Outcome) (details : Details) (may : Bool) (hand : Option CallState)
     → may_go m call op ≡ may → m.in_hand (Actor call.actor) ≡ hand
     → label_begun may hand (began_told m call op end) ≡ Some (labels.Began call op end details) → IsBegun m call op end details
 begin_due m call op end details true None may none told =
     let same = same_Some _ _ (ap beginning_in (same_Some _ _ told)) in
-    let (there, may_so) = and_parts (is_client call.actor && is_placed (asked op)) (may_begin m.cluster (number_of call.actor) (asked op)) may in
-    let (client, placed) = and_parts (is_client call.actor) (is_placed (asked op)) there in
+    let (there, may_so) = and_parts (may_ask call.actor (asked op) && is_placed (asked op)) (may_begin m.cluster call.actor (asked op)) may in
+    let (asker, placed) = and_parts (may_ask call.actor (asked op)) (is_placed (asked op)) there in
     record {
-      client = client_is call.actor client;
+      asker = asker_is call.actor (asked op) asker;
       built = placed_is (asked op) placed;
       number = sym (ap (λ (x : Beginning). x.0) same);
       none_in_hand = none;
-      may = may_is m.cluster (number_of call.actor) (asked op) may_so;
+      may = may_is m.cluster call.actor (asked op) may_so;
       answer = inl (sym (ap (λ (x : Beginning). x.1) same));
       told = sym (ap (λ (x : Beginning). x.2) same);
     }
@@ -332,3 +341,8 @@ pub served_next : (m : Machine) (call : CallId) (op : OpWord) (t : Told) (s : Ca
 served_next m call op t s r request here serves is =
     let served = subst (λ next. IsDone m s next t) serves (done_next m call op t s here is) in
     (served.verb, served.node)
+
+-- and where it is a step of the record, the step is of its verb
+pub event_next : (m : Machine) (call : CallId) (op : OpWord) (t : Told) (s : CallState) (step : RecordStep)
+    → m.in_hand (stepped_as call op) ≡ Some s → due m s ≡ Event step → IsDueStep m call op t → t.verb ≡ event_verb step
+event_next m call op t s step here does is = (subst (λ next. IsDone m s next t) does (done_next m call op t s here is)).verb

@@ -1,9 +1,10 @@
 -- What is kept of each replica and each snapshot, in a hand too, at each step; and what a step of the record that leaves what is made leaves of it.
-use Rattle.std.proofs.Common.{◌≡◌, ◌⊎◌, ℕ, ◌≤◌, inl, inr, List, Option, Some, None, Bool, true, false, sym, ap, subst, ◌∙◌, arith}
+use Rattle.std.proofs.Common.{◌≡◌, ◌⊎◌, ℕ, ◌≤◌, inl, inr, List, Option, Some, None, Bool, true, false, ℤ, sym, ap, subst, ◌∙◌, arith}
 use Rattle.std.specs.Prelude.{IsSome, IsSomeAnd, IfSome}
 use Rattle.std.proofs.lemmas.Option.{same_Some}
 use Rattle.ckpt_types.specs.declared.identities.Who.{Who}
-use Rattle.ckpt_types.specs.Asks.{update_of}
+use Rattle.ckpt_types.specs.declared.identities.CallId.{CallId}
+use Rattle.ckpt_types.specs.Asks.{Ask, asked, update_of}
 use Rattle.weak_marks.specs.Marks.{Marked}
 use Rattle.node_msgs.specs.declared.steps.Verb.TheVariants as verbs
 use Rattle.run_labels.specs.declared.labels.Label.{Label}
@@ -17,8 +18,9 @@ use Rattle.ckpt_machine.specs.Owned.{HasEffect}
 use Rattle.ckpt_machine.specs.Propagation.{copied, replica_from}
 use Rattle.ckpt_machine.specs.Replays.{IsPrefix}
 use Rattle.ckpt_machine.specs.Shape.{IsCompleteOn}
-use Rattle.ckpt_machine.specs.After.{with_slot, with_marks, with_lead, having_taken, committed_slot, next_element_written, marks_ended, opened_state, snapshot_under, staged_moment, with_claim, without_slot}
-use Rattle.ckpt_machine.proofs.Copying.{IsSource, IsOfSource}
+use Rattle.ckpt_machine.specs.After.{with_slot, with_marks, with_lead, having_taken, committed_slot, next_element_written, marks_ended, opened_state, slot_copied, snapshot_under, staged_moment, with_claim, without_slot}
+use Rattle.ckpt_machine.proofs.Askers.{IsCopyAsk}
+use Rattle.ckpt_machine.proofs.Copying.{IsOfSource}
 use Rattle.ckpt_machine.proofs.EntryLists.{entry_of-given, find_key-key}
 use Rattle.ckpt_machine.proofs.Follows.{snapshot_was}
 use Rattle.ckpt_machine.proofs.Histories.{HasHistory}
@@ -43,6 +45,20 @@ pub record IsAhead (k : ℕ) (collocated : Bool) (g : ℕ) (replicas : ℕ → �
   pub snapshot : (s : Snapshot) → snapshots k ≡ Some s → s.generation ≡ g → IsPrefix s.effects y.effects
   pub in_hand : (s : Snapshot) → PulledInHand hands k s → s.generation ≡ g → IsPrefix s.effects y.effects
 
+-- a snapshot in the hand of a call that asks for this is of a checkpoint that is made; and it is one of the active's, where updates go to the active alone, or where no copying has it
+pub record IsPulledOf (ask : Ask) (e : Entry) (s : Snapshot) : Type 0 where
+  pub made : e.making ≡ None
+  pub source : (is_all e.attributes ≡ false) ⊎ (IsCopyAsk ask → ⊥) → IsOfSource e s
+
+-- what a copying brings to its node: what it has pulled, in the present generation, and its slot of this moment, where updates go to all replicas
+abbrev pub having_copied : CallId → ℤ → Entry → Snapshot → Bool → ReplicaState
+having_copied call t f s all = record { sections = s.sections; effects = s.effects; generation = f.generation; slot = slot_copied call t all; marks = None }
+
+-- where updates go to all replicas, one for which this holds has the same slot and the same effects
+abbrev pub IsStagedLike : (Option Entry → ℕ → ReplicaState → Type 0) → Entry → CallId → ℤ → Snapshot → Bool → Type 0
+IsStagedLike Q e call t s true = (q : ℕ) × (y : ReplicaState) × Q (Some e) q y × (y.slot ≡ slot_copied call t true) × (y.effects ≡ s.effects)
+IsStagedLike Q e call t s false = Unit {0}
+
 -- nothing is staged on a replica that takes over what was held
 abbrev pub IsFreeFor : Option Snapshot → ReplicaState → Type 0
 IsFreeFor None x = Unit {0}
@@ -55,21 +71,22 @@ is_free-for (Some s) x free = free
 -- ---- what is kept
 
 module _ (Q : Option Entry → ℕ → ReplicaState → Type 0) (S : Entry → Snapshot → Type 0) where
-  -- it holds of each replica and each snapshot; a snapshot is of a checkpoint that is made, and whose updates go to an active alone, but the checkpoint of one in a hand may be gone; and no replica and no snapshot of its generation is ahead of such an active
+  -- it holds of each replica and each snapshot; a snapshot is of a checkpoint that is made, and whose updates go to an active alone, but the checkpoint of one in a hand may be gone, and a copying's may be one whose updates go to all replicas; and no replica and no snapshot of its generation is ahead of such an active
   pub record EachIn (last : ℕ) (entries : List Entry) (replicas : ℕ → ℕ → Option ReplicaState) (snapshots : ℕ → Option Snapshot) (hands : Who → Option CallState) : Type 0 where
     pub replica : (k r : ℕ) (x : ReplicaState) → replicas k r ≡ Some x → Q (entry_of k entries) r x
     pub snapshot : (k : ℕ) (s : Snapshot) → snapshots k ≡ Some s → IsSomeAnd (entry_of k entries) (λ e. IsOfSource e s × S e s)
-    pub in_hand : (k : ℕ) (s : Snapshot) → PulledInHand hands k s → (k ≤ last) × IfSome (entry_of k entries) (λ e. IsOfSource e s × S e s)
+    pub in_hand : (k : ℕ) (s : Snapshot) (has : PulledInHand hands k s) → (k ≤ last) × IfSome (entry_of k entries) (λ e. IsPulledOf (asked has.state.op) e s × S e s)
     pub ahead : (k r : ℕ) (e : Entry) (y : ReplicaState) → entry_of k entries ≡ Some e → is_all e.attributes ≡ false → e.active ≡ Some r → replicas k r ≡ Some y → IsAhead k (is_collocated e.attributes) e.generation replicas snapshots hands y
 
-  -- where this holds of the state in front of a step of a call, it holds of what a checkpoint's opening makes, whatever becomes of its entry, and where it holds it does behind a stage, a claim, a withdrawal, a commit, an update in one step, and what is done for a weak write: its marks, each element and its end, or that it is cut short; and so it does of a snapshot of the active, of a replica that takes it, and of one that leads its checkpoint anew
+  -- where this holds of the state in front of a step of a call, it holds of what a checkpoint's opening makes, whatever becomes of its entry, and where it holds it does behind a stage, a claim, a withdrawal, a commit, an update in one step, and what is done for a weak write: its marks, each element and its end, or that it is cut short; and so it does of a snapshot, of a replica that takes it, of one that leads its checkpoint anew, and of one that a copying brings to its node
   pub record IsKeptWhen (When : Machine → Type 0) (log : List Label) : Type 0 where
     pub opened : (e : Entry) (r : ℕ) → Q (Some e) r (opened_state e)
     pub stays : (e f : Entry) (r : ℕ) (x : ReplicaState) → f.identity ≡ e.identity → GoesOnMade e f → e.making ≡ None → Q (Some e) r x → Q (Some f) r x
-    pub stays_copied : (e f : Entry) (s : Snapshot) → f.identity ≡ e.identity → GoesOnMade e f → IsSource e → S e s → S f s
+    pub stays_copied : (e f : Entry) (s : Snapshot) → f.identity ≡ e.identity → GoesOnMade e f → e.making ≡ None → S e s → S f s
     pub led : (e f : Entry) (r : ℕ) (o : Option Snapshot) (x : ReplicaState) → f.identity ≡ e.identity → GoesOnMade e f → e.making ≡ None → IsFreeFor o x → x.marks ≡ None → IfSome o (S e) → Q (Some e) r x → Q (Some f) r (with_lead o f.generation x)
-    pub pulled : (e : Entry) (r : ℕ) (x : ReplicaState) → IsSource e → e.active ≡ Some r → x.marks ≡ None → Q (Some e) r x → S e (copied x)
+    pub pulled : (e : Entry) (r : ℕ) (x : ReplicaState) → x.marks ≡ None → Q (Some e) r x → S e (copied x)
     pub put : (e : Entry) (r : ℕ) (s : Snapshot) (x : ReplicaState) → s.generation ≡ e.generation → x.slot ≡ None → x.marks ≡ None → S e s → Q (Some e) r x → Q (Some e) r (replica_from s x)
+    pub completed : (e f : Entry) (r : ℕ) (call : CallId) (t : ℤ) (s : Snapshot) → f.identity ≡ e.identity → GoesOnMade e f → e.making ≡ None → S e s → IsStagedLike Q e call t s (is_all f.attributes) → Q (Some f) r (having_copied call t f s (is_all f.attributes))
     pub staged : (m : Machine) (s : CallState) (k r : ℕ) (x : ReplicaState) → StepsWhen When log m s verbs.Stage k r x → Q (entry_of k m.cluster.entries) r x → Q (entry_of k m.cluster.entries) r (with_slot s.call (update_of s.op) (staged_moment m k) x)
     pub claimed : (m : Machine) (s : CallState) (k r : ℕ) (x : ReplicaState) → StepsWhen When log m s verbs.Claim k r x → Q (entry_of k m.cluster.entries) r x → Q (entry_of k m.cluster.entries) r (with_claim s.call x)
     pub withdrawn : (m : Machine) (s : CallState) (k r : ℕ) (x : ReplicaState) → StepsWhen When log m s verbs.Withdraw k r x → Q (entry_of k m.cluster.entries) r x → Q (entry_of k m.cluster.entries) r (without_slot x)
@@ -101,6 +118,13 @@ IsOfSource-goes e f s goes of =
           let same : f.generation ≡ e.generation = omega (arith, within, rises, now) in
           subst IsSome (sym (still.active same)) (of.led (now ∙ same));
     }
+
+-- so it is of one in a hand
+pub IsPulledOf-goes : (ask : Ask) (e f : Entry) (s : Snapshot) → GoesOnMade e f → IsPulledOf ask e s → IsPulledOf ask f s
+IsPulledOf-goes ask e f s goes of = record {
+  made = (goes.made of.made).made;
+  source = λ which. IsOfSource-goes e f s goes (of.source (elim which [ inl alone ↦ inl (ap is_all (sym goes.attributes) ∙ alone) | inr other ↦ inr other ]));
+}
 
 module _ (m : Machine) (inv : Invariant m) (history : HasHistory m) where
   -- a checkpoint that has a replica is made
@@ -144,15 +168,15 @@ module _ (Q : Option Entry → ℕ → ReplicaState → Type 0) (S : Entry → S
         let (f, found, was) = IsSomeAnd-at (entry_of k R.entries) (λ e. m.snapshots k ≡ Some s) (snapshot_was (entry_of k R.entries) (m.snapshots k) s is) in
         let (e, there, is_so) = copied_there k s was in
         let goes = goes_on k e f there found in
-        IsSomeAnd-from (entry_of k R.entries) (λ e. IsOfSource e s × S e s) f found (IsOfSource-goes e f s goes is_so.0, kept.stays_copied e f s (same_identity m inv history R k e f there found) goes is_so.0.source is_so.1)
+        IsSomeAnd-from (entry_of k R.entries) (λ e. IsOfSource e s × S e s) f found (IsOfSource-goes e f s goes is_so.0, kept.stays_copied e f s (same_identity m inv history R k e f there found) goes is_so.0.source.made is_so.1)
 
     -- a snapshot of which the checkpoint was given, and that was so where it was there, is so where it is there still
-    pub copy_goes : (k : ℕ) (s : Snapshot) → k ≤ m.cluster.last_identity → IfSome (entry_of k m.cluster.entries) (λ e. IsOfSource e s × S e s) → IfSome (entry_of k R.entries) (λ e. IsOfSource e s × S e s)
-    copy_goes k s given so = IfSome-from (entry_of k R.entries) (λ e. IsOfSource e s × S e s) (λ f found. (
+    pub copy_goes : (ask : Ask) (k : ℕ) (s : Snapshot) → k ≤ m.cluster.last_identity → IfSome (entry_of k m.cluster.entries) (λ e. IsPulledOf ask e s × S e s) → IfSome (entry_of k R.entries) (λ e. IsPulledOf ask e s × S e s)
+    copy_goes ask k s given so = IfSome-from (entry_of k R.entries) (λ e. IsPulledOf ask e s × S e s) (λ f found. (
         let (e, there, goes) = comes k given f found in
-        let is_so = IfSome-at (entry_of k m.cluster.entries) (λ e. IsOfSource e s × S e s) so e there in
-        (IsOfSource-goes e f s goes is_so.0, kept.stays_copied e f s (same_identity m inv history R k e f there found) goes is_so.0.source is_so.1)))
+        let is_so = IfSome-at (entry_of k m.cluster.entries) (λ e. IsPulledOf ask e s × S e s) so e there in
+        (IsPulledOf-goes ask e f s goes is_so.0, kept.stays_copied e f s (same_identity m inv history R k e f there found) goes is_so.0.made is_so.1)))
 
     -- as one in a hand is
-    pub hand_goes : (k : ℕ) (s : Snapshot) → PulledInHand m.in_hand k s → (k ≤ R.last_identity) × IfSome (entry_of k R.entries) (λ e. IsOfSource e s × S e s)
-    hand_goes k s has = let (given, so) = each.in_hand k s has in let later = last k given in (omega (arith, given, later), copy_goes k s given so)
+    pub hand_goes : (k : ℕ) (s : Snapshot) (has : PulledInHand m.in_hand k s) → (k ≤ R.last_identity) × IfSome (entry_of k R.entries) (λ e. IsPulledOf (asked has.state.op) e s × S e s)
+    hand_goes k s has = let (given, so) = each.in_hand k s has in let later = last k given in (omega (arith, given, later), copy_goes (asked has.state.op) k s given so)

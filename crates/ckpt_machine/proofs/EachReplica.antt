@@ -1,5 +1,5 @@
 -- What is said of a replica by its checkpoint's entry and its node, and of a snapshot by that entry, and what keeps it at each step: then it holds of each replica and each snapshot, in a hand too, in every state of a run. And where updates go to the active alone, no other replica and no snapshot of its generation is ahead of it.
-use Rattle.std.proofs.Common.{◌≡◌, inl, inr, ℕ, ◌+◌, ◌≤◌, List, [], ◌∷◌, ◌++◌, Option, Some, None, Bool, true, false, cond, not, ◌==◌, refl, sym, ap, subst, ◌∙◌, append_assoc, arith}
+use Rattle.std.proofs.Common.{◌≡◌, ◌⊎◌, inl, inr, ℕ, ◌+◌, ◌≤◌, List, [], ◌∷◌, ◌++◌, Option, Some, None, Bool, true, false, cond, not, ◌==◌, refl, sym, ap, subst, ◌∙◌, append_assoc, arith}
 use Rattle.std.specs.Option.{option_map}
 use Rattle.std.specs.Prelude.{IsSome, IsSomeAnd, IfSome, slice_index}
 use Rattle.std.proofs.lemmas.List.{append-nil}
@@ -9,7 +9,7 @@ use Rattle.ckpt_types.specs.declared.answers.Outcome.{Outcome}
 use Rattle.ckpt_types.specs.declared.identities.CallId.{CallId}
 use Rattle.ckpt_types.specs.declared.operation.Op.{Op}
 use Rattle.ckpt_types.specs.declared.update.Update.{Update}
-use Rattle.ckpt_types.specs.Asks.{asked, update_asked, update_of}
+use Rattle.ckpt_types.specs.Asks.{Ask, asked, update_asked, update_of}
 use Rattle.ckpt_types.specs.Asks as asks
 use Rattle.weak_marks.specs.Marks.{Marked}
 use Rattle.node_msgs.specs.declared.steps.Verb.{Verb}
@@ -28,9 +28,11 @@ use Rattle.cluster_record.specs.RecordState.{RecordState, entry_of, identity_of,
 use Rattle.cluster_record.proofs.IdentityLaws.{IdentitiesRise-filter}
 use Rattle.ckpt_machine.specs.Beginning.{update_is_bad}
 use Rattle.ckpt_machine.specs.BeginRows.{has_bad_arguments}
-use Rattle.ckpt_machine.specs.Guards.{IsOnOwn, Row, Allowed}
+use Rattle.ckpt_machine.specs.Guards.{AsksUpdate, IsOnOwn, Row, Allowed}
 use Rattle.ckpt_machine.specs.ActiveGuards.{ApplyOk, MarkOk, AreMarksOf, PullOk, HoldOk}
-use Rattle.ckpt_machine.specs.UpdateGuards.{CommitOk}
+use Rattle.ckpt_machine.specs.CopyGuards.{CopyPullOk}
+use Rattle.ckpt_machine.specs.InHand.{IsUpdateAsk}
+use Rattle.ckpt_machine.specs.UpdateGuards.{ClaimRow, CommitOk, CommitRow, StageRow, WithdrawRow}
 use Rattle.ckpt_machine.specs.GuardTerms.{OnAll, OnActive}
 use Rattle.ckpt_machine.specs.Invariant.{Invariant}
 use Rattle.ckpt_machine.specs.Machine.{Machine, Effect, Applied, ReplicaState, Snapshot, CallState, who}
@@ -39,15 +41,17 @@ use Rattle.ckpt_machine.specs.Propagation.{copied, replica_from}
 use Rattle.ckpt_machine.specs.Replays.{IsPrefix}
 use Rattle.ckpt_machine.specs.Runs.{last, IsRun}
 use Rattle.ckpt_machine.specs.Shape.{IsApart, IsShapedBy}
-use Rattle.ckpt_machine.specs.After.{with_record, record_step, created_for, retained_for, change_replica, with_committed, with_applied, with_slot, with_marks, next_element_written, with_next_element, marks_ended, without_marks, changed, on_ok, on_look, without_making, at_some, replica_under, opened_state, pulled_by, kept_behind, step_of, call_begun, after_beginning, staged_moment, after, with_closed, with_claim, without_slot}
+use Rattle.ckpt_machine.specs.After.{with_record, record_step, created_for, retained_for, change_replica, with_committed, with_applied, with_slot, with_marks, next_element_written, with_next_element, marks_ended, without_marks, changed, on_ok, on_look, without_making, at_some, replica_under, opened_state, pulled_by, kept_behind, kept_by, step_of, call_begun, after_beginning, staged_moment, after, with_closed, with_claim, without_slot}
 use Rattle.ckpt_machine.specs.Due.{Told, IsDone, IsDue, due}
 use Rattle.ckpt_machine.proofs.Activating.{Leads, leader, with_leader, led_by, led_goes, found_led, led_made, led_entry, leader-cases, after_activate}
 use Rattle.ckpt_machine.proofs.ActiveNode.{active_complete}
-use Rattle.ckpt_machine.specs.Acknowledged.{HasBegun}
-use Rattle.ckpt_machine.proofs.BegunBefore.{AllBegan, all_began, begun_more}
+use Rattle.ckpt_machine.proofs.Askers.{IsCopyAsk}
+use Rattle.ckpt_machine.proofs.BegunBefore.{AllBegan, HasBegunAs, began_more, each_began, was_asked}
+use Rattle.ckpt_machine.proofs.CompletedEach.{completed_each}
+use Rattle.ckpt_machine.proofs.Completions.{after_complete}
 use Rattle.ckpt_machine.proofs.EachKept.{is_free-for, follows_as, made_where_complete_at, entry_there, same_identity, copied_there, stayed, snapshot_goes, copy_goes, hand_goes}
-pub use Rattle.ckpt_machine.proofs.EachKept.{FollowsBy, IsAhead, EachIn, IsKeptWhen, IsKept}
-use Rattle.ckpt_machine.proofs.Copying.{IsSource, IsOfSource, IsPulledFrom, IsPutOn, TakesOver, not_active, after_pull, after_put_over, put-cases, put2-cases}
+pub use Rattle.ckpt_machine.proofs.EachKept.{FollowsBy, IsAhead, IsPulledOf, EachIn, IsKeptWhen, IsKept}
+use Rattle.ckpt_machine.proofs.Copying.{IsOfSource, IsPulledFrom, IsPutOn, TakesOver, not_active, after_pull, after_put_over, put-cases, put2-cases}
 use Rattle.ckpt_machine.proofs.Entries.{ComesOf-filter}
 use Rattle.ckpt_machine.proofs.EntryLists.{entry_of-given}
 use Rattle.ckpt_machine.proofs.FailedEach.{failed_each}
@@ -57,13 +61,14 @@ use Rattle.ckpt_machine.proofs.Generations.{generation_there}
 use Rattle.ckpt_machine.proofs.Histories.{HasHistory, shaped_there, on_replica-there, follows, run_history}
 use Rattle.ckpt_machine.proofs.Installed.{after_install}
 use Rattle.ckpt_machine.proofs.Joining.{collocated_apart, opened_with-identity}
-use Rattle.ckpt_machine.proofs.OneReplica.{IsBehindFront, StepsWhen, IsActiveOf, CanBeMarked, IsMarkedFor, Grows, committed_generation, element_generation, committed_more, grows_same, update_word}
+use Rattle.ckpt_machine.proofs.OneReplica.{IsBehindFront, StepsWhen, IsActiveOf, CanBeMarked, IsMarkedFor, Grows, committed_generation, element_generation, committed_more, grows_same}
 use Rattle.ckpt_machine.proofs.OptionLemmas.{IsSomeAnd-at, IsSomeAnd-from, IfSome-from, IfSome-at}
 use Rattle.ckpt_machine.proofs.OwnMaking.{making_there}
 pub use Rattle.ckpt_machine.proofs.PulledInHand.{PulledInHand}
 use Rattle.ckpt_machine.proofs.PulledInHand.{begun_empty}
 use Rattle.ckpt_machine.proofs.Prefixes.{prefix_of_same, prefix_of_none, prefix_then}
 use Rattle.ckpt_machine.proofs.References.{released-identity}
+use Rattle.ckpt_machine.proofs.Refusing.{by_update}
 use Rattle.ckpt_machine.proofs.Runs.{along}
 use Rattle.ckpt_machine.proofs.Starting.{first_kept}
 use Rattle.ckpt_machine.proofs.Sync.{left_is}
@@ -81,17 +86,17 @@ module _ (Q : Option Entry → ℕ → ReplicaState → Type 0) (S : Entry → S
   abbrev pub Each : Machine → Type 0
   Each m = EachIn Q S m.cluster.last_identity m.cluster.entries m.replicas m.snapshots m.in_hand
 
-  -- a call in hand may have this snapshot
-  record MayHaveIn (last : ℕ) (entries : List Entry) (replicas : ℕ → ℕ → Option ReplicaState) (k : ℕ) (s : Snapshot) : Type 0 where
+  -- a call in hand that asks for this may have this snapshot
+  record MayHaveIn (last : ℕ) (entries : List Entry) (replicas : ℕ → ℕ → Option ReplicaState) (ask : Ask) (k : ℕ) (s : Snapshot) : Type 0 where
     given : k ≤ last
-    so : IfSome (entry_of k entries) (λ e. IsOfSource e s × S e s)
+    so : IfSome (entry_of k entries) (λ e. IsPulledOf ask e s × S e s)
     behind : (r : ℕ) (e : Entry) (y : ReplicaState) → entry_of k entries ≡ Some e → is_all e.attributes ≡ false → e.active ≡ Some r → replicas k r ≡ Some y → s.generation ≡ e.generation → IsPrefix s.effects y.effects
 
-  abbrev MayHave : Machine → ℕ → Snapshot → Type 0
-  MayHave n k s = MayHaveIn n.cluster.last_identity n.cluster.entries n.replicas k s
+  abbrev MayHave : Machine → Ask → ℕ → Snapshot → Type 0
+  MayHave n ask k s = MayHaveIn n.cluster.last_identity n.cluster.entries n.replicas ask k s
 
   -- a call in hand may have what one has
-  still_has : (n : Machine) → Each n → (k : ℕ) (s : Snapshot) → PulledInHand n.in_hand k s → MayHave n k s
+  still_has : (n : Machine) → Each n → (k : ℕ) (s : Snapshot) (has : PulledInHand n.in_hand k s) → MayHave n (asked has.state.op) k s
   still_has n each k s has = record {
     given = (each.in_hand k s has).0;
     so = (each.in_hand k s has).1;
@@ -99,7 +104,7 @@ module _ (Q : Option Entry → ℕ → ReplicaState → Type 0) (S : Entry → S
   }
 
   -- it holds with other calls in hand, which have what they may
-  hands_each : (n : Machine) → Each n → (hands : Who → Option CallState) → ((k : ℕ) (s : Snapshot) → PulledInHand hands k s → MayHave n k s) → Each (record n { in_hand = hands })
+  hands_each : (n : Machine) → Each n → (hands : Who → Option CallState) → ((k : ℕ) (s : Snapshot) (has : PulledInHand hands k s) → MayHave n (asked has.state.op) k s) → Each (record n { in_hand = hands })
   hands_each n each hands may = record {
     replica = each.replica;
     snapshot = each.snapshot;
@@ -173,8 +178,8 @@ module _ (Q : Option Entry → ℕ → ReplicaState → Type 0) (S : Entry → S
           in_hand = λ s has.
               let (given, so) = each.in_hand k s has in
               let (e, there, stays) = (on k given).made f found in
-              let is_so = IfSome-at (entry_of k m.cluster.entries) (λ e. IsOfSource e s × S e s) so e there in
-              (ahead_still k r e f y there is_so.0.source.made found alone active is).in_hand s has;
+              let is_so = IfSome-at (entry_of k m.cluster.entries) (λ e. IsPulledOf (asked has.state.op) e s × S e s) so e there in
+              (ahead_still k r e f y there is_so.0.made found alone active is).in_hand s has;
         }
 
     step_each : (step : RecordState → RecordState) → ((k : ℕ) → k ≤ m.cluster.last_identity → MadeOn k m.cluster (step m.cluster)) → Each (record_step step m)
@@ -266,13 +271,13 @@ module _ (Q : Option Entry → ℕ → ReplicaState → Type 0) (S : Entry → S
       where
         own : IsSomeAnd (entry_of k m.cluster.entries) (λ e. IsOfSource e (copied x) × S e (copied x))
         own = IsSomeAnd-from (entry_of k m.cluster.entries) (λ e. IsOfSource e (copied x) × S e (copied x)) from.entry from.found
-            (record { source = from.source; within = (generation_there m inv k from.node from.entry x from.found from.there).within; led = λ present. subst IsSome (sym from.active) refl }, kept.pulled from.entry from.node x from.source from.active none (subst (λ o. Q o from.node x) from.found (each.replica k from.node x from.there)))
+            (record { source = from.source; within = (generation_there m inv k from.node from.entry x from.found from.there).within; led = λ present. subst IsSome (sym from.active) refl }, kept.pulled from.entry from.node x none (subst (λ o. Q o from.node x) from.found (each.replica k from.node x from.there)))
 
     -- a call in hand may have what is the background snapshot of a checkpoint that is there
-    copied_may : (k : ℕ) (s : Snapshot) (e : Entry) → entry_of k m.cluster.entries ≡ Some e → m.snapshots k ≡ Some s → MayHave m k s
-    copied_may k s e found is = record {
+    copied_may : (ask : Ask) (k : ℕ) (s : Snapshot) (e : Entry) → entry_of k m.cluster.entries ≡ Some e → m.snapshots k ≡ Some s → MayHave m ask k s
+    copied_may ask k s e found is = record {
       given = entry_of-given m.cluster.last_identity k m.cluster.entries e inv.holds.up_to found;
-      so = (let (f, there, is_so) = IsSomeAnd-at (entry_of k m.cluster.entries) (λ e. IsOfSource e s × S e s) (each.snapshot k s is) in subst (λ o. IfSome o (λ e. IsOfSource e s × S e s)) (sym there) is_so);
+      so = (let (f, there, is_so) = IsSomeAnd-at (entry_of k m.cluster.entries) (λ e. IsOfSource e s × S e s) (each.snapshot k s is) in subst (λ o. IfSome o (λ e. IsPulledOf ask e s × S e s)) (sym there) (record { made = is_so.0.source.made; source = λ which. is_so.0 }, is_so.1));
       behind = λ r f y at alone active there. (each.ahead k r f y at alone active there).snapshot s is;
     }
 
@@ -283,8 +288,8 @@ module _ (Q : Option Entry → ℕ → ReplicaState → Type 0) (S : Entry → S
         subst (λ marks. IsApart marks x) (none_elsewhere on.entry.active (inv.shapes k).marks r on.other) (subst (λ all. IsShapedBy all (inv.shapes k) on.entry.active r x) on.alone shaped)
 
     -- a replica that takes a snapshot
-    put_each : (k r : ℕ) (s : Snapshot) (x : ReplicaState) → MayHave m k s → TakesOver m k r s x → Each (record m { replicas = put2 m.replicas k r (Some (replica_from s x)) })
-    put_each k r s x may over = record {
+    put_each : (ask : Ask) (k r : ℕ) (s : Snapshot) (x : ReplicaState) → MayHave m ask k s → TakesOver m k r s x → Each (record m { replicas = put2 m.replicas k r (Some (replica_from s x)) })
+    put_each ask k r s x may over = record {
       replica = λ j q z at. elim (put2-cases m.replicas k r (replica_from s x) j q z at) [
         | inl here ↦ subst (Q (entry_of j m.cluster.entries) q) here.2 (subst (λ q. Q (entry_of j m.cluster.entries) q (replica_from s x)) here.1 (subst (λ j. Q (entry_of j m.cluster.entries) r (replica_from s x)) here.0 own))
         | inr was ↦ each.replica j q z was.0
@@ -301,7 +306,7 @@ module _ (Q : Option Entry → ℕ → ReplicaState → Type 0) (S : Entry → S
               replica = λ p z there present. elim (put2-cases m.replicas k r (replica_from s x) j p z there) [
                 | inl here ↦ (
                     let same : e ≡ on.entry = same_Some e on.entry (sym found ∙ ap (λ k. entry_of k m.cluster.entries) (sym here.0) ∙ on.found) in
-                    subst (λ (z : ReplicaState). IsPrefix z.effects y.effects) here.2 ((subst (λ j. MayHave m j s) here.0 may).behind q e y found alone active was.0 (over.present ∙ ap (λ (e : Entry). e.generation) (sym same))))
+                    subst (λ (z : ReplicaState). IsPrefix z.effects y.effects) here.2 ((subst (λ j. MayHave m ask j s) here.0 may).behind q e y found alone active was.0 (over.present ∙ ap (λ (e : Entry). e.generation) (sym same))))
                 | inr was ↦ before.replica p z was.0 present
               ];
               snapshot = before.snapshot;
@@ -316,17 +321,17 @@ module _ (Q : Option Entry → ℕ → ReplicaState → Type 0) (S : Entry → S
         own : Q (entry_of k m.cluster.entries) r (replica_from s x)
         own =
             let apart = put_apart k r x on in
-            let is_so = IfSome-at (entry_of k m.cluster.entries) (λ e. IsOfSource e s × S e s) may.so on.entry on.found in
+            let is_so = IfSome-at (entry_of k m.cluster.entries) (λ e. IsPulledOf ask e s × S e s) may.so on.entry on.found in
             subst (λ o. Q o r (replica_from s x)) (sym on.found) (kept.put on.entry r s x over.present apart.free apart.marks_are is_so.1 (subst (λ o. Q o r x) on.found (each.replica k r x on.there)))
 
     -- what a call may have, it may have behind a step of the record that leaves what is made as it was
-    still_may : (R : RecordState) → ((k : ℕ) → k ≤ m.cluster.last_identity → MadeOn k m.cluster R) → (k : ℕ) (s : Snapshot) → MayHave m k s → MayHave (with_record m R) k s
-    still_may R on k s may = record {
+    still_may : (R : RecordState) → ((k : ℕ) → k ≤ m.cluster.last_identity → MadeOn k m.cluster R) → (ask : Ask) (k : ℕ) (s : Snapshot) → MayHave m ask k s → MayHave (with_record m R) ask k s
+    still_may R on ask k s may = record {
       given = (let given = may.given in let later = (on k given).last in omega (arith, given, later));
-      so = copy_goes Q S When log kept m inv history each R (λ k given. (on k given).last) (λ k given f found. (let (e, was, made) = (on k given).made f found in (e, was, StaysMade-goes e f made))) k s may.given may.so;
+      so = copy_goes Q S When log kept m inv history each R (λ k given. (on k given).last) (λ k given f found. (let (e, was, made) = (on k given).made f found in (e, was, StaysMade-goes e f made))) ask k s may.given may.so;
       behind = λ r f y found alone active at present. (
           let (e, there, stays) = (on k may.given).made f found in
-          let made = (IfSome-at (entry_of k m.cluster.entries) (λ e. IsOfSource e s × S e s) may.so e there).0.source.made in
+          let made = (IfSome-at (entry_of k m.cluster.entries) (λ e. IsPulledOf ask e s × S e s) may.so e there).0.made in
           let still = stays.made made in
           let led : e.active ≡ Some r = sym still.active ∙ active in
           let complete : (slice_index (complete_of (entry_of k m.cluster.entries)) r == 0) ≡ false = subst (λ o. (slice_index (complete_of o) r == 0) ≡ false) (sym there) (active_complete m inv.shapes k e r inv.holds there made led) in
@@ -350,7 +355,7 @@ module _ (Q : Option Entry → ℕ → ReplicaState → Type 0) (S : Entry → S
         copied_so : IfSome s.snapshot (S lead.entry)
         copied_so = IfSome-from s.snapshot (S lead.entry) (λ z is. (
             let has : PulledInHand m.in_hand k z = record { name = (who s); state = s; in_hand = lead.held; ckpt = lead.ckpt; snapshot = is } in
-            (IfSome-at (entry_of k m.cluster.entries) (λ e. IsOfSource e z × S e z) (each.in_hand k z has).1 lead.entry lead.found).1))
+            (IfSome-at (entry_of k m.cluster.entries) (λ e. IsPulledOf (asked s.op) e z × S e z) (each.in_hand k z has).1 lead.entry lead.found).1))
 
         -- the replica that leads
         own : Q (entry_of k n.cluster.entries) r (leader m s k r lead)
@@ -382,7 +387,7 @@ module _ (Q : Option Entry → ℕ → ReplicaState → Type 0) (S : Entry → S
               let (f, found, was) = IsSomeAnd-at (entry_of k n.cluster.entries) (λ e. m.snapshots k ≡ Some z) (snapshot_was (entry_of k n.cluster.entries) (m.snapshots k) z at) in
               let (e, there, is_so) = copied_there Q S When log kept m inv history each k z was in
               absurd (none_other z.generation (subst (λ (e : Entry). z.generation ≤ e.generation) (same_Some e lead.entry (sym there ∙ lead.found)) is_so.0.within) present));
-          in_hand = λ z has present. absurd (none_other z.generation (IfSome-at (entry_of k m.cluster.entries) (λ e. IsOfSource e z × S e z) (each.in_hand k z has).1 lead.entry lead.found).0.within present);
+          in_hand = λ z has present. absurd (none_other z.generation ((IfSome-at (entry_of k m.cluster.entries) (λ e. IsPulledOf (asked has.state.op) e z × S e z) (each.in_hand k z has).1 lead.entry lead.found).0.source (inl (collocated_apart lead.entry.attributes lead.collocated))).within present);
         }
 
         -- and of any other
@@ -433,7 +438,7 @@ module _ (Q : Option Entry → ℕ → ReplicaState → Type 0) (S : Entry → S
     Becomes (Some k) (Some r) words.Ok change = (x : ReplicaState) → m.replicas k r ≡ Some x → BecomesThere k r x (change k x)
     Becomes k r reply change = Unit {0}
 
-    -- what a step of a call needs: what it finishes was in the making by it, and on the replica on which it is taken it leaves what is kept, as an installation and the setting of an active do
+    -- what a step of a call needs: what it finishes was in the making by it, and on the replica on which it is taken it leaves what is kept, as an installation, the setting of an active and a completion do
     abbrev Needs : CallState → Verb → Option ℕ → Option ℕ → StepReply → Type 0
     Needs s verbs.Finish (Some j) q words.Ok = IsSomeAnd (entry_of j m.cluster.entries) (λ e. e.making ≡ Some s.call)
     Needs s verbs.Stage k r reply = Becomes k r reply (λ k. with_slot s.call (update_of s.op) (staged_moment m k))
@@ -446,6 +451,7 @@ module _ (Q : Option Entry → ℕ → ReplicaState → Type 0) (S : Entry → S
     Needs s verbs.Unmark k r reply = Becomes k r reply (λ k. without_marks)
     Needs s verbs.Install k r reply = EachHeld (changed m s verbs.Install k r reply)
     Needs s verbs.Activate k r reply = EachHeld (changed m s verbs.Activate k r reply)
+    Needs s verbs.Complete k r reply = EachHeld (changed m s verbs.Complete k r reply)
     Needs s verb k r reply = Unit {0}
 
     finished_each : (s : CallState) (j q : Option ℕ) (reply : StepReply) → Needs s verbs.Finish j q reply → EachHeld (changed m s verbs.Finish j q reply)
@@ -478,6 +484,7 @@ module _ (Q : Option Entry → ℕ → ReplicaState → Type 0) (S : Entry → S
     changed_each s verbs.Install j q reply needs = needs
     changed_each s verbs.Hold j q reply needs = ok_each reply _ (one_each j _ (λ j. entry_each j (λ R. with_hold s.call) (held-identity s.call) (held_made s.call)))
     changed_each s verbs.Activate j q reply needs = needs
+    changed_each s verbs.Complete j q reply needs = needs
     changed_each s verbs.Iter j q reply needs = ok_each reply _ (both_each j q _ (λ j q. each))
     changed_each s verbs.Next j q reply needs = ok_each reply _ (both_each j q _ (λ j q. each))
     changed_each s verbs.Leave j q reply needs = ok_each reply _ (step_each (departed (client_of s.call)) (λ k given. departed_on k m.cluster given inv.holds.rises inv.holds.up_to (client_of s.call)))
@@ -487,8 +494,8 @@ module _ (Q : Option Entry → ℕ → ReplicaState → Type 0) (S : Entry → S
     changed_each s verbs.Look j q reply needs = look_each reply (with_closed s m) (without_making (making_of s.call m.cluster) m) each (making_each (making_of s.call m.cluster))
     changed_each s verb j q reply needs = each
 
-    steps_on : (s : CallState) → m.in_hand (who s) ≡ Some s → (t : Told) → IsDone m s (due m s) t → (verb : Verb) → t.verb ≡ verb → (k r : ℕ) (x : ReplicaState) → m.replicas k r ≡ Some x → Some k ≡ s.kept.ckpt → (place : ℕ) (update : Update) → asked s.op ≡ asks.Change place update → StepsWhen When log m s verb k r x
-    steps_on s held t done verb is k r x there own place update asks_is = record {
+    steps_on : (s : CallState) → m.in_hand (who s) ≡ Some s → (t : Told) → IsDone m s (due m s) t → (verb : Verb) → t.verb ≡ verb → (k r : ℕ) (x : ReplicaState) → m.replicas k r ≡ Some x → Some k ≡ s.kept.ckpt → IsUpdateAsk (asked s.op) → StepsWhen When log m s verb k r x
+    steps_on s held t done verb is k r x there own asks_it = record {
       inv = inv;
       history = history;
       at = at_front;
@@ -497,16 +504,37 @@ module _ (Q : Option Entry → ℕ → ReplicaState → Type 0) (S : Entry → S
       told = t;
       verb_is = is;
       done = done;
-      asked = record { op = s.op; asks = update_word s.op place update asks_is; begun = subst (HasBegun log s.call s.op) (sym own) (began s held); update_is = refl };
-      word = update_word s.op place update asks_is;
+      asks = asks_it;
+      kept = sym own;
+      asked = was_asked log s k (began s held) (sym own) asks_it;
       when = when;
     }
+
+    -- what is asked for in a row
+    change_asks : (s : CallState) (place : ℕ) (update : Update) → asked s.op ≡ asks.Change place update → IsUpdateAsk (asked s.op)
+    change_asks s place update is = subst IsUpdateAsk (sym is) tt
+
+    update_asks : (s : CallState) (P : Update → (Bool → Bool) → Type 0) → AsksUpdate m s P → IsUpdateAsk (asked s.op)
+    update_asks s P (inl change) = change_asks s change.0 change.1 change.2
+    update_asks s P (inr copies) = subst IsUpdateAsk (sym copies.0) tt
 
     -- what a row says of the active and its replica
     on_active-there : (update : Update) (by_element : Bool) (k r : ℕ) (P : Entry → ReplicaState → Type 0) → OnActive m update by_element k r P → (x : ReplicaState) → m.replicas k r ≡ Some x → (e : Entry) × IsActiveOf m k r e × (is_by_element (is_weak e.attributes) update ≡ by_element) × P e x
     on_active-there update by_element k r P on x there =
         let (e, y, found, at, facts) = on_replica-there m k r (λ e x. (is_all e.attributes ≡ false) × (e.active ≡ Some r) × (e.hold ≡ None) × (is_by_element (is_weak e.attributes) update ≡ by_element) × P e x) on in
         (e, record { found = found; alone = facts.0; active = facts.1 }, facts.3, subst (P e) (same_Some y x (sym at ∙ there)) facts.4)
+
+    committed_needs : (s : CallState) (k r : ℕ) (x : ReplicaState) (update : Update) (ends : Bool → Bool) (t : Told) → StepsWhen When log m s verbs.Commit k r x → OnAll m k r (λ e x. CommitOk m s.call update ends k r t.end t.details x) → BecomesThere k r x (with_committed (entry_of k m.cluster.entries) x)
+    committed_needs s k r x update ends t step on =
+        let (e, y, found, at, facts) = on_replica-there m k r (λ e x. (is_all e.attributes ≡ true) × CommitOk m s.call update ends k r t.end t.details x) on in
+        record {
+          so = subst (λ o. Q o r (with_committed o x)) (sym found) (kept.committed m s k r x e step (record { found = found; all = facts.0 }) (subst (λ o. Q o r x) found (each.replica k r x step.there)));
+          grows = record {
+            generation = committed_generation (entry_of k m.cluster.entries) x;
+            more = committed_more (entry_of k m.cluster.entries) x;
+            other = λ f is alone. absurd (let w : true ≡ false = sym facts.0 ∙ ap (λ (e : Entry). is_all e.attributes) (same_Some e f (sym found ∙ is)) ∙ alone in cc w);
+          };
+        }
 
     module _ (s : CallState) (k r : ℕ) (x : ReplicaState) (there : m.replicas k r ≡ Some x) (place : ℕ) (update : Update) (asks_is : asked s.op ≡ asks.Change place update) where
       -- the update that a row names is the call's own
@@ -520,18 +548,6 @@ module _ (Q : Option Entry → ℕ → ReplicaState → Type 0) (S : Entry → S
       -- it is the active, and has an effect more
       grows_active : (e : Entry) (y : ReplicaState) (new : List Effect) → IsActiveOf m k r e → y.effects ≡ x.effects ++ new → y.generation ≡ x.generation → Grows m k r x y
       grows_active e y new active is generation = record { generation = generation; more = (new, is); other = λ f found alone. inl (ap (λ (e : Entry). e.active) (same_Some f e (sym found ∙ active.found)) ∙ active.active) }
-
-      committed_needs : (t : Told) → StepsWhen When log m s verbs.Commit k r x → OnAll m k r (λ e x. CommitOk m s.call update k r t.end t.details x) → BecomesThere k r x (with_committed (entry_of k m.cluster.entries) x)
-      committed_needs t step on =
-          let (e, y, found, at, facts) = on_replica-there m k r (λ e x. (is_all e.attributes ≡ true) × CommitOk m s.call update k r t.end t.details x) on in
-          record {
-            so = subst (λ o. Q o r (with_committed o x)) (sym found) (kept.committed m s k r x e step (record { found = found; all = facts.0 }) (there_by e found));
-            grows = record {
-              generation = committed_generation (entry_of k m.cluster.entries) x;
-              more = committed_more (entry_of k m.cluster.entries) x;
-              other = λ f is alone. absurd (let w : true ≡ false = sym facts.0 ∙ ap (λ (e : Entry). is_all e.attributes) (same_Some e f (sym found ∙ is)) ∙ alone in cc w);
-            };
-          }
 
       applied_needs : (t : Told) → StepsWhen When log m s verbs.Apply k r x → OnActive m update false k r (ApplyOk m update t) → BecomesThere k r x (with_applied s.call (update_of s.op) m.cluster.moment (entry_of k m.cluster.entries) x)
       applied_needs t step on =
@@ -580,45 +596,59 @@ module _ (Q : Option Entry → ℕ → ReplicaState → Type 0) (S : Entry → S
     row_needs : (s : CallState) → m.in_hand (who s) ≡ Some s → (t : Told) → IsDone m s (due m s) t → (verb : Verb) (k r : Option ℕ) (reply : StepReply) → t.verb ≡ verb → IsOnOwn verb k s.kept.ckpt → Row m s verb (record t { verb = verb; ckpt = k; node = r; reply = reply }) → Needs s verb k r reply
     row_needs s held t done verbs.Finish (Some j) None words.Ok verb _ row = making_there m.cluster inv.holds.rises s.call j row.0.3.0
     row_needs s held t done verbs.Finish (Some j) (Some q) words.Ok verb _ row = absurd row.0
-    row_needs s held t done verbs.Stage (Some k) (Some r) words.Ok verb own row = λ x there. record { so = kept.staged m s k r x (steps_on s held t done verbs.Stage verb k r x there own row.0.0 row.0.1 row.0.2) (each.replica k r x there); grows = grows_same m k r x _ refl refl }
-    row_needs s held t done verbs.Claim (Some k) (Some r) words.Ok verb own row = λ x there. record { so = kept.claimed m s k r x (steps_on s held t done verbs.Claim verb k r x there own row.0.0 row.0.1 row.0.2) (each.replica k r x there); grows = grows_same m k r x _ refl refl }
-    row_needs s held t done verbs.Withdraw (Some k) (Some r) words.Ok verb own row = λ x there. record { so = kept.withdrawn m s k r x (steps_on s held t done verbs.Withdraw verb k r x there own row.0.0 row.0.1 row.0.2) (each.replica k r x there); grows = grows_same m k r x _ refl refl }
-    row_needs s held t done verbs.Commit (Some k) (Some r) words.Ok verb own row = λ x there. committed_needs s k r x there row.0 row.1 row.2 t (steps_on s held t done verbs.Commit verb k r x there own row.0 row.1 row.2) row.3
-    row_needs s held t done verbs.Apply (Some k) (Some r) words.Ok verb own row = λ x there. applied_needs s k r x there row.0 row.1 row.2 (record t { verb = verbs.Apply; ckpt = Some k; node = Some r; reply = words.Ok }) (steps_on s held t done verbs.Apply verb k r x there own row.0 row.1 row.2) row.3
-    row_needs s held t done verbs.Mark (Some k) (Some r) words.Ok verb own row = λ x there. marked_needs s k r x there row.0 row.1 row.2 (record t { verb = verbs.Mark; ckpt = Some k; node = Some r; reply = words.Ok }) (steps_on s held t done verbs.Mark verb k r x there own row.0 row.1 row.2) row.3
-    row_needs s held t done verbs.Element (Some k) (Some r) words.Ok verb own row = λ x there. element_needs s k r x there row.0 row.1 row.2 (steps_on s held t done verbs.Element verb k r x there own row.0 row.1 row.2) row.3.0
-    row_needs s held t done verbs.Unmark (Some k) (Some r) words.Ok verb own row = λ x there. unmarked_needs s k r x there row.0 row.1 row.2 (steps_on s held t done verbs.Unmark verb k r x there own row.0 row.1 row.2) row.3.0
+    row_needs s held t done verbs.Stage (Some k) (Some r) words.Ok verb own row = λ x there. record { so = kept.staged m s k r x (steps_on s held t done verbs.Stage verb k r x there own (update_asks s (λ update ends. StageRow m s update k r words.Ok t.end) row.0)) (each.replica k r x there); grows = grows_same m k r x _ refl refl }
+    row_needs s held t done verbs.Claim (Some k) (Some r) words.Ok verb own row = λ x there. record { so = kept.claimed m s k r x (steps_on s held t done verbs.Claim verb k r x there own (update_asks s (λ update ends. ClaimRow m s k r words.Ok t.end) row.0)) (each.replica k r x there); grows = grows_same m k r x _ refl refl }
+    row_needs s held t done verbs.Withdraw (Some k) (Some r) words.Ok verb own row = λ x there. record { so = kept.withdrawn m s k r x (steps_on s held t done verbs.Withdraw verb k r x there own (update_asks s (λ update ends. WithdrawRow m s k r words.Ok t.end) row.0)) (each.replica k r x there); grows = grows_same m k r x _ refl refl }
+    row_needs s held t done verbs.Commit (Some k) (Some r) words.Ok verb own row = λ x there. by_update m s (λ update ends. CommitRow m s.call update ends k r words.Ok t.end t.details) row (λ update ends on. committed_needs s k r x update ends t (steps_on s held t done verbs.Commit verb k r x there own (update_asks s (λ update ends. CommitRow m s.call update ends k r words.Ok t.end t.details) row)) on)
+    row_needs s held t done verbs.Apply (Some k) (Some r) words.Ok verb own row = λ x there. applied_needs s k r x there row.0 row.1 row.2 (record t { verb = verbs.Apply; ckpt = Some k; node = Some r; reply = words.Ok }) (steps_on s held t done verbs.Apply verb k r x there own (change_asks s row.0 row.1 row.2)) row.3
+    row_needs s held t done verbs.Mark (Some k) (Some r) words.Ok verb own row = λ x there. marked_needs s k r x there row.0 row.1 row.2 (record t { verb = verbs.Mark; ckpt = Some k; node = Some r; reply = words.Ok }) (steps_on s held t done verbs.Mark verb k r x there own (change_asks s row.0 row.1 row.2)) row.3
+    row_needs s held t done verbs.Element (Some k) (Some r) words.Ok verb own row = λ x there. element_needs s k r x there row.0 row.1 row.2 (steps_on s held t done verbs.Element verb k r x there own (change_asks s row.0 row.1 row.2)) row.3.0
+    row_needs s held t done verbs.Unmark (Some k) (Some r) words.Ok verb own row = λ x there. unmarked_needs s k r x there row.0 row.1 row.2 (steps_on s held t done verbs.Unmark verb k r x there own (change_asks s row.0 row.1 row.2)) row.3.0
     row_needs s held t done verbs.Install j q reply verb own row = after_install EachHeld m s t j q reply row each (λ k r z x is in_hand over. (
-        put_each k r z x (still_has m each k z (record { name = (who s); state = s; in_hand = held; ckpt = sym own ∙ is; snapshot = in_hand })) over))
+        put_each (asked s.op) k r z x (still_has m each k z (record { name = (who s); state = s; in_hand = held; ckpt = sym own ∙ is; snapshot = in_hand })) over))
     row_needs s held t done verbs.Activate j q reply verb own row = after_activate EachHeld m inv history.bare s held t j q reply own row each (λ k r on. record_each (swept (active_set k r m.cluster)) (λ j given. on j)) (leads_each s)
-    row_needs s held t done verb k r reply verb_is own row = tt
+    row_needs s held t done verbs.Complete j q reply verb own row = after_complete EachHeld m inv s held t j q reply own row each (λ k r brings. completed_each Q S When log kept m inv history each s k r brings)
+    row_needs s held t done verb k r reply verb_is _ row = tt
 
-    -- a call may have a copy of what the active has, where no marks stand
-    active_may : (j q : ℕ) (e : Entry) (x : ReplicaState) → entry_of j m.cluster.entries ≡ Some e → m.replicas j q ≡ Some x → is_all e.attributes ≡ false → e.active ≡ Some q → x.marks ≡ None → MayHave m j (copied x)
-    active_may j q e x found there alone active none =
+    -- a call may have a copy of what the active has, where no marks stand; where updates go to all replicas, a copying may
+    active_may : (ask : Ask) (j q : ℕ) (e : Entry) (x : ReplicaState) → entry_of j m.cluster.entries ≡ Some e → m.replicas j q ≡ Some x → (is_all e.attributes ≡ false) ⊎ IsCopyAsk ask → e.active ≡ Some q → x.marks ≡ None → MayHave m ask j (copied x)
+    active_may ask j q e x found there which active none =
         let made = made_where_complete_at m inv history j q x e found there in
-        let source : IsSource e = record { made = made; alone = alone } in
+        let source = λ (alone : is_all e.attributes ≡ false). (let of : IsOfSource e (copied x) = record { source = record { made = made; alone = alone }; within = (generation_there m inv j q e x found there).within; led = λ present. subst IsSome (sym active) refl } in of) in
         record {
           given = entry_of-given m.cluster.last_identity j m.cluster.entries e inv.holds.up_to found;
-          so = subst (λ o. IfSome o (λ e. IsOfSource e (copied x) × S e (copied x))) (sym found) (record { source = source; within = (generation_there m inv j q e x found there).within; led = λ present. subst IsSome (sym active) refl }, kept.pulled e q x source active none (subst (λ o. Q o q x) found (each.replica j q x there)));
+          so = subst (λ o. IfSome o (λ e. IsPulledOf ask e (copied x) × S e (copied x))) (sym found) (record { made = made; source = λ of. source (alone_by which of) }, kept.pulled e q x none (subst (λ o. Q o q x) found (each.replica j q x there)));
           behind = λ r f y at alone active here present. (each.ahead j r f y at alone active here).replica q x there (inr present);
         }
+      where
+        alone_by : (is_all e.attributes ≡ false) ⊎ IsCopyAsk ask → (is_all e.attributes ≡ false) ⊎ (IsCopyAsk ask → ⊥) → is_all e.attributes ≡ false
+        alone_by (inl alone) of = alone
+        alone_by (inr copies) (inl alone) = alone
+        alone_by (inr copies) (inr other) = absurd (other copies)
 
     -- so it may have what it keeps of that, of the checkpoint that it keeps
-    kept_may : (n : Machine) (s : CallState) (j q k : ℕ) (x : ReplicaState) (z : Snapshot) → Some j ≡ s.kept.ckpt → m.replicas j q ≡ Some x → s.kept.ckpt ≡ Some k → option_map copied (m.replicas j q) ≡ Some z → MayHave n j (copied x) → MayHave n k z
-    kept_may n s j q k x z own there ckpt is may = subst (MayHave n k) (same_Some (copied x) z (sym (ap (option_map copied) there) ∙ is)) (subst (λ j. MayHave n j (copied x)) (same_Some j k (own ∙ ckpt)) may)
+    kept_may : (n : Machine) (s : CallState) (j q k : ℕ) (x : ReplicaState) (z : Snapshot) → Some j ≡ s.kept.ckpt → m.replicas j q ≡ Some x → s.kept.ckpt ≡ Some k → option_map copied (m.replicas j q) ≡ Some z → MayHave n (asked s.op) j (copied x) → MayHave n (asked s.op) k z
+    kept_may n s j q k x z own there ckpt is may = subst (MayHave n (asked s.op) k) (same_Some (copied x) z (sym (ap (option_map copied) there) ∙ is)) (subst (λ j. MayHave n (asked s.op) j (copied x)) (same_Some j k (own ∙ ckpt)) may)
 
     -- what a call has in hand behind a step, by its pull, by its hold or from before, it may have
     pulled_may : (s : CallState) → m.in_hand (who s) ≡ Some s → (t : Told) (verb : Verb) (j q : Option ℕ) (reply : StepReply) → IsOnOwn verb j s.kept.ckpt → Row m s verb (record t { verb = verb; ckpt = j; node = q; reply = reply })
-        → EachHeld (changed m s verb j q reply) → (k : ℕ) (z : Snapshot) → s.kept.ckpt ≡ Some k → pulled_by m s verb j q reply ≡ Some z → MayHave (changed m s verb j q reply) k z
-    pulled_may s held t verbs.Pull (Some j) (Some q) words.Ok own row then k z ckpt is =
-        let (e, x, found, there, ok) = on_replica-there m j q (PullOk m s q (record t { verb = verbs.Pull; ckpt = Some j; node = Some q; reply = words.Ok })) row.0.3 in
-        kept_may m s j q k x z own there ckpt is (active_may j q e x found there ok.alone ok.active ok.unmarked)
+        → EachHeld (changed m s verb j q reply) → (k : ℕ) (z : Snapshot) → (kept_by m s verb j reply).ckpt ≡ Some k → pulled_by m s verb j q reply ≡ Some z → MayHave (changed m s verb j q reply) (asked s.op) k z
+    pulled_may s held t verbs.Pull (Some j) (Some q) words.Ok own row then k z ckpt is = elim row.0 [
+      | inl syncs ↦ (
+          let (e, x, found, there, ok) = on_replica-there m j q (PullOk m s q (record t { verb = verbs.Pull; ckpt = Some j; node = Some q; reply = words.Ok })) syncs.3 in
+          kept_may m s j q k x z own there ckpt is (active_may (asked s.op) j q e x found there (inl ok.alone) ok.active ok.unmarked))
+      | inr copies ↦ (
+          let (e, x, found, there, ok) = on_replica-there m j q (CopyPullOk (record t { verb = verbs.Pull; ckpt = Some j; node = Some q; reply = words.Ok }) q) copies.1 in
+          kept_may m s j q k x z own there ckpt is (active_may (asked s.op) j q e x found there (inr (subst IsCopyAsk (sym copies.0) tt)) ok.active ok.unmarked))
+    ]
     pulled_may s held t verbs.Hold (Some j) (Some q) words.Ok own row then k z ckpt is =
         let (e, x, found, there, ok) = on_replica-there m j q (HoldOk s q t.end) row.0.2 in
-        let may = active_may j q e x found there (collocated_apart e.attributes ok.collocated) ok.active ok.unmarked in
+        let may = active_may (asked s.op) j q e x found there (inl (collocated_apart e.attributes ok.collocated)) ok.active ok.unmarked in
         let on : (k : ℕ) → k ≤ m.cluster.last_identity → MadeOn k m.cluster (swept (hold_set j s.call m.cluster)) = λ k given. MadeOn-swept k m.cluster (hold_set j s.call m.cluster) (changed_on k m.cluster given inv.holds.rises inv.holds.up_to j (with_hold s.call) (held-identity s.call) (held_made s.call)) in
-        kept_may (record_step (hold_set j s.call) m) s j q k x z own there ckpt is (still_may (swept (hold_set j s.call m.cluster)) on j (copied x) may)
+        kept_may (record_step (hold_set j s.call) m) s j q k x z own there ckpt is (still_may (swept (hold_set j s.call m.cluster)) on (asked s.op) j (copied x) may)
+    pulled_may s held t verbs.Reserve j q words.Ok own row then k z ckpt none = absurd (cc none)
+    pulled_may s held t verbs.Reserve None q reply own row then k z ckpt is = still_has (record m { in_hand = m.in_hand }) then k z (record { name = who s; state = s; in_hand = held; ckpt = ckpt; snapshot = is })
+    pulled_may s held t verbs.Reserve (Some j) q reply own row then k z ckpt is = still_has (record m { in_hand = m.in_hand }) then k z (record { name = who s; state = s; in_hand = held; ckpt = ckpt; snapshot = is })
     pulled_may s held t verb j q reply _ row then k z ckpt is = still_has (record (changed m s verb j q reply) { in_hand = m.in_hand }) then k z (record { name = who s; state = s; in_hand = held; ckpt = ckpt; snapshot = is })
 
     -- a step leaves in the hand of its call what this may have
@@ -634,11 +664,11 @@ module _ (Q : Option Entry → ℕ → ReplicaState → Type 0) (S : Entry → S
         was : (w : Who) (z : CallState) → n.in_hand w ≡ Some z → m.in_hand w ≡ Some z
         was = (follows m inv history s held t row).in_hand
 
-        may : (k : ℕ) (z : Snapshot) → PulledInHand (put_who n.in_hand (who s) (left end behind)) k z → MayHave n k z
+        may : (k : ℕ) (z : Snapshot) (has : PulledInHand (put_who n.in_hand (who s) (left end behind)) k z) → MayHave n (asked has.state.op) k z
         may k z has = elim (put_who-cases n.in_hand (who s) (left end behind) has.name has.state has.in_hand) [
           | inl own_hand ↦ (
               let is = left_is end behind has.state own_hand.1 in
-              pulled_may s held t t.verb t.ckpt t.node t.reply own row then k z (ap (λ (z : CallState). z.kept.ckpt) is ∙ has.ckpt) (ap (λ (z : CallState). z.snapshot) is ∙ has.snapshot))
+              subst (λ (y : CallState). MayHave n (asked y.op) k z) is (pulled_may s held t t.verb t.ckpt t.node t.reply own row then k z (ap (λ (z : CallState). z.kept.ckpt) is ∙ has.ckpt) (ap (λ (z : CallState). z.snapshot) is ∙ has.snapshot)))
           | inr other ↦ still_has (record n { in_hand = m.in_hand }) then k z (record { name = has.name; state = has.state; in_hand = was has.name has.state other.1; ckpt = has.ckpt; snapshot = has.snapshot })
         ]
 
@@ -672,7 +702,7 @@ module _ (Q : Option Entry → ℕ → ReplicaState → Type 0) (S : Entry → S
     after_each (labels.Joined r (Some incarnation)) allowed is = each
     after_each (labels.Joined r None) allowed is = each
     after_each (labels.Pulled k reply) allowed is = after_pull Each m k reply is each (pulled_each k)
-    after_each (labels.Put k r reply) allowed is = after_put_over Each m k r reply is each (λ s x at over. put_each k r s x (copied_may k s over.on.entry over.on.found at) over)
+    after_each (labels.Put k r reply) allowed is = after_put_over Each m k r reply is each (λ s x at over. put_each asks.Copy k r s x (copied_may asks.Copy k s over.on.entry over.on.found at) over)
 
   -- so it holds in a run; that a call began stands in the whole log
   pub run_each : (log : List Label) → IsKept Q S log → IsRun log → Each (last log)
@@ -684,7 +714,7 @@ module _ (Q : Option Entry → ℕ → ReplicaState → Type 0) (S : Entry → S
       goes_on front l before allowed due each rest is =
           let log_is : log ≡ front ++ l ∷ rest = is ∙ append_assoc front (l ∷ []) rest in
           let (inv, history) = run_history front before in
-          let began : AllBegan log (last front) = λ s held. subst (λ (log : List Label). HasBegun log s.call s.op s.kept.ckpt) (sym log_is) (begun_more front (l ∷ rest) s.call s.op s.kept.ckpt (all_began front before s held)) in
+          let began : AllBegan log (last front) = λ s held. subst (λ (log : List Label). HasBegunAs log s.call s.op s.kept.ckpt) (sym log_is) (began_more front (l ∷ rest) s.call s.op s.kept.ckpt (each_began front before s held)) in
           after_each (λ m. Unit {0}) log kept (last front) tt began (record { front = front; rest = l ∷ rest; log_is = log_is; state_is = refl }) inv history (good_arguments front before) (each (l ∷ rest) log_is) l allowed due
 
 -- where nothing is said
@@ -692,10 +722,11 @@ kept_nothing : (log : List Label) → IsKept (λ o r x. Unit {0}) (λ e s. Unit 
 kept_nothing log = record {
   opened = λ e r. tt;
   stays = λ e f r x same stays made is. tt;
-  stays_copied = λ e f s same stays source is. tt;
+  stays_copied = λ e f s same stays made is. tt;
   led = λ e f r o x same goes made free none copied is. tt;
-  pulled = λ e r x source active none is. tt;
+  pulled = λ e r x none is. tt;
   put = λ e r s x present free none copied is. tt;
+  completed = λ e f r call t s same goes made copied like. tt;
   staged = λ m s k r x step is. tt;
   claimed = λ m s k r x step is. tt;
   withdrawn = λ m s k r x step is. tt;

@@ -1,24 +1,26 @@
 -- No replica and no snapshot has two effects of one call, and none has an effect of the call whose update is staged on it.
-use Rattle.std.proofs.Common.{◌≡◌, ◌≢◌, ℕ, inl, inr, List, [], ◌∷◌, ◌++◌, Option, Some, None, false, refl, sym, ap, subst, ◌∙◌}
+use Rattle.std.proofs.Common.{◌≡◌, ℕ, inl, inr, List, [], ◌∷◌, ◌++◌, Option, Some, None, Bool, true, false, ℤ, refl, sym, ap, subst, ◌∙◌}
 use Rattle.std.specs.Prelude.{IfSome}
 use Rattle.std.proofs.lemmas.Option.{same_Some}
 use Rattle.ckpt_types.specs.declared.attributes.CreationAttributes.{CreationAttributes}
 use Rattle.ckpt_types.specs.declared.identities.CallId.{CallId}
 use Rattle.ckpt_types.specs.Asks.{update_of}
-use Rattle.node_msgs.specs.declared.steps.Verb.{Verb}
+use Rattle.node_msgs.specs.declared.next.Next.TheVariants.{Serve}
 use Rattle.node_msgs.specs.declared.steps.Verb.TheVariants as verbs
 use Rattle.run_labels.specs.declared.labels.Label.{Label}
 use Rattle.cluster_record.specs.declared.calls.UpdatePhase.TheVariants.{Committing}
 use Rattle.cluster_record.specs.declared.entries.Entry.{Entry}
+use Rattle.cluster_record.specs.DueCopy.{copy_next}
 use Rattle.cluster_record.specs.DueUpdate.{UpdateState, update_led, update_on, by_phase, commit_at}
 use Rattle.cluster_record.specs.RecordState.{entry_of}
 use Rattle.cluster_record.specs.StepDone.{first_lacking, last_having}
-use Rattle.ckpt_machine.proofs.EachKept.{IsFreeFor}
+use Rattle.ckpt_machine.proofs.EachKept.{IsFreeFor, IsStagedLike, having_copied}
+use Rattle.ckpt_machine.specs.Drivers.{update_in}
 use Rattle.ckpt_machine.specs.Drivers as drivers
 use Rattle.ckpt_machine.specs.Driving.{driver_next}
 use Rattle.ckpt_machine.specs.Failing.{broken}
 use Rattle.ckpt_machine.specs.Invariant.{Invariant}
-use Rattle.ckpt_machine.specs.Machine.{Machine, Effect, Applied, Broken, Staged, ReplicaState, Snapshot, CallState}
+use Rattle.ckpt_machine.specs.Machine.{Machine, Effect, Applied, Broken, Staged, ReplicaState, Snapshot, CallState, who}
 use Rattle.cluster_record.specs.Placement.{is_all}
 use Rattle.ckpt_machine.specs.Owned.{IsEffectOf, HasEffect}
 use Rattle.ckpt_machine.specs.Replays.{call_of_effect, EachCallOnce}
@@ -28,8 +30,11 @@ use Rattle.ckpt_machine.specs.After.{having_taken, committed_slot, marks_ended, 
 use Rattle.ckpt_machine.specs.Due.{Told, IsDone, due, driver_of, rooms_of}
 use Rattle.ckpt_machine.proofs.EachReplica.{IsKept, run_each}
 use Rattle.ckpt_machine.proofs.Follows.{IsBare, effect_more}
-use Rattle.ckpt_machine.proofs.Histories.{IsCommittingAt, shaped_there}
+use Rattle.ckpt_machine.proofs.CopyCommits.{committing_commits, update_at}
+use Rattle.ckpt_machine.proofs.Histories.{due_request, none_alone, shaped_there}
 use Rattle.ckpt_machine.proofs.OneReplica.{StepsOn, claimed_was}
+use Rattle.ckpt_machine.proofs.OptionLemmas.{IsSomeAnd-from}
+use Rattle.ckpt_machine.proofs.UpdateIn.{IsUpdateVerb, does_staging, update_due, update_kept}
 
 -- ---- effects
 
@@ -75,6 +80,11 @@ one_effect_more x y new effects free none once = record {
   fresh = λ slot staged. absurd (let w : None ≡ Some slot = sym free ∙ staged in cc w);
 }
 
+-- one that a copying has brought to its node has the slot and the effects of another
+copied_once : (e f : Entry) (call : CallId) (t : ℤ) (s : Snapshot) (all : Bool) → EachCallOnce s.effects → IsStagedLike (λ o r x. IsOnce x) e call t s all → IsOnce (having_copied call t f s all)
+copied_once e f call t s false each like = record { each = each; fresh = λ slot none. absurd (cc none) }
+copied_once e f call t s true each (q, y, was, slot, effects) = record { each = each; fresh = λ z is has. was.fresh z (slot ∙ is) (subst (HasEffect z.origin) (sym effects) has) }
+
 -- where nothing is staged, a replica that leads with what is in hand
 led_once : (o : Option Snapshot) (g : ℕ) (x : ReplicaState) → IsFreeFor o x → IfSome o (λ s. EachCallOnce s.effects) → IsOnce x → IsOnce (with_lead o g x)
 led_once None g x free none once = record { each = once.each; fresh = once.fresh }
@@ -104,14 +114,24 @@ commits_or_looks m s u t is phase done = by_entry (entry_of u.ckpt m.cluster.ent
     by_entry None looked = look (ap (λ (t : Told). t.verb) looked)
     by_entry (Some e) step = by_active e e.active step
 
--- so the replica has no effect of a call that takes another on it
-none_yet : (log : List Label) (m : Machine) (s : CallState) (verb : Verb) (k r : ℕ) (x : ReplicaState) → StepsOn log m s verb k r x → verbs.Commit ≢ verb → verbs.Look ≢ verb → HasEffect s.call x.effects → ⊥
-none_yet log m s verb k r x step no_commit no_look has =
-    let at : IsCommittingAt k (driver_of s) = step.history.commits k r s step.held (record { replica = x; there = step.there; effect = has }) in
-    elim (commits_or_looks m s at.update step.told at.driver_is at.phase step.done) [
-      | commit is ↦ no_commit (sym is ∙ step.verb_is)
-      | look is ↦ no_look (sym is ∙ step.verb_is)
-    ]
+-- so a replica on which a call stages its update has no effect of it
+none_staged : (log : List Label) (m : Machine) (s : CallState) (k r : ℕ) (x : ReplicaState) → StepsOn log m s verbs.Stage k r x → HasEffect s.call x.effects → ⊥
+none_staged log m s k r x step has = elim (step.history.commits k r s step.held (record { replica = x; there = step.there; effect = has })) [
+  | inl at ↦ elim (commits_or_looks m s at.update step.told at.driver_is at.phase step.done) [
+    | commit is ↦ (let w : verbs.Stage ≡ verbs.Commit = sym step.verb_is ∙ is in cc w)
+    | look is ↦ (let w : verbs.Stage ≡ verbs.Look = sym step.verb_is ∙ is in cc w)
+  ]
+  | inr brought ↦ (
+      let of : IsUpdateVerb step.told.verb = subst IsUpdateVerb (sym step.verb_is) tt in
+      let (node, request, next, verb) = due_request m s step.told step.done of in
+      let served : copy_next m.cluster brought.copy ≡ Serve node request = ap (driver_next m.cluster (rooms_of m s)) (sym brought.driver_is) ∙ next in
+      let (at, some) = update_at m.cluster brought.copy node request served (subst IsUpdateVerb verb of) in
+      let does : update_in (driver_of s) ≡ Some brought.copy.staging = ap update_in brought.driver_is ∙ does_staging brought.copy at some in
+      let kept : s.kept.ckpt ≡ Some brought.copy.staging.ckpt = update_kept m step.inv.shapes s (driver_of s) brought.copy.staging (step.inv.holds.hands (who s) s step.held).here does in
+      let phase = brought.commits brought.copy.staging does (same_Some brought.copy.staging.ckpt k (sym kept ∙ step.kept)) in
+      let w : verbs.Stage ≡ verbs.Commit = sym step.verb_is ∙ verb ∙ committing_commits m.cluster brought.copy.staging node request phase (update_due m.cluster (rooms_of m s) (driver_of s) brought.copy.staging node request (subst IsUpdateVerb verb of) does next) in
+      cc w)
+]
 
 -- where updates are on the active alone, nothing is staged
 pub alone_free : (m : Machine) → Invariant m → IsBare m → (k r : ℕ) (x : ReplicaState) (e : Entry) → m.replicas k r ≡ Some x → entry_of k m.cluster.entries ≡ Some e → is_all e.attributes ≡ false → x.slot ≡ None
@@ -124,27 +144,28 @@ kept_once : (log : List Label) → IsKept (λ o r x. IsOnce x) (λ e s. EachCall
 kept_once log = record {
   opened = λ e r. record { each = tt; fresh = λ slot none. absurd (cc none) };
   stays = λ e f r x same stays made once. once;
-  stays_copied = λ e f s same stays source once. once;
+  stays_copied = λ e f s same stays made once. once;
   led = λ e f r o x same goes made free none copied once. led_once o f.generation x free copied once;
-  pulled = λ e r x source active none once. once.each;
+  pulled = λ e r x none once. once.each;
   put = λ e r s x present free none copied once. record { each = copied; fresh = λ slot staged. absurd (let w : None ≡ Some slot = sym free ∙ staged in cc w) };
+  completed = λ e f r call t s same goes made copied like. copied_once e f call t s (is_all f.attributes) copied like;
   staged = λ m s k r x step once. record {
     each = once.each;
     fresh = λ slot is has.
         let same = same_Some (record { owner = s.call; origin = s.call; update = update_of s.op; moment = staged_moment m k }) slot is in
-        none_yet log m s verbs.Stage k r x step (λ is. cc is) (λ is. cc is) (subst (λ d. HasEffect d x.effects) (sym (ap (λ (z : Staged). z.origin) same)) has);
+        none_staged log m s k r x step (subst (λ d. HasEffect d x.effects) (sym (ap (λ (z : Staged). z.origin) same)) has);
   };
   claimed = λ m s k r x step once. record { each = once.each; fresh = λ slot is has. (let (old, was, origin, update) = claimed_was s.call x.slot slot is in once.fresh old was (subst (λ d. HasEffect d x.effects) (sym origin) has)) };
   withdrawn = λ m s k r x step once. record { each = once.each; fresh = λ slot none. absurd (cc none) };
   committed = λ m s k r x e step all once. committed_once e.attributes x once;
   applied = λ m s k r x e step active none once.
       let y = having_taken e.attributes s.call (update_of s.op) m.cluster.moment x in
-      one_effect_more x y (Applied s.call (update_of s.op) m.cluster.moment) refl (alone_free m step.inv step.history.bare k r x e step.there active.found active.alone) (none_yet log m s verbs.Apply k r x step (λ is. cc is) (λ is. cc is)) once;
+      one_effect_more x y (Applied s.call (update_of s.op) m.cluster.moment) refl (alone_free m step.inv step.history.bare k r x e step.there active.found active.alone) (λ has. none_alone m step.inv step.history k r s step.held (IsSomeAnd-from (entry_of k m.cluster.entries) _ e active.found active.alone) (record { replica = x; there = step.there; effect = has })) once;
   -- a weak write is no effect until its end
   marked = λ m s k r x e step active can once. record { each = once.each; fresh = once.fresh };
   element = λ m s k r x e marks step active stand once. record { each = once.each; fresh = once.fresh };
   unmarked = λ m s k r x e marks step active stand once.
-      let none = none_yet log m s verbs.Unmark k r x step (λ is. cc is) (λ is. cc is) in
+      let none = λ (has : HasEffect s.call x.effects). none_alone m step.inv step.history k r s step.held (IsSomeAnd-from (entry_of k m.cluster.entries) _ e active.found active.alone) (record { replica = x; there = step.there; effect = has }) in
       one_effect_more x (marks_ended x (Some marks)) (Applied marks.call marks.update marks.moment) refl (alone_free m step.inv step.history.bare k r x e step.there active.found active.alone) (λ has. none (subst (λ d. HasEffect d x.effects) stand.are.call_is has)) once;
   broken_off = λ e r x marks stand free none once. one_effect_more x (broken marks x) (Broken marks.call marks.update marks.moment marks.done) refl free none once;
 }

@@ -1,46 +1,53 @@
 -- A call that has ended has no slot, from then on: it owns none, and in none its update is staged. And the calls of slots have begun in the log.
-use Rattle.std.proofs.Common.{◌≡◌, ◌≢◌, ◌⊎◌, ℕ, inl, inr, List, [], ◌∷◌, ◌++◌, Option, Some, None, Bool, true, false, refl, sym, ap, subst, ◌∙◌, append_assoc}
+use Rattle.std.proofs.Common.{◌≡◌, ◌≢◌, ◌⊎◌, ℕ, inl, inr, List, [], ◌∷◌, ◌++◌, Option, Some, None, Bool, true, false, ℤ, refl, sym, ap, subst, ◌∙◌, append_assoc}
 use Rattle.std.proofs.lemmas.Option.{same_Some}
 use Rattle.ckpt_types.specs.declared.answers.Outcome.{Outcome}
 use Rattle.ckpt_types.specs.declared.attributes.CreationAttributes.{CreationAttributes}
 use Rattle.ckpt_types.specs.declared.identities.CallId.{CallId}
-use Rattle.ckpt_types.specs.declared.operation.Op.{Op}
 use Rattle.ckpt_types.specs.declared.operation.Op.TheVariants as ops
 use Rattle.ckpt_types.specs.declared.update.Update.{Update}
 use Rattle.ckpt_types.specs.declared.words.OpWord.{OpWord}
 use Rattle.ckpt_types.specs.Asks.{Ask, asked, update_of}
 use Rattle.ckpt_types.specs.Asks as asks
-use Rattle.ckpt_types.specs.OpWord.{word_of_op}
 use Rattle.node_msgs.specs.declared.details.Details.{Details}
 use Rattle.node_msgs.specs.declared.steps.StepReply.{StepReply}
 use Rattle.node_msgs.specs.declared.steps.Verb.{Verb}
 use Rattle.run_labels.specs.declared.labels.Label.{Label}
 use Rattle.run_labels.specs.declared.labels.Label.TheVariants as labels
-use Rattle.cluster_record.specs.Calls.{client_of}
+use Rattle.cluster_record.specs.Calls.{IsClient, client_of}
+use Rattle.cluster_record.specs.declared.entries.Entry.{Entry}
+use Rattle.cluster_record.specs.DueUpdate.{UpdateState}
+use Rattle.cluster_record.specs.Placement.{is_all}
 use Rattle.cluster_record.specs.Places.{find_key}
 use Rattle.cluster_record.specs.RecordState.{client_key, is_live}
-use Rattle.ckpt_machine.specs.Acknowledged.{IsUpdateWord}
 use Rattle.ckpt_machine.specs.After.{after, committed_slot, slot_claimed, staged_moment, step_of, with_lead}
 use Rattle.ckpt_machine.specs.Dead.{IsDead}
-use Rattle.ckpt_machine.specs.Due.{IsDue}
+use Rattle.ckpt_machine.specs.Drivers.{update_in}
+use Rattle.ckpt_machine.specs.Due.{IsDue, driver_of}
 use Rattle.ckpt_machine.specs.Guards.{Allowed, Row}
-use Rattle.ckpt_machine.specs.InHand.{IsInPlace, IsUpdateIn}
+use Rattle.ckpt_machine.specs.InHand.{IsCopyIn, IsInPlace, IsUpdateAsk, IsUpdateIn}
 use Rattle.ckpt_machine.specs.InOrder.{IsLastStep}
 use Rattle.ckpt_machine.specs.Invariant.{Invariant}
 use Rattle.ckpt_machine.specs.Machine.{Machine, Staged, ReplicaState, Snapshot, CallState, who}
 use Rattle.ckpt_machine.specs.Owners.{HasBegunIn}
 use Rattle.ckpt_machine.specs.Runs.{last, IsRun}
-use Rattle.ckpt_machine.proofs.BegunBefore.{AllBegan, all_began, begun_more}
+use Rattle.ckpt_machine.specs.Shape.{Shape}
+use Rattle.ckpt_machine.specs.WasAsked.{WasAsked}
+use Rattle.ckpt_machine.proofs.Askers.{IsCopyAsk, client_asks}
+use Rattle.ckpt_machine.proofs.BegunBefore.{AllBegan, began_more, each_began}
 use Rattle.ckpt_machine.proofs.Dropped.{held_as}
+use Rattle.ckpt_machine.proofs.EachKept.{IsStagedLike, having_copied}
 use Rattle.ckpt_machine.proofs.EachReplica.{IsKeptWhen, after_each, run_copies, run_each}
 use Rattle.ckpt_machine.proofs.EndedCalls.{IsOver, over_after, ended_over}
-use Rattle.ckpt_machine.proofs.EndedTables.{live_alike}
+use Rattle.ckpt_machine.proofs.EndedTables.{live_as}
 use Rattle.ckpt_machine.proofs.GoodArguments.{good_arguments}
 use Rattle.ckpt_machine.proofs.Histories.{HasHistory, IsUpdater, run_history, slot_calls}
 use Rattle.ckpt_machine.proofs.Lives.{asks_enter, held_not_dead, state_enters}
 use Rattle.ckpt_machine.proofs.OneReplica.{StepsWhen}
 use Rattle.ckpt_machine.proofs.Runs.{along, last-push, run_before, run_front}
 use Rattle.ckpt_machine.proofs.SameClients.{awaits_change, client_stays}
+use Rattle.ckpt_machine.proofs.SameNodes.{HasSameNodes, nodes_stay}
+use Rattle.ckpt_machine.proofs.UpdateIn.{does_update}
 use Rattle.ckpt_machine.proofs.Whose.{one_call}
 
 -- ---- what is so of the calls of each slot
@@ -67,15 +74,21 @@ led_of : (P : CallId → Type 0) (o : Option Snapshot) (g : ℕ) (x : ReplicaSta
 led_of P None g x was = was
 led_of P (Some s) g x was = was
 
+-- one that a copying has brought to its node has the slot of another
+copied_of : (P : CallId → Type 0) (e f : Entry) (call : CallId) (t : ℤ) (s : Snapshot) (all : Bool) → IsStagedLike (λ o r x. OfItsCalls P x) e call t s all → OfItsCalls P (having_copied call t f s all)
+copied_of P e f call t s false like = λ slot none. absurd (cc none)
+copied_of P e f call t s true (q, y, was, slot, effects) = λ z is. was z (slot ∙ is)
+
 -- it is kept, where it is so of each call that takes a step of an update
 kept_of : (P : CallId → Type 0) (When : Machine → Type 0) (log : List Label) → ((m : Machine) (s : CallState) (verb : Verb) (k r : ℕ) (x : ReplicaState) → StepsWhen When log m s verb k r x → P s.call) → IsKeptWhen (λ o r x. OfItsCalls P x) (λ e s. Unit {0}) When log
 kept_of P When log new = record {
   opened = λ e r slot none. absurd (cc none);
   stays = λ e f r x same stays made was. was;
-  stays_copied = λ e f s same stays source is. tt;
+  stays_copied = λ e f s same stays made is. tt;
   led = λ e f r o x same goes made free none copied was. led_of P o f.generation x was;
-  pulled = λ e r x source active none is. tt;
+  pulled = λ e r x none is. tt;
   put = λ e r s x present free none copied was. was;
+  completed = λ e f r call t s same goes made copied like. copied_of P e f call t s (is_all f.attributes) like;
   staged = λ m s k r x step was slot is. (
       let staged : Staged = record { owner = s.call; origin = s.call; update = update_of s.op; moment = staged_moment m k } in
       let own = new m s _ k r x step in
@@ -92,9 +105,14 @@ kept_of P When log new = record {
 
 -- ---- the calls of slots have begun
 
+-- who was asked for an update, or was copying, has begun
+asked_begun : (log : List Label) (k : ℕ) (call : CallId) (update : Update) → WasAsked log k call update → HasBegunIn log call
+asked_begun log k call update (inl asked) = record { op = asked.op; ckpt = Some k; begun = asked.begun }
+asked_begun log k call update (inr copying) = record { op = ops.Copy; ckpt = None; begun = copying.begun }
+
 pub slots_begun : (log : List Label) → IsRun log → (k r : ℕ) (x : ReplicaState) (slot : Staged) → (last log).replicas k r ≡ Some x → x.slot ≡ Some slot → HasBegunIn log slot.owner × HasBegunIn log slot.origin
 slots_begun log run k r x slot there staged =
-    (run_each (λ o r x. OfItsCalls (HasBegunIn log) x) (λ e s. Unit {0}) log (kept_of (HasBegunIn log) (λ m. Unit {0}) log (λ m s verb k r x step. record { op = step.asked.op; ckpt = Some k; begun = step.asked.begun })) run).replica k r x there slot staged
+    (run_each (λ o r x. OfItsCalls (HasBegunIn log) x) (λ e s. Unit {0}) log (kept_of (HasBegunIn log) (λ m. Unit {0}) log (λ m s verb k r x step. asked_begun log k s.call (update_of s.op) step.asked)) run).replica k r x there slot staged
 
 -- ---- a call without a slot
 
@@ -102,9 +120,9 @@ slots_begun log run k r x slot there staged =
 abbrev OwnsNoSlot : CallId → Machine → Type 0
 OwnsNoSlot c m = OfSlots (λ d. d ≢ c) m
 
--- it is not in hand as an update
+-- it is not in hand as an update, or as a copying
 abbrev IsNoUpdate : CallId → Machine → Type 0
-IsNoUpdate c m = (s : CallState) → m.in_hand (who s) ≡ Some s → s.call ≡ c → IsUpdateWord (word_of_op s.op) → ⊥
+IsNoUpdate c m = (s : CallState) → m.in_hand (who s) ≡ Some s → s.call ≡ c → IsUpdateAsk (asked s.op) → ⊥
 
 -- so it gets none
 free_after : (front : List Label) (l : Label) → IsRun front → Allowed (last front) l → IsDue (last front) l → (c : CallId) → IsNoUpdate c (last front) → OwnsNoSlot c (last front) → OwnsNoSlot c (after (last front) l)
@@ -112,8 +130,8 @@ free_after front l before allowed due c none free =
     let (inv, history) = run_history front before in
     let copies = run_copies front before in
     let log : List Label = front ++ l ∷ [] in
-    let began : AllBegan log (last front) = λ s held. begun_more front (l ∷ []) s.call s.op s.kept.ckpt (all_began front before s held) in
-    (after_each (λ o r x. OfItsCalls (λ d. d ≢ c) x) (λ e s. Unit {0}) (IsNoUpdate c) log (kept_of (λ d. d ≢ c) (IsNoUpdate c) log (λ m s verb k r x step same. step.when s step.held same step.word)) (last front) none began
+    let began : AllBegan log (last front) = λ s held. began_more front (l ∷ []) s.call s.op s.kept.ckpt (each_began front before s held) in
+    (after_each (λ o r x. OfItsCalls (λ d. d ≢ c) x) (λ e s. Unit {0}) (IsNoUpdate c) log (kept_of (λ d. d ≢ c) (IsNoUpdate c) log (λ m s verb k r x step same. step.when s step.held same step.asks)) (last front) none began
     (record { front = front; rest = l ∷ []; log_is = refl; state_is = refl }) inv history (good_arguments front before)
     (record { replica = λ k r x there. free k r x there; snapshot = copies.snapshot; in_hand = copies.in_hand; ahead = copies.ahead }) l allowed due).replica
 
@@ -132,22 +150,35 @@ through_after front l before allowed due c through =
       free = free_after front l before allowed due c (λ s held same word. through.over.none (who s) s held same) through.free;
     }
 
--- what asks for an update
-abbrev is_change : Ask → Bool
-is_change (asks.Change place update) = true
-is_change ask = false
+-- what asks for an update, or for a copying, which does some
+abbrev is_update : Ask → Bool
+is_update (asks.Change place update) = true
+is_update asks.Copy = true
+is_update ask = false
 
-word_changes : (op : Op) → IsUpdateWord (word_of_op op) → is_change (asked op) ≡ true
-word_changes (ops.Create p u) word = refl
-word_changes (ops.Delete p u) word = refl
-word_changes (ops.Expire p u) word = refl
-word_changes (ops.Write p u) word = refl
-word_changes (ops.Over p u) word = refl
-word_changes op word = absurd word
+asks_update : (ask : Ask) → IsUpdateAsk ask → is_update ask ≡ true
+asks_update (asks.Change place update) is = refl
+asks_update asks.Copy is = refl
+asks_update ask none = absurd none
 
-change_is : (ask : Ask) → is_change ask ≡ true → (place : ℕ) × (update : Update) × (ask ≡ asks.Change place update)
-change_is (asks.Change place update) is = (place, update, refl)
-change_is ask is = absurd (cc is)
+-- such a call enters nothing
+update_stays : (ask : Ask) → is_update ask ≡ true → asks_enter ask ≡ false
+update_stays (asks.Change place update) is = refl
+update_stays asks.Copy is = refl
+update_stays ask is = absurd (cc is)
+
+-- which of both it is
+change_or_copy : (ask : Ask) → is_update ask ≡ true → ((place : ℕ) × (update : Update) × (ask ≡ asks.Change place update)) ⊎ (ask ≡ asks.Copy)
+change_or_copy (asks.Change place update) is = inl (place, update, refl)
+change_or_copy asks.Copy is = inr refl
+change_or_copy ask is = absurd (cc is)
+
+-- a call that does an update asks for one
+doer_asks : (m : Machine) (shapes : ℕ → Shape) (s : CallState) (u : UpdateState) → IsInPlace m shapes s (driver_of s) → update_in (driver_of s) ≡ Some u → is_update (asked s.op) ≡ true
+doer_asks m shapes s u here does = elim (does_update (driver_of s) u does) [
+  | inl is ↦ (let at : IsUpdateIn m shapes s u = subst (IsInPlace m shapes s) is here in asks_update (asked s.op) at.asks)
+  | inr (c, is, staging) ↦ (let at : IsCopyIn m shapes s c = subst (IsInPlace m shapes s) is here in ap is_update at.asks)
+]
 
 module _ (front : List Label) (call : CallId) (op : OpWord) (verb : Verb) (k r : Option ℕ) (reply : StepReply) (end : Outcome) (details : Details) (run : IsRun (front ++ labels.Stepped call op verb k r reply (Some end) details ∷ [])) where
   abbrev l : Label
@@ -188,16 +219,16 @@ module _ (front : List Label) (call : CallId) (op : OpWord) (verb : Verb) (k r :
   over = ended_over front l run call refl
 
   -- one that asks for no update has no slot, and gets none
-  no_update : is_change (asked s.op) ≡ false → OwnsNoSlot call n
+  no_update : is_update (asked s.op) ≡ false → OwnsNoSlot call n
   no_update other = subst (OwnsNoSlot call) (sym (last-push front l)) (free_after front l before allowed due call none free)
     where
       none : IsNoUpdate call m
-      none z at same word = let w : true ≡ false = sym (word_changes z.op word) ∙ ap (λ (z : CallState). is_change (asked z.op)) (as_s z at same) ∙ other in cc w
+      none z at same it = let w : true ≡ false = sym (asks_update (asked z.op) it) ∙ ap (λ (z : CallState). is_update (asked z.op)) (as_s z at same) ∙ other in cc w
 
       apart : (d : CallId) → IsUpdater m d ⊎ IsDead m d → d ≢ call
       apart d (inl by) same =
-          let at : IsUpdateIn m inv.shapes by.state by.driver = subst (IsInPlace m inv.shapes by.state) by.driver_is (inv.holds.hands (who by.state) by.state by.in_hand).here in
-          let w : true ≡ false = sym (ap is_change at.asks) ∙ ap (λ (z : CallState). is_change (asked z.op)) (as_s by.state by.in_hand (by.call_is ∙ same)) ∙ other in cc w
+          let asks_it = doer_asks m inv.shapes by.state by.driver (inv.holds.hands (who by.state) by.state by.in_hand).here by.driver_is in
+          let w : true ≡ false = sym asks_it ∙ ap (λ (z : CallState). is_update (asked z.op)) (as_s by.state by.in_hand (by.call_is ∙ same)) ∙ other in cc w
       apart d (inr dead) same = held_not_dead m inv.shapes inv.holds s held (subst (IsDead m) (same ∙ sym due.call_is) dead)
 
       free : OwnsNoSlot call m
@@ -205,28 +236,33 @@ module _ (front : List Label) (call : CallId) (op : OpWord) (verb : Verb) (k r :
           let (owner, origin) = slot_calls m inv.shapes inv.holds history.bare j q x slot there staged in
           (apart slot.owner owner, apart slot.origin origin)
 
-  -- of one that does the client is still live behind its last step, so it is neither in hand nor dead
-  an_update : is_change (asked s.op) ≡ true → OwnsNoSlot call n
+  -- of one that does the client, or the node, is still live behind its last step, so it is neither in hand nor dead
+  an_update : is_update (asked s.op) ≡ true → OwnsNoSlot call n
   an_update is = free
     where
       live : is_live m.cluster s.call ≡ true
-      live = let (place, update, asks_is) = change_is (asked s.op) is in
-          (inv.holds.hands (who s) s held).live (state_enters s (inv.holds.hands (who s) s held).driven ∙ ap asks_enter asks_is)
+      live = (inv.holds.hands (who s) s held).live (state_enters s (inv.holds.hands (who s) s held).driven ∙ update_stays (asked s.op) is)
 
       row : Row m s verb (record { verb = verb; ckpt = k; node = r; reply = reply; end = Some end; details = details })
       row = let state : allowed.state ≡ s = same_Some allowed.state s (sym allowed.in_hand ∙ due.in_hand) in subst (λ z. Row m z verb (record { verb = verb; ckpt = k; node = r; reply = reply; end = Some end; details = details })) state allowed.row
 
-      same_client : find_key client_key (client_of s.call) (after m l).cluster.clients ≡ find_key client_key (client_of s.call) m.cluster.clients
-      same_client =
-          let (place, update, asks_is) = change_is (asked s.op) is in
-          ap (λ o. find_key client_key (client_of s.call) (step_of m o verb k r reply (Some end)).cluster.clients) due.in_hand
-          ∙ client_stays m inv s held s held (asks.Change place update) asks_is (awaits_change place update) (Some end) details verb k r reply row
+      -- a client's call is no copying
+      same_client : IsClient s.call.actor → find_key client_key (client_of s.call) (after m l).cluster.clients ≡ find_key client_key (client_of s.call) m.cluster.clients
+      same_client client = elim (change_or_copy (asked s.op) is) [
+        | inl (place, update, asks_is) ↦ (
+            ap (λ o. find_key client_key (client_of s.call) (step_of m o verb k r reply (Some end)).cluster.clients) due.in_hand
+            ∙ client_stays m inv s held s held (asks.Change place update) asks_is (awaits_change place update) (Some end) details verb k r reply row)
+        | inr copies ↦ absurd (client_asks s.call.actor (asked s.op) (inv.holds.hands (who s) s held).asker client (subst IsCopyAsk (sym copies) tt))
+      ]
+
+      same_nodes : HasSameNodes m.cluster (after m l).cluster
+      same_nodes = subst (λ o. HasSameNodes m.cluster (step_of m o verb k r reply (Some end)).cluster) (sym due.in_hand) (let it = nodes_stay m s verb k r reply in record { up = it.up; first_calls = it.first_calls })
 
       live_then : is_live n.cluster call ≡ true
       live_then =
           ap (λ (n : Machine). is_live n.cluster call) (last-push front l)
           ∙ ap (is_live (after m l).cluster) (sym due.call_is)
-          ∙ live_alike m.cluster (after m l).cluster s.call (inv.holds.hands (who s) s held).client same_client
+          ∙ live_as m.cluster (after m l).cluster s.call (asked s.op) (inv.holds.hands (who s) s held).asker same_client same_nodes.up same_nodes.first_calls
           ∙ live
 
       apart : (d : CallId) → IsUpdater n d ⊎ IsDead n d → d ≢ call
@@ -240,9 +276,9 @@ module _ (front : List Label) (call : CallId) (op : OpWord) (verb : Verb) (k r :
           (apart slot.owner owner, apart slot.origin origin)
 
   through_by : IsThrough call n
-  through_by = record { over = over; free = by_ask (is_change (asked s.op)) refl }
+  through_by = record { over = over; free = by_ask (is_update (asked s.op)) refl }
     where
-      by_ask : (b : Bool) → is_change (asked s.op) ≡ b → OwnsNoSlot call n
+      by_ask : (b : Bool) → is_update (asked s.op) ≡ b → OwnsNoSlot call n
       by_ask true is = an_update is
       by_ask false is = no_update is
 

@@ -1,7 +1,7 @@
 -- What a call makes of its client's tables, once it has ended: no handle of a checkpoint that was not made comes to them.
 use Rattle.std.proofs.lemmas.List.Elements.{Contains-push_cases}
 use Rattle.std.proofs.Common.{length, ◌∷◌, ◌++◌, ◌+◌, ◌<◌, ◌≤◌, ◌≡◌, ◌⊎◌, ℕ, inl, inr, List, [], Option, Some, None, true, false, cond, ◌==◌, refl, sym, ap, subst, ◌∙◌, arith, Bool}
-use Rattle.std.specs.Prelude.{Contains, find, is_some, IsSome}
+use Rattle.std.specs.Prelude.{Contains, find, is_some, IsSome, nat_lt, not, slice_index, ◌&&◌}
 use Rattle.std.specs.Option.{option_and_then}
 use Rattle.ckpt_types.specs.declared.answers.Outcome.{Outcome}
 use Rattle.ckpt_types.specs.declared.answers.Outcome.TheVariants as outcomes
@@ -15,7 +15,7 @@ use Rattle.ckpt_types.specs.declared.open_flags.OpenFlags.{OpenFlags}
 use Rattle.ckpt_types.specs.declared.operation.Op.{Op}
 use Rattle.ckpt_types.specs.declared.operation.Op.TheVariants as ops
 use Rattle.ckpt_types.specs.Attributes.{open_flags_of}
-use Rattle.ckpt_types.specs.Limits.{handles_max}
+use Rattle.ckpt_types.specs.Limits.{handles_max, nodes_max}
 use Rattle.ckpt_types.specs.OpWord.{word_of_op, stepped_as}
 use Rattle.call_dispatch.specs.PendingCalls.{PendingCalls, given_by}
 use Rattle.call_dispatch.specs.declared.async_call.EndedCall.{EndedCall}
@@ -31,7 +31,7 @@ use Rattle.cluster_record.specs.Calls.{IsClient, same_actor, number_of, client_o
 use Rattle.cluster_record.specs.Places.{find_key}
 use Rattle.cluster_record.specs.LookUps.{creation_flags_of}
 use Rattle.cluster_record.specs.RecordState.{RecordState, entry_of, client_key, is_live, is_live_from}
-use Rattle.ckpt_types.specs.Asks.{Ask, asked}
+use Rattle.ckpt_types.specs.Asks.{Ask, MayAsk, asked}
 use Rattle.ckpt_types.specs.Asks as asks
 use Rattle.ckpt_machine.specs.Invariant.{InvariantIn}
 use Rattle.ckpt_machine.specs.Machine.{Machine, CallState}
@@ -59,12 +59,13 @@ pub client_by_number : (a : ActorName) → IsClient a → a ≡ Client (number_o
 client_by_number (Client c) is = refl
 client_by_number (Node r) is = absurd is
 
--- a call is live as its client is
-pub live_alike : (R S : RecordState) (call : CallId) → IsClient call.actor → find_key client_key (client_of call) S.clients ≡ find_key client_key (client_of call) R.clients → is_live S call ≡ is_live R call
-live_alike R S call client same = by_actor call.actor call.number client same where
-  by_actor : (a : ActorName) (n : ℕ) → IsClient a → find_key client_key (number_of a) S.clients ≡ find_key client_key (number_of a) R.clients → is_live S (record { actor = a; number = n }) ≡ is_live R (record { actor = a; number = n })
-  by_actor (Client d) n client same = ap (λ o. is_live_from o n) same
-  by_actor (Node r) n client same = absurd client
+-- a call is live as its client is, or its node, where no node comes or goes
+pub live_as : (R S : RecordState) (call : CallId) (ask : Ask) → MayAsk call.actor ask → (IsClient call.actor → find_key client_key (client_of call) S.clients ≡ find_key client_key (client_of call) R.clients) → S.up ≡ R.up → S.first_calls ≡ R.first_calls → is_live S call ≡ is_live R call
+live_as R S call ask may same up first = by_actor call.actor call.number ask may same where
+  by_actor : (a : ActorName) (n : ℕ) (ask : Ask) → MayAsk a ask → (IsClient a → find_key client_key (number_of a) S.clients ≡ find_key client_key (number_of a) R.clients) → is_live S (record { actor = a; number = n }) ≡ is_live R (record { actor = a; number = n })
+  by_actor (Client d) n asks.Copy may same = absurd may
+  by_actor (Client d) n ask may same = ap (λ o. is_live_from o n) (same may)
+  by_actor (Node r) n ask may same = λ i. nat_lt r nodes_max && not (slice_index (up i) r == 0) && not (nat_lt n (slice_index (first i) r))
 
 -- ---- lengths
 

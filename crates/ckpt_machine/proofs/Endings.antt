@@ -1,5 +1,5 @@
 -- A call ends only with an answer that it may have.
-use Rattle.std.proofs.Common.{◌≡◌, ℕ, List, length, Option, Some, None, Bool, true, false, cond, refl, sym, ap, subst, ◌∙◌}
+use Rattle.std.proofs.Common.{◌≡◌, ℕ, ℤ, ◌⊎◌, inl, inr, List, length, Option, Some, None, Bool, true, false, cond, refl, sym, ap, subst, ◌∙◌}
 use Rattle.std.specs.Prelude.{IfSome}
 use Rattle.ckpt_types.specs.declared.identities.CallId.{CallId}
 use Rattle.ckpt_types.specs.declared.ais_error.AisError.{AisError}
@@ -24,7 +24,9 @@ use Rattle.run_labels.specs.declared.labels.Label.TheVariants as labels
 use Rattle.ckpt_types.specs.declared.words.OpWord.{OpWord}
 use Rattle.ckpt_types.specs.OpWord.{word_of_op}
 use Rattle.cluster_record.specs.Calls.{client_of}
-use Rattle.cluster_record.specs.RecordState.{entry_of, is_live}
+use Rattle.cluster_record.specs.Joining.{completed}
+use Rattle.cluster_record.specs.Placement.{is_all}
+use Rattle.cluster_record.specs.RecordState.{RecordState, entry_of, is_live, swept}
 use Rattle.ckpt_types.specs.declared.update.Update.{Update}
 use Rattle.ckpt_types.specs.Asks.{Ask, asked}
 use Rattle.ckpt_types.specs.Asks as asks
@@ -33,7 +35,8 @@ use Rattle.ckpt_machine.specs.BeginRows.{BeginRow}
 use Rattle.ckpt_machine.specs.Complete.{complete_replicas}
 use Rattle.ckpt_machine.specs.Driving.{refused_cause}
 use Rattle.ckpt_machine.specs.Endings.{may_lack_memory, IsEndOf}
-use Rattle.ckpt_machine.specs.Guards.{AsksToOpen, Row}
+use Rattle.ckpt_machine.specs.CopyGuards.{CompleteOk, CompleteRow, CopyPullHeld, CopyPullOk, CopyPullRow, CopyReserveRow, completion_end, lacks_none}
+use Rattle.ckpt_machine.specs.Guards.{AsksOpen, AsksToOpen, Row}
 use Rattle.ckpt_machine.specs.LookGuards.{LookRow}
 use Rattle.ckpt_machine.specs.OpenGuards.{EnterRow, CreateRow, ReserveRow, FinishRow, UndoRow, OpenHeld, OpenRow, LeaveRow, CloseRow, UnlinkRow, RetainRow}
 use Rattle.ckpt_machine.specs.ActiveGuards.{HoldRow, HoldOk, HoldKeptOff, ActivateRow, ActivateOk, all_served, steps_with, PullOk, PullHeld, PullRow, InstallOk, InstallRow, ApplyOk, ApplyRow, MarkOk, MarkRow, ElementRow, UnmarkRow, ReadRow, StatusOk, StatusRow, IterOk, IterRow, NextOk, NextAnswer}
@@ -42,17 +45,18 @@ use Rattle.ckpt_machine.specs.Laws.{EndsAsItMay}
 use Rattle.ckpt_machine.specs.Machine.{Machine, CallState}
 use Rattle.node_core.specs.Serving.{update_answer}
 use Rattle.ckpt_machine.specs.Due.{Told, ids_asked}
-use Rattle.ckpt_machine.proofs.Refusing.{none_of_some, row_at_ckpt, at_node, at_none, at_node_alone, on_replica, on_all, begins_on_active}
+use Rattle.ckpt_machine.proofs.Refusing.{none_of_some, row_at_ckpt, at_node, at_none, at_node_alone, on_replica, on_all, begins_on_active, by_update}
 
 -- ---- which calls take memory
 
--- an Initialize, an open, and the start of an iteration
+-- an Initialize, an open, the start of an iteration, what has a snapshot in hand, and a copying
 abbrev may_lack : Ask → Bool
 may_lack (asks.Enter r version callbacks) = true
 may_lack (asks.Open place name flags timeout a) = true
 may_lack (asks.Iterate iteration place chosen time) = true
 may_lack (asks.Synchronize place timeout) = true
 may_lack (asks.SetActive place) = true
+may_lack asks.Copy = true
 may_lack ask = false
 
 -- each has such a word
@@ -64,6 +68,7 @@ lacks_memory (ops.Iter iteration place chosen time) is = refl
 lacks_memory (ops.Sync place timeout) is = refl
 lacks_memory (ops.SyncAsync place invocation) is = refl
 lacks_memory (ops.Active place) is = refl
+lacks_memory ops.Copy is = refl
 lacks_memory op is = absurd (cc is)
 
 open_lacks : (s : CallState) (name : List ℕ) (a : Option CreationAttributes) → AsksToOpen s name a → may_lack_memory (word_of_op s.op) ≡ true
@@ -74,6 +79,7 @@ room_lacks (asks.Open place name flags timeout a) takes = refl
 room_lacks (asks.Iterate iteration place chosen time) takes = refl
 room_lacks (asks.Synchronize place timeout) takes = refl
 room_lacks (asks.SetActive place) takes = refl
+room_lacks asks.Copy takes = refl
 room_lacks ask takes = absurd (cc takes)
 
 -- ---- an end that is none of the word
@@ -173,9 +179,9 @@ module _ (m : Machine) (s : CallState) (end : Option Outcome) (amiss : EndsAmiss
   withdraw_ends k r words.Ok row = on_all m k r (λ e x. WithdrawOk m s.call k end x) row (λ e x (ok : WithdrawOk m s.call k end x). goes_on ok.answer)
   withdraw_ends k r reply row = absurd row
 
-  commit_ends : (update : Update) (k r : ℕ) (reply : StepReply) (details : Details) → CommitRow m s.call update k r reply end details → ⊥
-  commit_ends update k r words.Ok details row = on_all m k r (λ e x. CommitOk m s.call update k r end details x) row (λ e x (ok : CommitOk m s.call update k r end details x). committed (ends_update s.call r ok.slot (complete_replicas m k)) (update_answer update) ok.answer)
-  commit_ends update k r reply details row = absurd row
+  commit_ends : (update : Update) (ends : Bool → Bool) (k r : ℕ) (reply : StepReply) (details : Details) → CommitRow m s.call update ends k r reply end details → ⊥
+  commit_ends update ends k r words.Ok details row = on_all m k r (λ e x. CommitOk m s.call update ends k r end details x) row (λ e x (ok : CommitOk m s.call update ends k r end details x). committed (ends (ends_update s.call r ok.slot (complete_replicas m k))) (update_answer update) ok.answer)
+  commit_ends update ends k r reply details row = absurd row
 
   apply_ends : (update : Update) (k r : ℕ) (t : Told) (reply : StepReply) → t.end ≡ end → ApplyRow m s update k r t reply → ⊥
   apply_ends update k r t reply is row = begins_on_active m s update false k r t (ApplyOk m update t) reply row (λ ahead e x (ok : ApplyOk m update t e x). done (update_answer update) (sym is ∙ ok.answer)) (λ error cause ends. refused error cause (sym is ∙ ends))
@@ -200,6 +206,25 @@ module _ (m : Machine) (s : CallState) (end : Option Outcome) (amiss : EndsAmiss
   pull_ends k r t words.Ok is row = on_replica m k r (PullOk m s r t) row (λ e x (ok : PullOk m s r t e x). committed (all_served (steps_with m s t) 0 e.complete) (answers.Pulled (length x.effects)) (sym is ∙ ok.answer))
   pull_ends k r t (words.Held by) is row = on_replica m k r (PullHeld m s r by t) row (λ e x (held : PullHeld m s r by t e x). refused errors.TryAgain (Holder by) (sym is ∙ held.held.answer))
   pull_ends k r t reply is row = absurd row
+
+  -- of a copying
+  copy_reserve_ends : (k r : ℕ) (reply : StepReply) → may_lack_memory (word_of_op s.op) ≡ true → CopyReserveRow m s k r reply end → ⊥
+  copy_reserve_ends k r words.Ok may row = goes_on row.1
+  copy_reserve_ends k r words.Memory may row = lacked may row.1
+  copy_reserve_ends k r reply may row = absurd row
+
+  copy_pull_ends : (k r : ℕ) (t : Told) (reply : StepReply) → t.end ≡ end → CopyPullRow m s k r t reply → ⊥
+  copy_pull_ends k r t words.Ok is row = on_replica m k r (CopyPullOk t r) row (λ e x (ok : CopyPullOk t r e x). goes_on (sym is ∙ ok.answer))
+  copy_pull_ends k r t (words.Held by) is row = on_replica m k r (CopyPullHeld m s r by t) row (λ e x (held : CopyPullHeld m s r by t e x). refused errors.TryAgain (Holder by) (sym is ∙ held.held.answer))
+  copy_pull_ends k r t reply is row = absurd row
+
+  completed_ends : (R : RecordState) (r : ℕ) (all : Bool) → end ≡ completion_end R r all → ⊥
+  completed_ends R r true is = goes_on is
+  completed_ends R r false is = committed (lacks_none R r) answers.Nothing is
+
+  complete_ends : (k r : ℕ) (reply : StepReply) → CompleteRow m s k r reply end → ⊥
+  complete_ends k r words.Ok row = none_of_some (entry_of k m.cluster.entries) (CompleteOk m s k r end) row.2 (λ e (ok : CompleteOk m s k r end e). completed_ends (swept (completed k r m.cluster)) r (is_all e.attributes) ok.answer)
+  complete_ends k r reply row = absurd row
 
   install_ends : (k r : ℕ) (t : Told) (reply : StepReply) → t.end ≡ end → InstallRow m s k r t reply → ⊥
   install_ends k r t words.Ok is row = on_replica m k r (InstallOk m s r t true) row (λ e x (ok : InstallOk m s r t true e x). committed (all_served (steps_with m s t) 0 e.complete) (answers.Pulled (length ok.pulled.effects)) (sym is ∙ ok.answer))
@@ -249,13 +274,16 @@ module _ (m : Machine) (s : CallState) (end : Option Outcome) (amiss : EndsAmiss
   row_ends verbs.Enter k r reply details row = at_node_alone k r _ row.0 (λ q p. enter_ends (client_of s.call) q reply (lacks_memory s.op (ap may_lack p.2)) p.3)
   row_ends verbs.Open k r reply details row = row_at_ckpt k r _ row.0 (λ k p. open_ends p.0 p.1 k reply (open_lacks s p.0 p.1 p.2) p.3)
   row_ends verbs.Create k r reply details row = row_at_ckpt k r _ row.0 (λ k p. create_ends p.0 p.1 k reply (open_lacks s p.0 p.1 p.2) p.3)
-  row_ends verbs.Reserve k r reply details row = at_node k r _ row.0 (λ k r p. reserve_ends k r reply p.3)
+  row_ends verbs.Reserve k r reply details row = at_node k r _ row.0 (λ k r p. any_reserve_ends k r p) where
+    any_reserve_ends : (k r : ℕ) → AsksOpen s (λ name a. ReserveRow m s k r reply end) ⊎ ((asked s.op ≡ asks.Copy) × CopyReserveRow m s k r reply end) → ⊥
+    any_reserve_ends k r (inl p) = reserve_ends k r reply p.3
+    any_reserve_ends k r (inr p) = copy_reserve_ends k r reply (lacks_memory s.op (ap may_lack p.0)) p.1
   row_ends verbs.Finish k r reply details row = row_at_ckpt k r _ row.0 (λ k p. finish_ends k reply p.3)
   row_ends verbs.Undo k r reply details row = row_at_ckpt k r _ row.0 (λ k p. undo_ends k reply (open_lacks s p.0 p.1 p.2) p.3)
-  row_ends verbs.Stage k r reply details row = at_node k r _ row.0 (λ k r p. stage_ends p.1 k r reply p.3)
-  row_ends verbs.Claim k r reply details row = at_node k r _ row.0 (λ k r p. claim_ends k r reply p.3)
-  row_ends verbs.Withdraw k r reply details row = at_node k r _ row.0 (λ k r p. withdraw_ends k r reply p.3)
-  row_ends verbs.Commit k r reply details row = at_node k r _ row (λ k r p. commit_ends p.1 k r reply details p.3)
+  row_ends verbs.Stage k r reply details row = at_node k r _ row.0 (λ k r p. by_update m s (λ update ends. StageRow m s update k r reply end) p (λ update ends row. stage_ends update k r reply row))
+  row_ends verbs.Claim k r reply details row = at_node k r _ row.0 (λ k r p. by_update m s (λ update ends. ClaimRow m s k r reply end) p (λ update ends row. claim_ends k r reply row))
+  row_ends verbs.Withdraw k r reply details row = at_node k r _ row.0 (λ k r p. by_update m s (λ update ends. WithdrawRow m s k r reply end) p (λ update ends row. withdraw_ends k r reply row))
+  row_ends verbs.Commit k r reply details row = at_node k r _ row (λ k r p. by_update m s (λ update ends. CommitRow m s.call update ends k r reply end details) p (λ update ends row. commit_ends update ends k r reply details row))
   row_ends verbs.Apply k r reply details row = at_node k r _ row (λ q n p. apply_ends p.1 q n (record { verb = verbs.Apply; ckpt = k; node = r; reply = reply; end = end; details = details }) reply refl p.3)
   row_ends verbs.Mark k r reply details row = at_node k r _ row (λ q n p. mark_ends p.1 q n (record { verb = verbs.Mark; ckpt = k; node = r; reply = reply; end = end; details = details }) reply refl p.3)
   row_ends verbs.Element k r reply details row = at_node k r _ row (λ q n p. element_ends p.1 q n (record { verb = verbs.Element; ckpt = k; node = r; reply = reply; end = end; details = details }) reply refl p.3)
@@ -266,7 +294,10 @@ module _ (m : Machine) (s : CallState) (end : Option Outcome) (amiss : EndsAmiss
   row_ends verbs.Next k r reply details row =
       let t : Told = record { verb = verbs.Next; ckpt = k; node = r; reply = reply; end = end; details = details } in
       at_node k r _ row (λ k r p. on_replica m k r (NextOk m s r t) p.2 (λ e x (ok : NextOk m s r t e x). given_ends (given (ids_asked m s) m.cluster.moment x.sections) reply details ok.answer))
-  row_ends verbs.Pull k r reply details row = at_node k r _ row.0 (λ q n p. pull_ends q n (record { verb = verbs.Pull; ckpt = k; node = r; reply = reply; end = end; details = details }) reply refl p.3)
+  row_ends verbs.Pull k r reply details row = at_node k r _ row.0 (λ q n p. any_pull_ends q n (record { verb = verbs.Pull; ckpt = k; node = r; reply = reply; end = end; details = details }) refl p) where
+    any_pull_ends : (q n : ℕ) (t : Told) → t.end ≡ end → ((place : ℕ) × (timeout : Option ℤ) × (asked s.op ≡ asks.Synchronize place timeout) × PullRow m s q n t reply) ⊎ ((asked s.op ≡ asks.Copy) × CopyPullRow m s q n t reply) → ⊥
+    any_pull_ends q n t is (inl p) = pull_ends q n t reply is p.3
+    any_pull_ends q n t is (inr p) = copy_pull_ends q n t reply is p.1
   row_ends verbs.Install k r reply details row = at_node k r _ row.0 (λ q n p. install_ends q n (record { verb = verbs.Install; ckpt = k; node = r; reply = reply; end = end; details = details }) reply refl p.3)
   row_ends verbs.Hold k r reply details row = at_node k r _ row.0 (λ q n p. hold_ends q n (record { verb = verbs.Hold; ckpt = k; node = r; reply = reply; end = end; details = details }) reply refl p.2)
   row_ends verbs.Activate k r reply details row = at_node k r _ row.0 (λ k r p. activate_ends k r reply p.2)
@@ -275,11 +306,11 @@ module _ (m : Machine) (s : CallState) (end : Option Outcome) (amiss : EndsAmiss
   row_ends verbs.Unlink k r reply details row = row_at_ckpt k r _ row.0 (λ k p. unlink_ends p.0 k reply p.2)
   row_ends verbs.Retain k r reply details row = row_at_ckpt k r _ row.0 (λ k p. retain_ends k reply p.3)
   row_ends verbs.Look k r reply details row = look_not_amiss m s (word_of_op s.op) reply end row.2 amiss
-  row_ends verb k r reply details row = absurd row
+  row_ends verbs.Complete k r reply details row = at_node k r _ row.0 (λ k r p. complete_ends k r reply p.1)
 
 -- ---- the law
 
--- a beginning lacks_memory memory where it takes the room of an iteration or of a snapshot
+-- a beginning may lack memory where it takes the room of an iteration or of a snapshot
 begin_ends : (st : Standing) (op : Op) (end : Option Outcome) → BeginRow st (asked op) end → IfSome end (IsEndOf (word_of_op op))
 begin_ends st op None row = tt
 begin_ends st op (Some (Done answer)) row = tt

@@ -10,7 +10,7 @@ use Rattle.ckpt_types.specs.declared.identities.ActorName.TheVariants.{Client, N
 use Rattle.node_msgs.specs.declared.next.RecordStep.TheVariants as events
 use Rattle.node_msgs.specs.declared.next.Next.TheVariants.{Event, End}
 use Rattle.cluster_record.specs.declared.clients.LiveClient.{LiveClient}
-use Rattle.cluster_record.specs.Calls.{same_actor, number_of, client_of}
+use Rattle.cluster_record.specs.Calls.{IsClient, same_actor, number_of, client_of}
 use Rattle.cluster_record.specs.DueOnce.{Enter, enter_next}
 use Rattle.cluster_record.specs.Places.{find_key}
 use Rattle.cluster_record.specs.RecordState.{RecordState, client_key, is_live, is_live_from, is_live_client, entered}
@@ -34,7 +34,7 @@ use Rattle.ckpt_machine.specs.Due.{Told, IsDone, IsEvent, driver_of}
 use Rattle.ckpt_machine.specs.LookGuards.{LookRefused}
 use Rattle.ckpt_machine.specs.OpenGuards.{MayEnter}
 use Rattle.ckpt_machine.specs.Shape.{Shape}
-use Rattle.ckpt_machine.proofs.EndedTables.{live_alike, client_by_number, other_number, registering_keeps}
+use Rattle.ckpt_machine.proofs.EndedTables.{live_as, client_by_number, other_number, registering_keeps}
 use Rattle.ckpt_machine.proofs.Moment.{IsLaterEntry-refl}
 use Rattle.ckpt_machine.proofs.PlainCalls.{is_plain, ending, plain_ends, look_goes, swept_keeps}
 use Rattle.ckpt_machine.proofs.DueStep.{Goes}
@@ -100,7 +100,7 @@ module _ (m : Machine) (shapes : ℕ → Shape) (inv : InvariantIn shapes m) (s 
           let it : true ≡ false = sym (same_who-refl (who s)) ∙ ap (λ v. same_who v (who s)) (sym name) ∙ other in
           cc it
       by_word same true async =
-          let live = client_live m.cluster z.call was.client (was.live (async_no_enter m shapes z async (driver_of z) was.here)) in
+          let live = client_live m.cluster z.call (subst IsClient (sym same) at_enter.client) (was.live (async_no_enter m shapes z async (driver_of z) was.here)) in
           let it : true ≡ false = sym live ∙ ap (λ a. is_live_client (number_of a) m.cluster) same ∙ at_enter.not_live in
           cc it
 
@@ -108,8 +108,8 @@ module _ (m : Machine) (shapes : ℕ → Shape) (inv : InvariantIn shapes m) (s 
       by_actor false apart = apart
       by_actor true same = absurd (by_word (same_actor-true z.call.actor s.call.actor same) (is_async (word_of_op z.op)) refl)
 
-  others_client : (w : Who) (z : CallState) → same_who w (who s) ≡ false → m.in_hand w ≡ Some z → (client_of z.call == c) ≡ false
-  others_client w z other at = other_number z.call.actor s.call.actor (inv.hands w z at).client at_enter.client (others_actor w z other at)
+  others_client : (w : Who) (z : CallState) → same_who w (who s) ≡ false → m.in_hand w ≡ Some z → IsClient z.call.actor → (client_of z.call == c) ≡ false
+  others_client w z other at client = other_number z.call.actor s.call.actor client at_enter.client (others_actor w z other at)
 
   -- the client is in the record
   entered_keeps : InvariantIn shapes (ending s (record_step (entered c r s.call.number) m))
@@ -120,8 +120,8 @@ module _ (m : Machine) (shapes : ℕ → Shape) (inv : InvariantIn shapes m) (s 
         | false ↦ λ other. inv.clients d
       ] refl))
       (λ d dead. dead_then d.actor d.number dead.gone (λ same. dead.before (who s) s held (client_by_number s.call.actor at_enter.client ∙ sym same) (ap is_enter is)))
-      (λ w z other at live. live_alike m.cluster R z.call (inv.hands w z at).client (found_other (client_of z.call) (others_client w z other at)) ∙ live)
-      (λ w z other at. found_other (client_of z.call) (others_client w z other at))
+      (λ w z other at live. live_as m.cluster R z.call (asked z.op) (inv.hands w z at).asker (λ client. found_other (client_of z.call) (others_client w z other at client)) refl refl ∙ live)
+      (λ w z other at client. found_other (client_of z.call) (others_client w z other at client))
       (λ a z k e other at was by. ap is_some was)
       (λ a h among. found_other (number_of a) (not_entering a (inv.handles a h among).live))
 

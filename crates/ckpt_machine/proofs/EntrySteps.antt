@@ -7,7 +7,7 @@ use Rattle.ckpt_types.specs.declared.identities.ActorName.TheVariants.{Client}
 use Rattle.ckpt_types.specs.declared.identities.CallId.{CallId}
 use Rattle.ckpt_types.specs.declared.identities.Who.{Who}
 use Rattle.ckpt_types.specs.Asks.{asked}
-use Rattle.ckpt_types.specs.Limits.{handles_max}
+use Rattle.ckpt_types.specs.Limits.{checkpoints_max, handles_max}
 use Rattle.weak_marks.specs.Marks.{Marked}
 use Rattle.cluster_record.specs.declared.calls.Making.{Making}
 use Rattle.cluster_record.specs.declared.entries.Entry.{Entry}
@@ -21,20 +21,23 @@ use Rattle.ckpt_machine.specs.Drivers as drivers
 use Rattle.ckpt_machine.specs.Entries.{AllStay, WasMade}
 use Rattle.ckpt_machine.specs.Dead.{IsDead}
 use Rattle.ckpt_machine.specs.InHand.{attributes_asked, IsMakingIn, IsInHand}
-use Rattle.ckpt_machine.specs.Invariant.{IsMaker, IsGoodIn, IsOfGeneration, IsCompleteAt, HasPlaces, InvariantIn}
+use Rattle.ckpt_machine.specs.Invariant.{IsMaker, IsGoodIn, IsOfGeneration, IsCompleteAt, IsReservedFor, HasPlaces, InvariantIn}
 use Rattle.ckpt_machine.specs.Machine.{Machine, ReplicaState, Snapshot, CallState, who}
 use Rattle.ckpt_machine.specs.Shape.{Shape, IsCompleteOn, IsOwner, IsMarker, IsHolder, IsSpread}
 use Rattle.ckpt_machine.specs.After.{with_record, opened_state, replica_under, reservation_under, snapshot_under}
 use Rattle.ckpt_machine.specs.Due.{driver_of}
+use Rattle.ckpt_machine.proofs.FewEntries.{few-change_key}
 use Rattle.ckpt_machine.proofs.CallsKept.{IsSameCall, same_call-None, apart_from, calls_left}
 use Rattle.ckpt_machine.proofs.EntryLists.{find_key-change_key, AllStay-change_key, swept-all}
 use Rattle.ckpt_machine.proofs.Handles.{IsGoodHandle-later}
-use Rattle.ckpt_machine.proofs.OptionLemmas.{IsSomeAnd-at}
+use Rattle.ckpt_machine.proofs.OptionLemmas.{IsSomeAnd-at, IsSomeAnd-from}
 use Rattle.ckpt_machine.proofs.Lives.{LivesOn, lives_on-one, enters-one, dead_on}
-use Rattle.ckpt_machine.proofs.OtherCalls.{LooksAlike, LooksLater, LooksLater-refl, making_still, IsIn-apart, IsInHand-alike, IsGoodIn-alike}
+use Rattle.ckpt_machine.proofs.OtherCalls.{LooksAlike, LooksLater, LooksLater-refl, LiesUnder-refl, home_stays, making_still, IsIn-apart, IsInHand-alike, IsGoodIn-alike}
 use Rattle.ckpt_machine.specs.Whose.{put_who, same_who}
 use Rattle.ckpt_machine.proofs.Whose.{put_who-cases, put_who-other, apart_states}
-use Rattle.ckpt_types.proofs.Lists.{slice_index-replicate}
+use Rattle.ckpt_machine.proofs.LaterIncarnations.{incarnations_stay}
+use Rattle.ckpt_machine.proofs.ReservedUnder.{reserved_free, reserved_later}
+use Rattle.ckpt_machine.proofs.UpdateIn.{sync_apart}
 
 module _ (m : Machine) (shapes : ℕ → Shape) (inv : InvariantIn shapes m) (s : CallState) (u : SyncState) (held : m.in_hand (who s) ≡ Some s) (is : driver_of s ≡ drivers.Sync u) where
   -- ---- other calls
@@ -44,7 +47,7 @@ module _ (m : Machine) (shapes : ℕ → Shape) (inv : InvariantIn shapes m) (s 
   other_by_driver z there apart = apart_states m.in_hand z s there held (λ same. apart (ap driver_of same ∙ is))
 
   pub owner_other : (j : ℕ) (sh : Shape) (d : CallId) (own : IsOwner m j sh d) → same_who (who own.state) (who s) ≡ false
-  owner_other j sh d own = other_by_driver own.state own.in_hand (λ same. let w : drivers.Update own.driver ≡ drivers.Sync u = sym own.driver_is ∙ same in cc w)
+  owner_other j sh d own = other_by_driver own.state own.in_hand (sync_apart (driver_of own.state) own.driver u own.driver_is)
 
   pub marker_other : (j : ℕ) (marks : Marked) (own : IsMarker m j marks) → same_who (who own.state) (who s) ≡ false
   marker_other j marks own = other_by_driver own.state own.in_hand (λ same. let w : drivers.Active own.driver ≡ drivers.Sync u = sym own.driver_is ∙ same in cc w)
@@ -70,11 +73,12 @@ module _ (m : Machine) (shapes : ℕ → Shape) (inv : InvariantIn shapes m) (s 
     none_live = inv.none_live;
     rises = inv.rises;
     up_to = inv.up_to;
+    few = inv.few;
     swept = inv.swept;
     entries = λ j e found.
         let other = apart j e found (j == u.ckpt) refl in
         IsGoodIn-alike m (record m { in_hand = hands }) j lives (shapes j) e (λ q there. refl)
-        (λ d own. put_who-other m.in_hand (who s) None (who own.state) (owner_other j (shapes j) d own)) (λ marks stand own. put_who-other m.in_hand (who s) None (who own.state) (marker_other j marks own))
+        (λ r d owns own. put_who-other m.in_hand (who s) None (who own.state) (owner_other j (shapes j) d own)) (λ marks stand own. put_who-other m.in_hand (who s) None (who own.state) (marker_other j marks own))
         (λ active d own. put_who-other m.in_hand (who s) None (who own.state) (holder_other j active d other own)) (λ d own. put_who-other m.in_hand (who s) None (who own.state) (maker_other j d own)) e.making (inv.entries j e found);
     replicas = inv.replicas;
     reserves = inv.reserves;
@@ -95,7 +99,7 @@ module _ (m : Machine) (shapes : ℕ → Shape) (inv : InvariantIn shapes m) (s 
       hands_left : (b : Who) (z : CallState) → put_who m.in_hand (who s) None b ≡ Some z → IsInHand (record m { in_hand = put_who m.in_hand (who s) None }) shapes b z
       hands_left b z left = elim (put_who-cases m.in_hand (who s) None b z left) [
         | inl here ↦ absurd (let w : None ≡ Some z = here.1 in cc w)
-        | inr other ↦ (let was = inv.hands b z other.1 in record { whose = was.whose; client = was.client; number = was.number; built = was.built; driven = was.driven; live = was.live; home = was.home; here = IsIn-apart m shapes m.next m.pending (put_who m.in_hand (who s) None) dead z (driver_of z) was.here })
+        | inr other ↦ (let was = inv.hands b z other.1 in record { whose = was.whose; asker = was.asker; number = was.number; built = was.built; driven = was.driven; live = was.live; home = was.home; here = IsIn-apart m shapes m.next m.pending (put_who m.in_hand (who s) None) dead z was.asker (driver_of z) was.here })
       ]
 
       lives : LivesOn m (record m { in_hand = put_who m.in_hand (who s) None })
@@ -195,29 +199,22 @@ module _ (m : Machine) (shapes : ℕ → Shape) (inv : InvariantIn shapes m) (s 
             ∙ ap (λ cs. cond (slice_index cs q == 0) None (cond (slice_index was.entry.complete q == 0) (Some (opened_state g)) (m.replicas j q))) was.nodes
             ∙ by_free g was (slice_index was.entry.complete q == 0) refl
 
-    -- what is reserved is for a checkpoint in the making, and stays
+    -- what is reserved is for a checkpoint that is there, on a node that is not complete, and stays
     reserved_stay : (j q : ℕ) → reservation_under (entry_of j R.entries) q (m.reserved j q) ≡ m.reserved j q
     reserved_stay j q = by_entry (entry_of j R.entries) refl
       where
-        none_there : ((g : Entry) → entry_of j m.cluster.entries ≡ Some g → IsSome g.making → ⊥) → (o : Option ℕ) → m.reserved j q ≡ o → None ≡ m.reserved j q
+        none_there : ((n : ℕ) → m.reserved j q ≡ Some n → ⊥) → (o : Option ℕ) → m.reserved j q ≡ o → None ≡ m.reserved j q
         none_there cant None none = sym none
-        none_there cant (Some n) some = absurd (let (g, was, making) = IsSomeAnd-at (entry_of j m.cluster.entries) (λ (e : Entry). IsSome e.making) (inv.reserves j q n some) in cant g was making)
-
-        -- one in the making is complete nowhere
-        made_only : (g : Entry) → entry_of j m.cluster.entries ≡ Some g → (maker : Option CallId) → g.making ≡ maker → is_some maker ≡ true → (slice_index g.complete q == 0) ≡ true
-        made_only g was None making some = absurd (cc some)
-        made_only g was (Some d) making some =
-            let good : IsGoodIn m j (shapes j) g (Some d) = subst (IsGoodIn m j (shapes j) g) making (inv.entries j g was) in
-            ap (λ cs. slice_index cs q == 0) good.0.complete ∙ ap (λ n. n == 0) (slice_index-replicate 8 q)
+        none_there cant (Some n) some = absurd (cant n some)
 
         by_free : (g : Entry) (was : Before j g) (b : Bool) → (slice_index was.entry.complete q == 0) ≡ b → cond b (m.reserved j q) None ≡ m.reserved j q
         by_free g was true free = refl
-        by_free g was false there = none_there (λ x found making. (let x_is : was.entry ≡ x = same_Some was.entry x (sym was.was ∙ found) in let w : true ≡ false = sym (made_only x found x.making refl making) ∙ ap (λ (y : Entry). slice_index y.complete q == 0) (sym x_is) ∙ there in cc w)) (m.reserved j q) refl
+        by_free g was false there = none_there (λ n some. (let w : true ≡ false = sym (reserved_free m shapes inv j q n some was.entry was.was) ∙ there in cc w)) (m.reserved j q) refl
 
         by_entry : (o : Option Entry) → entry_of j R.entries ≡ o → reservation_under (entry_of j R.entries) q (m.reserved j q) ≡ m.reserved j q
         by_entry None gone =
             ap (λ o. reservation_under o q (m.reserved j q)) gone
-            ∙ none_there (λ g was making. (let w : false ≡ true = sym (ap (λ o. is_some o) gone) ∙ found_still j g was in cc w)) (m.reserved j q) refl
+            ∙ none_there (λ n some. (let (g, was, for) = IsSomeAnd-at (entry_of j m.cluster.entries) (IsReservedFor m.cluster q n) (inv.reserves j q n some) in let w : false ≡ true = sym (ap (λ o. is_some o) gone) ∙ found_still j g was in cc w)) (m.reserved j q) refl
         by_entry (Some g) there =
             let was = before j g there in
             ap (λ o. reservation_under o q (m.reserved j q)) there
@@ -242,7 +239,7 @@ module _ (m : Machine) (shapes : ℕ → Shape) (inv : InvariantIn shapes m) (s 
       -- another checkpoint is as it was
       IsGoodIn-other : LivesOn m then_machine → (j : ℕ) (g : Entry) (maker : Option CallId) → (j == u.ckpt) ≡ false → IsGoodIn m j (shapes j) g maker → IsGoodIn then_machine j (shapes j) g maker
       IsGoodIn-other lives j g maker other good = IsGoodIn-alike m then_machine j lives (shapes j) g (λ q there. elsewhere j q other)
-          (λ d own. put_who-other m.in_hand (who s) o (who own.state) (owner_other j (shapes j) d own)) (λ marks stand own. put_who-other m.in_hand (who s) o (who own.state) (marker_other j marks own))
+          (λ r d owns own. put_who-other m.in_hand (who s) o (who own.state) (owner_other j (shapes j) d own)) (λ marks stand own. put_who-other m.in_hand (who s) o (who own.state) (marker_other j marks own))
           (λ active d own. put_who-other m.in_hand (who s) o (who own.state) (holder_other j active d other own)) (λ d own. put_who-other m.in_hand (who s) o (who own.state) (maker_other j d own)) maker good
 
       -- another call makes what it made
@@ -269,28 +266,32 @@ module _ (m : Machine) (shapes : ℕ → Shape) (inv : InvariantIn shapes m) (s 
                   let g_is : g ≡ e = same_Some g e (sym was ∙ ap (λ n. entry_of n m.cluster.entries) (eqb-true w.ckpt u.ckpt same) ∙ found) in
                   absurd (let v : None ≡ Some z.call = sym made ∙ ap (λ (x : Entry). x.making) (sym g_is) ∙ made_by in cc v)
 
-      module _ (looks : (z : CallState) → z.call ≢ s.call → LooksLater z (shapes u.ckpt).marks e f) where
+      module _ (looks : (z : CallState) → z.call ≢ s.call → LooksLater m.cluster.up z (shapes u.ckpt) e f) where
         looks_then : ((d : CallId) → IsDead m d → IsDead then_machine d) → (z : CallState) → z.call ≢ s.call → LooksAlike m then_machine shapes shapes z
         looks_then dead z other = record {
           up = λ r up. up;
-          lives = refl;
-          home = refl;
+          incarnations = incarnations_stay m.cluster R refl refl;
+          lives = λ client. refl;
+          node = λ r own. refl;
+          home = home_stays z.call.actor m.cluster R refl;
           handle = λ there. there;
           making = λ v at. making_still m then_machine z v (making_then z) at;
           made = WasMade-then;
           later = λ j was g there. by_test j g there (j == u.ckpt) refl;
+          reserved = λ j r was own g there free. refl;
           owners = λ j was r. refl;
           marks = λ j was. refl;
+          under = λ j was x there all. LiesUnder-refl (shapes j);
           dead = λ j f was found. dead;
           done = λ j was done. done;
         }
           where
-            by_test : (j : ℕ) (g : Entry) → entry_of j R.entries ≡ Some g → (b : Bool) → (j == u.ckpt) ≡ b → (x : Entry) × (entry_of j m.cluster.entries ≡ Some x) × LooksLater z (shapes j).marks x g
-            by_test j g there false apart = (g, sym (entry_other j apart) ∙ there, LooksLater-refl z (shapes j).marks g)
+            by_test : (j : ℕ) (g : Entry) → entry_of j R.entries ≡ Some g → (b : Bool) → (j == u.ckpt) ≡ b → (x : Entry) × (entry_of j m.cluster.entries ≡ Some x) × LooksLater m.cluster.up z (shapes j) x g
+            by_test j g there false apart = (g, sym (entry_other j apart) ∙ there, LooksLater-refl m.cluster.up z (shapes j) g)
             by_test j g there true same =
                 let k_is : u.ckpt ≡ j = sym (eqb-true j u.ckpt same) in
                 let g_is : f ≡ g = same_Some f g (sym entry_here ∙ ap (λ n. entry_of n R.entries) k_is ∙ there) in
-                (e, ap (λ n. entry_of n m.cluster.entries) (sym k_is) ∙ found, subst (λ n. LooksLater z (shapes n).marks e g) k_is (subst (LooksLater z (shapes u.ckpt).marks e) g_is (looks z other)))
+                (e, ap (λ n. entry_of n m.cluster.entries) (sym k_is) ∙ found, subst (λ n. LooksLater m.cluster.up z (shapes n) e g) k_is (subst (LooksLater m.cluster.up z (shapes u.ckpt) e) g_is (looks z other)))
 
         -- the invariant holds after it, where it holds of the checkpoint, of the replicas and of the call
         pub entry_keeps : IsSameCall s o → (LivesOn m then_machine → IsSpread then_machine u.ckpt (shapes u.ckpt) f) → ((j q : ℕ) (x : ReplicaState) → F j q ≡ Some x → IsCompleteAt R j q x.generation) → ((z : CallState) → o ≡ Some z → IsInHand then_machine shapes (who s) z) → InvariantIn shapes then_machine
@@ -301,6 +302,7 @@ module _ (m : Machine) (shapes : ℕ → Shape) (inv : InvariantIn shapes m) (s 
           none_live = inv.none_live;
           rises = IdentitiesRise-change_key change keeps u.ckpt m.cluster.entries inv.rises;
           up_to = AllUpTo-change_key change keeps m.cluster.last_identity u.ckpt m.cluster.entries inv.up_to;
+          few = few-change_key change u.ckpt m.cluster.entries checkpoints_max inv.few;
           swept = stay;
           entries = λ j g there. by_test j g there (j == u.ckpt) refl;
           replicas = complete_then;
@@ -334,8 +336,12 @@ module _ (m : Machine) (shapes : ℕ → Shape) (inv : InvariantIn shapes m) (s 
                 let g_is : f ≡ g = same_Some f g (sym entry_here ∙ ap (λ n. entry_of n R.entries) k_is ∙ there) in
                 subst (λ (x : Entry). IsGoodIn then_machine j (shapes j) x x.making) g_is (subst (λ n. IsGoodIn then_machine n (shapes n) f f.making) k_is (subst (IsGoodIn then_machine u.ckpt (shapes u.ckpt) f) (sym still_made) (spread lives)))
 
-            reserves_then : (j q n : ℕ) → m.reserved j q ≡ Some n → (b : Bool) → (j == u.ckpt) ≡ b → IsSomeAnd (entry_of j R.entries) (λ e. IsSome e.making)
-            reserves_then j q n reserved false other = subst (λ o. IsSomeAnd o (λ (x : Entry). IsSome x.making)) (sym (entry_other j other)) (inv.reserves j q n reserved)
+            reserves_then : (j q n : ℕ) → m.reserved j q ≡ Some n → (b : Bool) → (j == u.ckpt) ≡ b → IsSomeAnd (entry_of j R.entries) (IsReservedFor R q n)
+            reserves_then j q n reserved false other = subst (λ o. IsSomeAnd o (IsReservedFor m.cluster q n)) (sym (entry_other j other)) (inv.reserves j q n reserved)
             reserves_then j q n reserved true same =
-                let making : IsSome e.making = subst (λ o. IsSomeAnd o (λ (x : Entry). IsSome x.making)) (ap (λ i. entry_of i m.cluster.entries) (eqb-true j u.ckpt same) ∙ found) (inv.reserves j q n reserved) in
-                absurd (let w : false ≡ true = sym (ap (λ o. is_some o) made) ∙ making in cc w)
+                let k_is : j ≡ u.ckpt = eqb-true j u.ckpt same in
+                let there : entry_of j m.cluster.entries ≡ Some e = ap (λ i. entry_of i m.cluster.entries) k_is ∙ found in
+                let for : IsReservedFor m.cluster q n e = subst (λ o. IsSomeAnd o (IsReservedFor m.cluster q n)) there (inv.reserves j q n reserved) in
+                let free : (slice_index f.complete q == 0) ≡ true = ap (λ cs. slice_index cs q == 0) complete ∙ reserved_free m shapes inv j q n reserved e there in
+                IsSomeAnd-from (entry_of j R.entries) (IsReservedFor R q n) f (ap (λ i. entry_of i R.entries) k_is ∙ entry_here)
+                (reserved_later m.cluster R q n e f (still_made ∙ sym made) (ap (λ (x : Entry). x.attributes) (sym f_is) ∙ attributes) free refl for)

@@ -1,5 +1,5 @@
 -- What the code relies on holds wherever the invariant does.
-use Rattle.std.proofs.Common.{◌≡◌, ℕ, inl, inr, ◌<◌, List, length, Option, Some, None, Bool, true, false, cond, not, ◌&&◌, ◌==◌, nat_le, ℤ, refl, sym, ap, subst, ◌∙◌}
+use Rattle.std.proofs.Common.{◌≡◌, ℕ, inl, inr, ◌<◌, List, length, slice_index, Option, Some, None, Bool, true, false, cond, not, ◌&&◌, ◌==◌, nat_le, ℤ, refl, sym, ap, subst, ◌∙◌}
 use Rattle.std.specs.Prelude.{is_some, IsSome, IsSomeAnd, IfSome, pos, ◌≤ℤ◌}
 use Rattle.std.proofs.lemmas.Bool.{eqb-true, leb-false}
 use Rattle.ckpt_types.specs.declared.ais_error.AisError.TheVariants.{NoResources, BadOperation, TryAgain}
@@ -29,8 +29,8 @@ use Rattle.cluster_record.specs.declared.calls.PulledAt.{PulledAt}
 use Rattle.cluster_record.specs.DueUpdate.{UpdateState, by_phase, stage_at, commit_at, commit_first, update_led, update_next, update_on, claim_at}
 use Rattle.cluster_record.specs.RecordState.{entry_of, named, is_live, can_be_held, can_lead}
 use Rattle.cluster_record.specs.StepDone.{has, first_lacking, last_having}
-use Rattle.ckpt_types.specs.Asks.{asked, update_asked, update_of, IsBuiltAsk, IsBuilt}
-use Rattle.ckpt_machine.specs.Drivers.{Driver, Rooms}
+use Rattle.ckpt_types.specs.Asks.{asked, update_asked, IsBuiltAsk, IsBuilt}
+use Rattle.ckpt_machine.specs.Drivers.{Driver, Rooms, update_in}
 use Rattle.ckpt_machine.specs.Drivers as drivers
 use Rattle.ckpt_machine.specs.Driving.{driver_next}
 use Rattle.ckpt_machine.specs.Machine.{Machine, CallState, who}
@@ -38,7 +38,7 @@ use Rattle.node_core.specs.Fitting.{IsReadyFor}
 use Rattle.cluster_record.specs.Placement.{is_all, is_collocated}
 use Rattle.ckpt_machine.specs.Due.{due, driver_of, room_in, room_at, rooms_of}
 use Rattle.ckpt_machine.specs.Seen.{seen_at, seen, seen_slot}
-use Rattle.ckpt_machine.specs.Facts.{IsActive, IsAtRest, IsLeadable, IsServable, IsEventReady, IsStarting, IsGoingOn, HasCopyRoom, HasLiveMarker, Facts}
+use Rattle.ckpt_machine.specs.Facts.{IsActive, IsAtRest, IsLeadable, IsStarting, IsGoingOn, HasCopyRoom, HasLiveMarker, Facts}
 use Rattle.ckpt_machine.specs.InHand.{MarksFit, IsEnterAt, IsOnceAt, IsInPlace, IsActiveIn, is_held_by, IsSynchronizeIn, IsSettingIn}
 use Rattle.ckpt_machine.specs.Invariant.{InvariantIn, Invariant, IsGoodIn}
 use Rattle.ckpt_machine.specs.GuardTerms.{deadline_of}
@@ -54,6 +54,8 @@ use Rattle.ckpt_machine.proofs.NodeLists.{index-within}
 use Rattle.ckpt_machine.proofs.SettingActive.{at_setting, spread, collocated, on_complete, complete_here, own_hold}
 use Rattle.cluster_record.specs.Calls.{same_call}
 use Rattle.std.proofs.lemmas.Option.{same_Some}
+use Rattle.ckpt_machine.proofs.CopyReady.{copy_ready}
+use Rattle.ckpt_machine.proofs.DueReady.{IsDueReady}
 use Rattle.ckpt_machine.proofs.Deadlines.{in_time-either}
 use Rattle.ckpt_machine.proofs.Installing.{below, free_there}
 use Rattle.ckpt_machine.proofs.OnTheActive.{apart, marker_live}
@@ -65,24 +67,9 @@ use Rattle.cluster_record.specs.declared.calls.MarksMade.{MarksMade}
 use Rattle.ckpt_machine.proofs.OpenReady.{IsReadyOpen, open_ready, open_fits}
 use Rattle.ckpt_machine.proofs.OwnMaking.{making_is}
 use Rattle.ckpt_machine.proofs.Propagated.{complete_there, target_there, target_free}
-use Rattle.ckpt_machine.proofs.UpdateReady.{HasMoment, HasStaged, IsReadyNext, update_ready}
+use Rattle.ckpt_machine.proofs.UpdateReady.{IsReadyNext, update_ready}
 use Rattle.ckpt_types.specs.declared.identities.Who.{Who}
 use Rattle.ckpt_machine.proofs.OptionLemmas.{IsSomeAnd-from, IfSome-at}
-
--- what it relies on of a weak write that begins, of an iteration that is started, and of one that goes on; and of a pull and an installation
-abbrev pub IsFor : Machine → CallState → Request → Type 0
-IsFor m s (requests.Mark call k) = IsWrite (update_of s.op)
-IsFor m s (requests.Iterate call k choice) = IsStarting m s k choice
-IsFor m s (requests.Next call k) = IsGoingOn m s
-IsFor m s (requests.Pull call k) = HasCopyRoom m s k
-IsFor m s (requests.Install call k) = HasCopyRoom m s k × IsSome s.snapshot
-IsFor m s request = Unit {0}
-
--- what the code relies on of what is due
-abbrev pub IsDueReady : Machine → CallState → Driver → Next → Type 0
-IsDueReady m s d (Serve r request) = (r < 8) × IsServable m r request × HasMoment m r request × HasStaged m s r request × IsFor m s request
-IsDueReady m s d (Event step) = IsEventReady m s d step
-IsDueReady m s d (End o) = Unit {0}
 
 -- ---- an open
 
@@ -407,9 +394,10 @@ module _ (m : Machine) (shapes : ℕ → Shape) (inv : InvariantIn shapes m) (s 
   driver_ready : (d : Driver) → driver_of s ≡ d → IsDueReady m s d (driver_next m.cluster (rooms_of m s) d)
   driver_ready (drivers.Once x) is = once_ready m s x (here_is (drivers.Once x) is)
   driver_ready (drivers.Open o) is = open_due m s o (driver_next m.cluster (rooms_of m s) (drivers.Open o)) (subst (λ d. IsReadyOpen m s o (driver_next m.cluster (rooms_of m s) d)) is (open_ready m shapes inv s o held is))
-  driver_ready (drivers.Update u) is = update_due m s u (update_ready m shapes inv s u held is)
+  driver_ready (drivers.Update u) is = update_due m s u (update_ready m shapes inv s u held (ap update_in is) (here_is (drivers.Update u) is))
   driver_ready (drivers.Active a) is = active_ready m shapes inv s a.call a.ckpt a.kind a.marks held is (rooms_of m s)
   driver_ready (drivers.Sync u) is = sync_ready m shapes inv s u held is
+  driver_ready (drivers.Copy c) is = copy_ready m shapes inv s c held is
 
 -- ---- the facts
 
@@ -424,23 +412,23 @@ module _ (m : Machine) (inv : Invariant m) where
   ready_for : (a : Who) (s : CallState) (next : Next) → m.in_hand a ≡ Some s → due m s ≡ next → IsDueReady m s (driver_of s) next
   ready_for a s next here is = subst (IsDueReady m s (driver_of s)) is (all_ready a s here)
 
--- one in the making has no active
-unled_there : (m : Machine) (k : ℕ) (sh : Shape) (e : Entry) (by : Option CallId) → IsSome by → IsGoodIn m k sh e by → e.active ≡ None
-unled_there m k sh e None some good = absurd (cc some)
-unled_there m k sh e (Some call) some good = good.0.unled
+-- the active of a checkpoint is complete: one in the making has none
+led_there : (m : Machine) (k r : ℕ) (sh : Shape) (e : Entry) (by : Option CallId) → IsGoodIn m k sh e by → e.active ≡ Some r → (slice_index e.complete r == 0) ≡ false
+led_there m k r sh e None good led = active_by-complete (is_collocated e.attributes) (is_all e.attributes) e.complete e.active good.active r led
+led_there m k r sh e (Some call) good led = absurd (let w : None ≡ Some r = sym good.0.unled ∙ led in cc w)
 
 -- what the code relies on
 pub facts : (m : Machine) → Invariant m → Facts m
 facts m inv = record {
   callers = λ a s here. (inv.holds.hands a s here).whose;
-  clients = λ a s here. (inv.holds.hands a s here).client;
+  askers = λ a s here. (inv.holds.hands a s here).asker;
   calls = inv.holds.calls;
   built = λ a s here. (inv.holds.hands a s here).built;
   driven = λ a s here. (inv.holds.hands a s here).driven;
   rises = inv.holds.rises;
   up_to = inv.holds.up_to;
   stay = inv.holds.swept;
-  unled = λ k e found making. unled_there m k (inv.shapes k) e e.making making (inv.holds.entries k e found);
+  led = λ k r e found. led_there m k r (inv.shapes k) e e.making (inv.holds.entries k e found);
   rest = inv.holds.rest;
   ready = λ a s r request here is. let ready = ready_for m inv a s (Serve r request) here is in (ready.0, ready.1);
   moments = λ a s r call k t here is free. (ready_for m inv a s (Serve r (requests.Stage call k t)) here is).2 free;

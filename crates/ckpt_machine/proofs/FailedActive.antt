@@ -8,6 +8,7 @@ use Rattle.cluster_record.specs.Failing.{with_more, most_updated, next_active}
 use Rattle.cluster_record.specs.Placement.{is_all, is_collocated}
 use Rattle.cluster_record.specs.RecordState.{first_complete, is_active}
 use Rattle.ckpt_machine.specs.Shape.{IsActiveBy}
+use Rattle.ckpt_machine.proofs.ActiveBy.{active_by-complete}
 use Rattle.ckpt_machine.proofs.NodeGone.{complete_still}
 
 -- the lowest is so still, where another goes
@@ -78,6 +79,15 @@ most-greatest counts n (c ∷ cs) (suc d) there = by_rest (most_updated counts (
     by_rest (Some q) few false = by_more q few (nat_lt (counts n) (counts q)) refl
 
 -- ---- the active
+
+-- one that is chosen is complete
+pub next_complete : (counts : ℕ → ℕ) (a : CreationAttributes) (cs : List ℕ) (q : ℕ) → next_active counts a cs ≡ Some q → (slice_index cs q == 0) ≡ false
+next_complete counts a cs q chosen = by_kind (is_collocated a) (is_all a) chosen
+  where
+    by_kind : (b c : Bool) → cond b None (cond c (first_complete 0 cs) (most_updated counts 0 cs)) ≡ Some q → (slice_index cs q == 0) ≡ false
+    by_kind true c none = absurd (cc none)
+    by_kind false true lowest = active_by-complete false true cs (first_complete 0 cs) refl q lowest
+    by_kind false false most = let (d, same, there) = most-node counts 0 cs q most in subst (λ (p : ℕ). (slice_index cs p == 0) ≡ false) (let s : q ≡ 0 + d = same in omega (arith, s)) there
 
 -- a node is that of the active
 pub active_is : (o : Option ℕ) (q : ℕ) → is_active o q ≡ true → o ≡ Some q

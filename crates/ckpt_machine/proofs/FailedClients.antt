@@ -67,21 +67,21 @@ module _ (counts : ℕ → ℕ → ℕ) (r : ℕ) (R : RecordState) where
   pub found_gone : (c : ℕ) → goes_with_node R r c ≡ true → find_key client_key c then_record.clients ≡ None
   found_gone c goes = found_then c ∙ ap (λ b. cond b None (find_key client_key c R.clients)) goes
 
-  -- of a client that stays all are live that were
-  pub live_staying : (call : CallId) → IsClient call.actor → is_of_node R r call.actor ≡ false → is_live then_record call ≡ is_live R call
-  live_staying call client stays = by_actor call.actor call.number client stays
+  -- of an actor that stays all are live that were
+  pub live_staying : (call : CallId) → is_of_node R r call.actor ≡ false → is_live then_record call ≡ is_live R call
+  live_staying call stays = by_actor call.actor call.number stays
     where
-      by_actor : (a : ActorName) (n : ℕ) → IsClient a → is_of_node R r a ≡ false → is_live then_record (record { actor = a; number = n }) ≡ is_live R (record { actor = a; number = n })
-      by_actor (Client c) n client stays = ap (λ o. is_live_from o n) (found_staying c stays)
-      by_actor (Node q) n client stays = absurd client
+      by_actor : (a : ActorName) (n : ℕ) → is_of_node R r a ≡ false → is_live then_record (record { actor = a; number = n }) ≡ is_live R (record { actor = a; number = n })
+      by_actor (Client c) n stays = ap (λ o. is_live_from o n) (found_staying c stays)
+      by_actor (Node q) n other = ap (λ b. b && not (nat_lt n (slice_index R.first_calls q))) (up_other q other)
 
   -- and of one that goes none
-  pub live_gone : (call : CallId) → IsClient call.actor → is_of_node R r call.actor ≡ true → is_live then_record call ≡ false
-  live_gone call client goes = by_actor call.actor call.number client goes
+  pub live_gone : (call : CallId) → is_of_node R r call.actor ≡ true → is_live then_record call ≡ false
+  live_gone call goes = by_actor call.actor call.number goes
     where
-      by_actor : (a : ActorName) (n : ℕ) → IsClient a → is_of_node R r a ≡ true → is_live then_record (record { actor = a; number = n }) ≡ false
-      by_actor (Client c) n client goes = ap (λ o. is_live_from o n) (found_gone c goes)
-      by_actor (Node q) n client goes = absurd client
+      by_actor : (a : ActorName) (n : ℕ) → is_of_node R r a ≡ true → is_live then_record (record { actor = a; number = n }) ≡ false
+      by_actor (Client c) n goes = ap (λ o. is_live_from o n) (found_gone c goes)
+      by_actor (Node q) n same = ap (λ b. b && not (nat_lt n (slice_index R.first_calls q))) (ap (λ (p : ℕ). is_up p then_record) (eqb-true q r same) ∙ up_gone)
 
   -- who was not live is not
   pub dead_then : (call : CallId) → is_live R call ≡ false → is_live then_record call ≡ false

@@ -1,8 +1,9 @@
 -- What is kept of each replica and each snapshot, in a hand too, is so behind the failure of a node: a replica stays, has its weak write cut short, or leads its checkpoint with what it has, which is no less than what any other replica there has.
-use Rattle.std.proofs.Common.{◌≡◌, ℕ, ◌+◌, ◌≤◌, List, [], ◌∷◌, inl, length, Option, Some, None, Bool, true, false, cond, refl, sym, ap, subst, ◌∙◌, arith}
+use Rattle.std.proofs.Common.{◌≡◌, ℕ, ◌+◌, ◌≤◌, List, [], ◌∷◌, inl, inr, length, Option, Some, None, Bool, true, false, cond, refl, sym, ap, subst, ◌∙◌, arith}
 use Rattle.std.specs.Prelude.{IsSome, IsSomeAnd}
 use Rattle.std.proofs.lemmas.Option.{same_Some}
 use Rattle.ckpt_types.specs.declared.attributes.CreationAttributes.{CreationAttributes}
+use Rattle.ckpt_types.specs.Asks.{asked}
 use Rattle.weak_marks.specs.Marks.{Marked}
 use Rattle.run_labels.specs.declared.labels.Label.{Label}
 use Rattle.cluster_record.specs.declared.entries.Entry.{Entry}
@@ -16,10 +17,10 @@ use Rattle.ckpt_machine.specs.Machine.{Machine, Broken, ReplicaState, Snapshot}
 use Rattle.ckpt_machine.specs.Owned.{HasEffect}
 use Rattle.ckpt_machine.specs.Replays.{IsPrefix}
 use Rattle.ckpt_machine.specs.Shape.{IsCompleteOn, IsMarker}
-use Rattle.ckpt_machine.specs.Due.{driver_of, count_in}
+use Rattle.ckpt_machine.specs.Due.{count_in}
 use Rattle.ckpt_machine.proofs.ActiveNode.{active_complete}
 use Rattle.ckpt_machine.proofs.Copying.{IsOfSource}
-use Rattle.ckpt_machine.proofs.EachKept.{FollowsBy, IsAhead, EachIn, IsKeptWhen, follows_as, copied_there, snapshot_goes, hand_goes}
+use Rattle.ckpt_machine.proofs.EachKept.{FollowsBy, IsAhead, IsPulledOf, EachIn, IsKeptWhen, follows_as, copied_there, snapshot_goes, hand_goes}
 use Rattle.ckpt_machine.proofs.EntryLists.{find_key-key}
 use Rattle.ckpt_machine.proofs.FailedActive.{active_is, most-greatest}
 use Rattle.ckpt_machine.proofs.FailedCalls.{left_is}
@@ -27,7 +28,7 @@ use Rattle.ckpt_machine.proofs.FailedHands.{WasEntry, was_entry}
 use Rattle.ckpt_machine.proofs.FailedMade.{failed_goes}
 use Rattle.ckpt_machine.proofs.FailedReplicas.{Becomes, stays, cut_short, leads, WasReplica, was_replica}
 use Rattle.ckpt_machine.proofs.Follows.{snapshot_was}
-use Rattle.ckpt_machine.proofs.Histories.{HasHistory, IsCommittingAt}
+use Rattle.ckpt_machine.proofs.Histories.{HasHistory}
 use Rattle.ckpt_machine.proofs.OptionLemmas.{IsSomeAnd-at, IfSome-at}
 use Rattle.ckpt_machine.proofs.Prefixes.{prefix_of_same, prefix_then, prefix_longer}
 use Rattle.ckpt_machine.proofs.Propagated.{complete_there}
@@ -79,16 +80,17 @@ module _ (Q : Option Entry → ℕ → ReplicaState → Type 0) (S : Entry → S
   copy_was k s is = (IsSomeAnd-at (entry_of k R.entries) (λ e. m.snapshots k ≡ Some s) (snapshot_was (entry_of k R.entries) (m.snapshots k) s is)).2
 
   -- a snapshot in the hand of a call that is left was there
-  hand_was : (k : ℕ) (s : Snapshot) → PulledInHand n.in_hand k s → PulledInHand m.in_hand k s
+  abbrev hand_was : (k : ℕ) (s : Snapshot) → PulledInHand n.in_hand k s → PulledInHand m.in_hand k s
   hand_was k s has = record { name = has.name; state = has.state; in_hand = (left_is m inv.shapes inv.holds r has.name has.state has.in_hand).0; ckpt = has.ckpt; snapshot = has.snapshot }
 
   -- the call of the marks on a replica has no effect there, since it doesn't commit
   marks_fresh : (k q : ℕ) (x : ReplicaState) (marks : Marked) → m.replicas k q ≡ Some x → x.marks ≡ Some marks → HasEffect marks.call x.effects → ⊥
   marks_fresh k q x marks there stand has =
       let by : IsMarker m k marks = marks_owned m inv.shapes inv.holds history.bare k q x marks there stand in
-      let at : IsCommittingAt k (driver_of by.state) = history.commits k q by.state by.in_hand (record { replica = x; there = there; effect = subst (λ d. HasEffect d x.effects) (sym by.call_is) has }) in
-      let w : drivers.Update at.update ≡ drivers.Active by.driver = sym at.driver_is ∙ by.driver_is in
-      cc w
+      elim (history.commits k q by.state by.in_hand (record { replica = x; there = there; effect = subst (λ d. HasEffect d x.effects) (sym by.call_is) has })) [
+        | inl at ↦ (let w : drivers.Update at.update ≡ drivers.Active by.driver = sym at.driver_is ∙ by.driver_is in cc w)
+        | inr brought ↦ (let w : drivers.Copy brought.copy ≡ drivers.Active by.driver = sym brought.driver_is ∙ by.driver_is in cc w)
+      ]
 
   -- ---- each replica
 
@@ -236,7 +238,7 @@ module _ (Q : Option Entry → ℕ → ReplicaState → Type 0) (S : Entry → S
         snapshot = λ s there present.
             let (e, was, is_so) = copied_there Q S When log kept m inv history each k s (copy_was k s there) in
             absurd (none_risen s (subst (λ e. IsOfSource e s) (same_Some e it.e (sym was ∙ it.was)) is_so.0) present);
-        in_hand = λ s has present. absurd (none_risen s (IfSome-at (entry_of k m.cluster.entries) (λ e. IsOfSource e s × S e s) (each.in_hand k s (hand_was k s has)).1 it.e it.was).0 present);
+        in_hand = λ s has present. absurd (none_risen s ((IfSome-at (entry_of k m.cluster.entries) (λ e. IsPulledOf (asked has.state.op) e s × S e s) (each.in_hand k s (hand_was k s has)).1 it.e it.was).0.source (inl alone_before)) present);
       }
 
     -- whether the active stays or not

@@ -6,7 +6,10 @@ use Rattle.std.proofs.lemmas.Option.{same_Some}
 use Rattle.ckpt_types.specs.declared.attributes.CreationAttributes.{CreationAttributes}
 use Rattle.ckpt_types.specs.declared.identities.CallId.{CallId}
 use Rattle.ckpt_types.specs.declared.identities.Who.{Who}
-use Rattle.ckpt_types.specs.Asks.{asked}
+use Rattle.ckpt_types.specs.declared.identities.ActorName.{ActorName}
+use Rattle.ckpt_types.specs.declared.identities.ActorName.TheVariants.{Client, Node}
+use Rattle.ckpt_types.specs.Asks.{MayAsk, asked}
+use Rattle.ckpt_types.specs.Asks as asking
 use Rattle.ckpt_types.specs.Limits.{nodes_max}
 use Rattle.section_iter.specs.Room.{room_declared}
 use Rattle.weak_marks.specs.Marks.{Marked}
@@ -17,7 +20,7 @@ use Rattle.cluster_record.specs.declared.calls.SyncKind.TheVariants.{Synchronize
 use Rattle.cluster_record.specs.declared.calls.UpdatePhase.{UpdatePhase}
 use Rattle.cluster_record.specs.declared.calls.UpdatePhase.TheVariants.{Staging, Committing, Claiming, Claimed, Withdrawing, Resolving}
 use Rattle.cluster_record.specs.declared.entries.Entry.{Entry}
-use Rattle.cluster_record.specs.Calls.{client_of, same_call}
+use Rattle.cluster_record.specs.Calls.{IsClient, client_of, number_of, same_call}
 use Rattle.cluster_record.specs.DueActive.{ActiveState}
 use Rattle.cluster_record.specs.DueOnce.{OneStep}
 use Rattle.cluster_record.specs.DueOnce as once
@@ -26,7 +29,7 @@ use Rattle.cluster_record.specs.DueSync.{SyncState}
 use Rattle.cluster_record.specs.DueUpdate.{UpdateState}
 use Rattle.cluster_record.specs.Failing.{goes_with_node, is_of_those, survives}
 use Rattle.cluster_record.specs.Placement.{is_all, is_collocated, alone_on}
-use Rattle.cluster_record.specs.RecordState.{RecordState, entry_of, home_of, is_active, is_live, no_nodes, node_of_client, client_key}
+use Rattle.cluster_record.specs.RecordState.{RecordState, entry_of, home_of, is_active, is_live, is_live_client, no_nodes, node_of_client, client_key}
 use Rattle.cluster_record.specs.Places.{find_key}
 use Rattle.cluster_record.specs.StepDone.{has}
 use Rattle.ckpt_machine.specs.Dead.{is_enter}
@@ -42,8 +45,10 @@ use Rattle.client_handles.specs.ClientState.{emptied}
 use Rattle.ckpt_machine.specs.Shape.{Shape, IsCompleteOn, is_owner}
 use Rattle.ckpt_machine.specs.Failing.{is_of_node, enters_on, failed_at}
 use Rattle.ckpt_machine.specs.After.{reservation_under}
-use Rattle.ckpt_machine.specs.Due.{driver_of, count_in, asked_handle}
+use Rattle.ckpt_machine.specs.Due.{driver_of, count_in, asked_handle, home_by}
 use Rattle.ckpt_machine.proofs.Actors.{same_call-true}
+use Rattle.ckpt_machine.proofs.Askers.{asker_client, client_within}
+use Rattle.ckpt_machine.proofs.CopiesStay.{CopiesAlike, IsCopyIn-alike}
 use Rattle.ckpt_machine.proofs.OptionLemmas.{IsSomeAnd-at, IsSomeAnd-from, IfSome-from, IfSome-at}
 use Rattle.ckpt_machine.proofs.NodeLists.{index-other}
 use Rattle.ckpt_machine.proofs.FailedEntries.{IsFailedEntry, failed_rises, Failed, found_failed, making_left}
@@ -123,25 +128,37 @@ module _ (m : Machine) (shapes : ℕ → Shape) (inv : InvariantIn shapes m) (r 
     at_hand : IsInHand m shapes w s
     at_hand = inv.hands w s held
 
-    -- by the number of the client
-    client_stays : goes (client_of s.call) ≡ false
-    client_stays = sym (of_node_client m.cluster r s.call.actor at_hand.client) ∙ stays
+    -- by the number of its client, where it is one's
+    client_stays : IsClient s.call.actor → goes (client_of s.call) ≡ false
+    client_stays client = sym (of_node_client m.cluster r s.call.actor client) ∙ stays
 
     -- who is as it was
-    found_then : find_key client_key (client_of s.call) R.clients ≡ find_key client_key (client_of s.call) m.cluster.clients
-    found_then = found_staying counts r m.cluster (client_of s.call) client_stays
+    found_then : IsClient s.call.actor → find_key client_key (client_of s.call) R.clients ≡ find_key client_key (client_of s.call) m.cluster.clients
+    found_then client = found_staying counts r m.cluster (client_of s.call) (client_stays client)
 
     -- on the same node
-    home_then : home_of (client_of s.call) R ≡ home_of (client_of s.call) m.cluster
-    home_then = ap node_of_client found_then
+    home_then : IsClient s.call.actor → home_of (client_of s.call) R ≡ home_of (client_of s.call) m.cluster
+    home_then client = ap node_of_client (found_then client)
 
     -- and its call as live
     live_then : is_live R s.call ≡ is_live m.cluster s.call
-    live_then = live_staying counts r m.cluster s.call at_hand.client stays
+    live_then = live_staying counts r m.cluster s.call stays
 
-    -- its client is on another node
+    -- its actor is on the node where it was
+    placed_then : home_by s.call.actor R ≡ home_by s.call.actor m.cluster
+    placed_then = by_actor s.call.actor stays
+      where
+        by_actor : (a : ActorName) → is_of_node m.cluster r a ≡ false → home_by a R ≡ home_by a m.cluster
+        by_actor (Client c) stays = ap node_of_client (found_staying counts r m.cluster c stays)
+        by_actor (Node q) other = refl
+
+    -- which is another one
     elsewhere : is_enter (driver_of s) ≡ false → (s.kept.node == r) ≡ false
-    elsewhere other = ap (λ (q : ℕ). q == r) (at_hand.home other) ∙ home_elsewhere m.cluster r (client_of s.call) (client_live m.cluster s.call at_hand.client (at_hand.live other)) client_stays
+    elsewhere other = ap (λ (q : ℕ). q == r) (at_hand.home other) ∙ by_actor s.call.actor stays (λ client. client_live m.cluster s.call client (at_hand.live other)) at_hand.asker
+      where
+        by_actor : (a : ActorName) → is_of_node m.cluster r a ≡ false → (IsClient a → is_live_client (number_of a) m.cluster ≡ true) → MayAsk a (asked s.op) → (home_by a m.cluster == r) ≡ false
+        by_actor (Client c) stays live may = home_elsewhere m.cluster r c (live (client_within c (asked s.op) may)) stays
+        by_actor (Node q) other live may = other
 
     -- its tables are what they were
     handle_then : IsSome (asked_handle m s.call.actor s.op) → IsSome (asked_handle n s.call.actor s.op)
@@ -157,9 +174,9 @@ module _ (m : Machine) (shapes : ℕ → Shape) (inv : InvariantIn shapes m) (r 
       asks = at.asks;
       client = at.client;
       up = up_other counts r m.cluster q (ap (enters_on r) (sym at.asks) ∙ no_enter) ∙ at.up;
-      not_live = ap is_some found_then ∙ at.not_live;
+      not_live = ap is_some (found_then at.client) ∙ at.not_live;
     }
-    once_then once.Leave at = record { asks = at.asks; live = ap is_some found_then ∙ at.live }
+    once_then once.Leave at = record { asks = at.asks; live = ap is_some (found_then (asker_client s.call.actor asking.Leave (subst (MayAsk s.call.actor) at.asks at_hand.asker) (λ copies. copies))) ∙ at.live }
     once_then (once.Close k) at = at
     once_then (once.Unlink name) at = at
     once_then (once.Retain k duration) at = record { place = at.place; asks = at.asks; from_zero = at.from_zero; kept = at.kept; made = made_then k at.made }
@@ -177,10 +194,10 @@ module _ (m : Machine) (shapes : ℕ → Shape) (inv : InvariantIn shapes m) (r 
     ]
 
     -- what it makes is in the making still
-    making_then : (home_of (client_of s.call) m.cluster == r) ≡ false → (making : Making) → IsMakingIn m s making → IsMakingIn n s making
-    making_then home making at =
+    making_then : IsClient s.call.actor → (home_of (client_of s.call) m.cluster == r) ≡ false → (making : Making) → IsMakingIn m s making → IsMakingIn n s making
+    making_then client home making at =
         let (e, was, by) = IsSomeAnd-at (entry_of making.ckpt m.cluster.entries) (λ (e : Entry). e.making ≡ Some s.call) at.there in
-        let other : is_of_those goes e.making ≡ false = ap (is_of_those goes) by ∙ of_those goes s.call at_hand.client ∙ client_stays in
+        let other : is_of_those goes e.making ≡ false = ap (is_of_those goes) by ∙ of_those goes s.call client ∙ client_stays client in
         by_entry e was by (entry_of making.ckpt R.entries) refl (making_left counts r m.cluster inv.rises making.ckpt e was (ap is_some by) other)
       where
         by_entry : (e : Entry) → entry_of making.ckpt m.cluster.entries ≡ Some e → e.making ≡ Some s.call → (o : Option Entry) → entry_of making.ckpt R.entries ≡ o → is_some (entry_of making.ckpt R.entries) ≡ true → IsMakingIn n s making
@@ -218,7 +235,7 @@ module _ (m : Machine) (shapes : ℕ → Shape) (inv : InvariantIn shapes m) (r 
             within_then : (q : ℕ) → IsSome (n.reserved making.ckpt q) → n.reserved making.ckpt q ≡ cond (q == r) None (m.reserved making.ckpt q) → (b : Bool) → (q == r) ≡ b → (slice_index (targets_by (attributes_asked (asked s.op)) (home_of (client_of s.call) R) R.up) q == 0) ≡ false
             within_then q some is true same = absurd (let none : n.reserved making.ckpt q ≡ None = is ∙ ap (λ b. cond b None (m.reserved making.ckpt q)) same in let v : false ≡ true = ap is_some (sym none) ∙ some in cc v)
             within_then q some is false other =
-                ap (λ (i : ℕ). slice_index (targets_by (attributes_asked (asked s.op)) i R.up) q == 0) home_then
+                ap (λ (i : ℕ). slice_index (targets_by (attributes_asked (asked s.op)) i R.up) q == 0) (home_then client)
                 ∙ ap (λ (i : ℕ). i == 0) (targets_then (attributes_asked (asked s.op)) (home_of (client_of s.call) m.cluster) q home other)
                 ∙ at.within q (ap is_some (sym (is ∙ ap (λ b. cond b None (m.reserved making.ckpt q)) other)) ∙ some)
 
@@ -240,7 +257,7 @@ module _ (m : Machine) (shapes : ℕ → Shape) (inv : InvariantIn shapes m) (r 
       where
         by_making : (w : Option Making) → IfSome w (IsMakingIn m s) → IfSome w (IsMakingIn n s)
         by_making None at = tt
-        by_making (Some w) at = making_then (home_elsewhere m.cluster r (client_of s.call) (client_live m.cluster s.call at_hand.client (at_hand.live other)) client_stays) w at
+        by_making (Some w) making = making_then at.caller (home_elsewhere m.cluster r (client_of s.call) (client_live m.cluster s.call at.caller (at_hand.live other)) (client_stays at.caller)) w making
 
     -- what an update keeps by its phase
     keeps_then : (u : UpdateState) (active : Option ℕ) (z : Shape) (ph : UpdatePhase) → PhaseKeeps m z s u ph → PhaseKeeps n (shape_left R r active z) s u ph
@@ -255,8 +272,6 @@ module _ (m : Machine) (shapes : ℕ → Shape) (inv : InvariantIn shapes m) (r 
     update_then : (u : UpdateState) → IsUpdateIn m shapes s u → IsUpdateIn n shapes_then s u
     update_then u at = record {
       call = at.call;
-      place = at.place;
-      update = at.update;
       asks = at.asks;
       kept = at.kept;
       made = made_then u.ckpt at.made;
@@ -270,7 +285,48 @@ module _ (m : Machine) (shapes : ℕ → Shape) (inv : InvariantIn shapes m) (r 
           ∙ at.owns it.e it.was q before
           ∙ sym (ap (is_owner s.call) (ap (λ (z : Shape). z.owners q) it.shape ∙ owner_stays R r it.e.active (shapes u.ckpt) q other)));
       keeps = λ f found. (let it = was_entry u.ckpt f found in subst (λ z. PhaseKeeps n z s u u.phase) (sym it.shape) (keeps_then u it.e.active (shapes u.ckpt) u.phase (at.keeps it.e it.was)));
+      within = λ f q found kept. within_then f q found kept (q == r) refl;
+      no_later = at.no_later;
     }
+      where
+        -- it keeps no incarnation of a node that is gone
+        not_had : (own : ℕ) → has (slice_index R.up r) own ≡ true → ⊥
+        not_had own had = let v : false ≡ true = sym (ap (λ (i : ℕ). has i own) (slice_index-cleared m.cluster.up r)) ∙ had in cc v
+
+        within_then : (f : Entry) (q : ℕ) → entry_of u.ckpt R.entries ≡ Some f → has (slice_index R.up q) (slice_index u.owned q) ≡ true → (b : Bool) → (q == r) ≡ b → IsCompleteOn f q
+        within_then f q found kept true same = absurd (not_had (slice_index u.owned q) (ap (λ (p : ℕ). has (slice_index R.up p) (slice_index u.owned q)) (sym (eqb-true q r same)) ∙ kept))
+        within_then f q found kept false other =
+            let it = was_entry u.ckpt f found in
+            let before : IsCompleteOn it.e q = at.within it.e q it.was (ap (λ (i : ℕ). has i (slice_index u.owned q)) (sym (index-other m.cluster.up r q 0 other)) ∙ kept) in
+            ap (λ cs. slice_index cs q == 0) it.left.complete ∙ complete_still it.e.complete r q other before
+
+    -- a copying to another node
+    copies_then : CopiesAlike m n shapes shapes_then s
+    copies_then = record {
+      up = λ q own. index-other m.cluster.up r q 0 (other_node q own);
+      made = made_then;
+      later = λ k was f found. (
+          let it = was_entry k f found in (
+            it.e,
+            it.was,
+            record {
+              attributes = it.left.attributes;
+              lacks = λ apart q own none. ap (λ cs. slice_index cs q == 0) it.left.complete ∙ ap (λ (i : ℕ). i == 0) (index-other it.e.complete r q 0 (other_node q own)) ∙ none;
+              grows = λ q own there. ap (λ cs. slice_index cs q == 0) it.left.complete ∙ complete_still it.e.complete r q (other_node q own) there;
+              rises = failed_rises (counts it.e.identity) goes r it.e f it.left;
+              owns = λ all own q there. (
+                  let (other, before) = complete_before it.e f it.left.complete q there in
+                  ap (λ (z : Shape). z.owners q) it.shape ∙ owner_stays R r it.e.active (shapes k) q other ∙ own q before);
+              sections = λ all own. ap (λ (z : Shape). z.sections) it.shape;
+              effects = λ all own. ap (λ (z : Shape). z.effects) it.shape;
+            },
+          ));
+      reserved = λ k q was own f found none. reserved_then k q f found none ∙ ap (λ b. cond b None (m.reserved k q)) (other_node q own);
+      update = update_then;
+    }
+      where
+        other_node : (q : ℕ) → s.call.actor ≡ Node q → (q == r) ≡ false
+        other_node q own = ap (is_of_node m.cluster r) (sym own) ∙ stays
 
     -- ---- generations
 
@@ -353,16 +409,16 @@ module _ (m : Machine) (shapes : ℕ → Shape) (inv : InvariantIn shapes m) (r 
         subst (λ o. IsSomeAnd o (λ q. slice_get u.served q ≡ Some true)) (sym same_active) (before (present ∙ same)))
 
     -- a hold is the call's where it was
-    held_left : (o : Option CallId) → is_held_by s.call (cond (is_of_those goes o) None o) ≡ is_held_by s.call o
-    held_left None = refl
-    held_left (Some d) = elim (is_of_those goes (Some d)) as (λ b. is_of_those goes (Some d) ≡ b → is_held_by s.call (cond b None (Some d)) ≡ same_call d s.call) [
+    held_left : IsClient s.call.actor → (o : Option CallId) → is_held_by s.call (cond (is_of_those goes o) None o) ≡ is_held_by s.call o
+    held_left client None = refl
+    held_left client (Some d) = elim (is_of_those goes (Some d)) as (λ b. is_of_those goes (Some d) ≡ b → is_held_by s.call (cond b None (Some d)) ≡ same_call d s.call) [
       | true ↦ λ gone. by_test gone (same_call d s.call) refl
       | false ↦ λ is. refl
     ] refl
       where
         by_test : is_of_those goes (Some d) ≡ true → (b : Bool) → same_call d s.call ≡ b → false ≡ same_call d s.call
         by_test gone false other = sym other
-        by_test gone true same = absurd (let v : true ≡ false = sym gone ∙ ap (λ c. is_of_those goes (Some c)) (same_call-true d s.call same) ∙ of_those goes s.call at_hand.client ∙ client_stays in cc v)
+        by_test gone true same = absurd (let v : true ≡ false = sym gone ∙ ap (λ c. is_of_those goes (Some c)) (same_call-true d s.call same) ∙ of_those goes s.call client ∙ client_stays client in cc v)
 
     -- a synchronisation, and the setting of an active
     sync_then : is_enter (driver_of s) ≡ false → (u : SyncState) (kind : SyncKind) → IsSyncBy m s u kind → IsSyncBy n s u kind
@@ -398,7 +454,7 @@ module _ (m : Machine) (shapes : ℕ → Shape) (inv : InvariantIn shapes m) (r 
       declares = declared_then (λ a. s.kept.declares ≡ Some a) u.ckpt at.declares;
       held = IfSome-from (entry_of u.ckpt R.entries) (λ e. is_held_by s.call e.hold ≡ is_some s.snapshot) (λ f found.
           let it = was_entry u.ckpt f found in
-          ap (is_held_by s.call) it.left.hold ∙ held_left it.e.hold ∙ IfSome-at (entry_of u.ckpt m.cluster.entries) (λ (e : Entry). is_held_by s.call e.hold ≡ is_some s.snapshot) at.held it.e it.was);
+          ap (is_held_by s.call) it.left.hold ∙ held_left (asker_client s.call.actor (asking.SetActive at.place) (subst (MayAsk s.call.actor) at.asks at_hand.asker) (λ copies. copies)) it.e.hold ∙ IfSome-at (entry_of u.ckpt m.cluster.entries) (λ (e : Entry). is_held_by s.call e.hold ≡ is_some s.snapshot) at.held it.e it.was);
     }
 
     -- ---- the whole
@@ -410,16 +466,17 @@ module _ (m : Machine) (shapes : ℕ → Shape) (inv : InvariantIn shapes m) (r 
     in_place_then (drivers.Update u) is at = update_then u at
     in_place_then (drivers.Active a) is at = active_then (at_hand.live (ap is_enter is)) a at
     in_place_then (drivers.Sync u) is at = sync_then (ap is_enter is) u u.kind at
+    in_place_then (drivers.Copy c) is at = IsCopyIn-alike m n shapes shapes_then s copies_then c at
 
     -- a call that is left is where its steps have led it
     pub hand_then : IsInHand n shapes_then w s
     hand_then = record {
       whose = at_hand.whose;
-      client = at_hand.client;
+      asker = at_hand.asker;
       number = at_hand.number;
       built = at_hand.built;
       driven = at_hand.driven;
       live = λ other. live_then ∙ at_hand.live other;
-      home = λ other. at_hand.home other ∙ sym home_then;
+      home = λ other. at_hand.home other ∙ sym placed_then;
       here = in_place_then (driver_of s) refl at_hand.here;
     }

@@ -1,11 +1,11 @@
 -- A checkpoint that is made goes on made behind the failure of a node.
-use Rattle.std.proofs.Common.{◌≡◌, ℕ, ◌+◌, Bool, true, false, ◌==◌, sym, ap, ◌∙◌, refl, arith}
+use Rattle.std.proofs.Common.{◌≡◌, ℕ, ◌+◌, Bool, true, false, ◌==◌, ap, ◌∙◌, refl, arith}
 use Rattle.std.specs.Prelude.{slice_index}
 use Rattle.cluster_record.specs.declared.entries.Entry.{Entry}
 use Rattle.cluster_record.specs.RecordState.{is_active}
 use Rattle.ckpt_machine.proofs.FailedEntries.{IsFailedEntry, failed_rises}
-use Rattle.ckpt_machine.proofs.NodeGone.{complete_was}
-use Rattle.ckpt_machine.proofs.StaysMade.{GoesOnMade}
+use Rattle.ckpt_machine.proofs.NodeGone.{complete_still}
+use Rattle.ckpt_machine.proofs.StaysMade.{GoesOnMade, RemainsBut}
 
 -- what a failure leaves of an entry goes on made: its active stays, or its generation rises
 pub failed_goes : (counts : ℕ → ℕ) (goes : ℕ → Bool) (r : ℕ) (e f : Entry) → IsFailedEntry counts goes r e f → GoesOnMade e f
@@ -17,8 +17,19 @@ failed_goes counts goes r e f left = record {
       | true ↦ λ gone. absurd (let up : f.generation ≡ e.generation + 1 = (left.gone gone).1 in let stays : f.generation ≡ e.generation = same in omega (arith, up, stays))
       | false ↦ λ stays. (left.led stays).0
     ] refl;
-    placed = λ apart q there. (complete_was e.complete r q (ap (λ cs. slice_index cs q == 0) (sym left.complete) ∙ there)).1;
   };
   attributes = left.attributes;
   since = left.since;
 }
+
+-- it is complete on the other nodes on which it was
+pub failed_remains : (counts : ℕ → ℕ) (goes : ℕ → Bool) (r : ℕ) (e f : Entry) → IsFailedEntry counts goes r e f → RemainsBut (λ q. (q == r) ≡ true) e f
+failed_remains counts goes r e f left = record {
+  made = λ made. left.making ∙ made;
+  attributes = left.attributes;
+  complete = λ q stays there. ap (λ cs. slice_index cs q == 0) left.complete ∙ complete_still e.complete r q (other (q == r) stays) there;
+}
+  where
+    other : (b : Bool) → (b ≡ true → ⊥) → b ≡ false
+    other true stays = absurd (stays refl)
+    other false stays = refl

@@ -1,6 +1,6 @@
 -- What the failure of a node leaves of the replicas that the nodes keep: what the machine has behind it.
-use Rattle.std.proofs.Common.{◌≡◌, inl, inr, ℕ, ◌+◌, ◌≤◌, ◌==◌, zero, suc, Bool, true, false, cond, List, [], ◌∷◌, ◌++◌, length, filter, map, refl, sym, ap, subst, ◌∙◌, arith}
-use Rattle.std.specs.Prelude.{Option, Some, None, is_some, IsSome, IsSomeAnd, not, slice_get, slice_set, slice_index}
+use Rattle.std.proofs.Common.{◌≡◌, inl, inr, ℕ, ◌+◌, ◌≤◌, ◌==◌, Bool, true, false, cond, List, [], ◌∷◌, ◌++◌, length, filter, map, refl, sym, ap, subst, ◌∙◌, arith}
+use Rattle.std.specs.Prelude.{Option, Some, None, is_some, IsSomeAnd, not, slice_get, slice_set, slice_index}
 use Rattle.std.specs.Option.{option_map}
 use Rattle.std.proofs.lemmas.Bool.{eqb-true}
 use Rattle.std.proofs.lemmas.List.{length-append}
@@ -17,17 +17,20 @@ use Rattle.node_core.specs.Failing.{is_cut_short, unless_cut_short, of_present, 
 use Rattle.node_core.specs.Failing as node
 use Rattle.node_core.specs.Nodes.{is_there, replica_key}
 use Rattle.ckpt_machine.specs.Failing.{broken, broken_unless, made_present, replica_left}
-use Rattle.ckpt_machine.specs.Holding.{replicas_on, IsReservation, IsHeld, HoldsOnlyWhatStands}
+use Rattle.ckpt_machine.specs.Holding.{replicas_on, IsAwaited, IsReservation, IsHeld, HoldsOnlyWhatStands}
 use Rattle.ckpt_machine.specs.Machine.{Effect, Broken, ReplicaState}
 use Rattle.ckpt_machine.specs.Nodes.{replica_in, left_on_node, nodes_left}
 use Rattle.ckpt_machine.specs.Shown.{FitsReplica, FitsSlot, complete_replica, reserved_in, shown_replica, shown_reservation, shown_slot, where_complete}
 use Rattle.ckpt_machine.specs.Under.{opened_state, replica_under, replicas_under, reservation_under}
 use Rattle.ckpt_machine.proofs.ByNumber.{at_number}
+use Rattle.cluster_record.specs.Placement.{is_collocated}
+use Rattle.ckpt_machine.proofs.FailedActive.{active_is, next_complete}
 use Rattle.ckpt_machine.proofs.FailedClients.{up_other}
 use Rattle.ckpt_machine.proofs.FailedEntries.{Failed, found_failed}
 use Rattle.ckpt_machine.proofs.FreedNodes.{find_key-filter}
 use Rattle.ckpt_machine.proofs.GoesAt.{zero_there, test_zero}
 use Rattle.ckpt_machine.proofs.HoldingLaws.{StandsFor, held_at, holds_by_key, standing}
+use Rattle.ckpt_machine.proofs.Lacking.{lacked_later}
 use Rattle.ckpt_machine.proofs.NodeLists.{index-other}
 use Rattle.node_core.proofs.OnceByKey.{counted, counted-cons, counted-filter}
 use Rattle.ckpt_types.proofs.Lists.{slice_index-cleared}
@@ -322,13 +325,13 @@ module _ (counts : ℕ → ℕ → ℕ) (r : ℕ) (R : RecordState) (nodes : Lis
 
   -- ---- what they hold
 
-  module _ (unled : (k : ℕ) (e : Entry) → entry_of k R.entries ≡ Some e → IsSome e.making → e.active ≡ None) where
+  module _ (led : (k q : ℕ) (e : Entry) → entry_of k R.entries ≡ Some e → e.active ≡ Some q → (slice_index e.complete q == 0) ≡ false) where
     -- what has been reserved is as it was
-    reservation_left : (k q : ℕ) (f : Entry) → entry_of k N.entries ≡ Some f → f.active ≡ None → (x : Replica) → x.ckpt ≡ k → x.marks ≡ None → node.replica_left N q x ≡ x
-    reservation_left k q f is none x key unmarked =
+    reservation_left : (k q : ℕ) (f : Entry) → entry_of k N.entries ≡ Some f → is_active f.active q ≡ false → (x : Replica) → x.ckpt ≡ k → x.marks ≡ None → node.replica_left N q x ≡ x
+    reservation_left k q f is idle x key unmarked =
         ap (λ marks. of_present q (entry_of x.ckpt N.entries) (cond (is_cut_short N marks) (abandoned x marks) x)) unmarked
         ∙ ap (λ o. of_present q o x) (ap (λ j. entry_of j N.entries) key ∙ is)
-        ∙ ap (λ o. cond (is_active o q) (record x { generation = f.generation }) x) none
+        ∙ ap (λ b. cond b (record x { generation = f.generation }) x) idle
 
     -- the nodes hold only what stands
     pub holds_left : HoldsOnlyWhatStands N then_nodes
@@ -352,17 +355,34 @@ module _ (counts : ℕ → ℕ → ℕ) (r : ℕ) (R : RecordState) (nodes : Lis
                 stands = subst (λ (o : Option Entry). IsSomeAnd o (StandsFor N q (node.replica_left N q y))) (sym (ap (λ j. entry_of j N.entries) (left_key N q y ∙ key) ∙ is)) (by_standing key (standing R nodes holds k q left.before y left.was was));
               })
             where
-              active_none : IsSome left.before.making → f.active ≡ None
-              active_none making =
-                  let none : left.before.active ≡ None = unled k left.before left.was making in
-                  (left.left.led (ap (λ o. is_active o r) none)).0 ∙ none
+              -- a node that is not complete is not that of the active
+              idle : slice_index left.before.complete q ≡ 0 → is_active f.active q ≡ false
+              idle unset = by_active (is_active f.active q) refl
+                where
+                  none_before : (slice_index left.before.complete q == 0) ≡ true
+                  none_before = test_zero (slice_index left.before.complete q) unset
+
+                  by_failure : f.active ≡ Some q → (b : Bool) → is_active left.before.active r ≡ b → ⊥
+                  by_failure leads true gone =
+                      let there : (slice_index f.complete q == 0) ≡ false = next_complete (counts left.before.identity) left.before.attributes f.complete q (sym (left.left.gone gone).0 ∙ leads) in
+                      let w : true ≡ false = sym none_before ∙ ap (λ i. i == 0) (sym same) ∙ there in cc w
+                  by_failure leads false stays =
+                      let w : true ≡ false = sym none_before ∙ led k q left.before left.was (sym (left.left.led stays).0 ∙ leads) in cc w
+
+                  by_active : (b : Bool) → is_active f.active q ≡ b → is_active f.active q ≡ false
+                  by_active false other = other
+                  by_active true is = absurd (by_failure (active_is f.active q is) (is_active left.before.active r) refl)
+
+              awaited_then : slice_index left.before.complete q ≡ 0 → IsAwaited q left.before → IsAwaited q f
+              awaited_then unset (inl making) = inl (ap is_some left.left.making ∙ making)
+              awaited_then unset (inr lacks) = inr (lacked_later q left.before f left.left.making (ap is_collocated left.left.attributes) (test_zero (slice_index f.complete q) (same ∙ unset)) lacks)
 
               by_standing : y.ckpt ≡ k → StandsFor R q y left.before → StandsFor N q (node.replica_left N q y) f
               by_standing key (inl complete) = inl (same ∙ complete ∙ sym (up_same q other))
               by_standing key (inr reservation) =
-                  let as_it_was : node.replica_left N q y ≡ y = reservation_left k q f is (active_none reservation.making) y key (ap (λ (x : Replica). x.marks) reservation.opening) in
+                  let as_it_was : node.replica_left N q y ≡ y = reservation_left k q f is (idle reservation.not_complete) y key (ap (λ (x : Replica). x.marks) reservation.opening) in
                   inr (subst (IsReservation f q) (sym as_it_was) (record {
-                    making = ap is_some left.left.making ∙ reservation.making;
+                    awaited = awaited_then reservation.not_complete reservation.awaited;
                     not_complete = same ∙ reservation.not_complete;
                     opening = reservation.opening ∙ (λ i. opened_replica y.ckpt (sym left.left.attributes i) (sym left.left.since i));
                   }))

@@ -3,9 +3,11 @@ use Rattle.std.proofs.Common.{◌≡◌, ◌⊎◌, ℕ, inl, inr, List, length,
 use Rattle.std.specs.Prelude.{IsSome, IsSomeAnd, slice_index}
 use Rattle.ckpt_types.specs.declared.attributes.CreationAttributes.{CreationAttributes}
 use Rattle.ckpt_types.specs.declared.identities.CallId.{CallId}
-use Rattle.ckpt_types.specs.Asks.{Ask, asked}
+use Rattle.ckpt_types.specs.Asks.{Ask, MayAsk, asked}
 use Rattle.ckpt_types.specs.Asks as asking
+use Rattle.ckpt_types.specs.Attributes.{is_malformed}
 use Rattle.ckpt_types.specs.Updates.{outcome}
+use Rattle.cluster_record.specs.Calls.{IsClient}
 use Rattle.cluster_record.specs.declared.calls.ActiveKind.{ActiveKind}
 use Rattle.cluster_record.specs.declared.calls.UpdatePhase.{UpdatePhase}
 use Rattle.cluster_record.specs.declared.calls.UpdatePhase.TheVariants.{Staging, Committing, Claiming, Claimed, Withdrawing, Resolving}
@@ -14,8 +16,8 @@ use Rattle.cluster_record.specs.Failing.{goes_with_node, is_of_those, most_updat
 use Rattle.cluster_record.specs.Placement.{is_all, is_collocated}
 use Rattle.cluster_record.specs.RecordState.{RecordState, entry_of, complete_of, first_complete, is_active, is_live}
 use Rattle.weak_marks.specs.Marks.{Marked}
-use Rattle.ckpt_machine.specs.Dead.{IsDead, is_enter}
-use Rattle.ckpt_machine.specs.InHand.{IsInPlace, IsUpdateIn, IsActiveIn, IsSyncBy, IsSettingIn, active_kind}
+use Rattle.ckpt_machine.specs.Dead.{IsDead}
+use Rattle.ckpt_machine.specs.InHand.{IsInPlace, IsActiveIn, IsSyncBy, IsSettingIn, active_kind}
 use Rattle.ckpt_machine.specs.Invariant.{InvariantIn, IsGoodIn, IsOfGeneration}
 use Rattle.ckpt_machine.specs.Machine.{Machine, ReplicaState, who}
 use Rattle.ckpt_machine.specs.Propagation.{on_node, copied}
@@ -28,7 +30,9 @@ use Rattle.ckpt_machine.proofs.NodeLists.{index-other, length-slice_set}
 use Rattle.ckpt_machine.proofs.MarksAt.{none_marked}
 use Rattle.ckpt_machine.proofs.FailedEntries.{IsFailedEntry}
 use Rattle.ckpt_machine.proofs.FailedClients.{of_node_client, of_those}
-use Rattle.ckpt_machine.proofs.FailedCalls.{left_is, still, by_client, IsDead-then, abandoned_dead, in_hand_live, live_left}
+use Rattle.ckpt_machine.proofs.FailedCalls.{left_is, still, by_client, names_none, IsDead-then, abandoned_dead, in_hand_live, live_left}
+use Rattle.ckpt_machine.proofs.Askers.{asker_client}
+use Rattle.ckpt_machine.proofs.UpdateIn.{no_enter}
 use Rattle.ckpt_machine.proofs.NodeGone.{complete_was, complete_still}
 use Rattle.ckpt_machine.proofs.ActiveBy.{active_by-complete}
 use Rattle.ckpt_machine.proofs.FailedActive.{active_stays, active_anew}
@@ -114,11 +118,8 @@ module _ (m : Machine) (shapes : ℕ → Shape) (inv : InvariantIn shapes m) (r 
   owner_then : (d : CallId) → IsOwner m k z d → IsOwner n k sh d ⊎ IsLeft n sh d
   owner_then d own = by_test (is_of_node m.cluster r own.state.call.actor) refl
     where
-      no_enter : is_enter (driver_of own.state) ≡ false
-      no_enter = ap is_enter own.driver_is
-
-      at : IsUpdateIn m shapes own.state own.driver
-      at = subst (IsInPlace m shapes own.state) own.driver_is (inv.hands (who own.state) own.state own.in_hand).here
+      asks_none : enters_on r (asked own.state.op) ≡ false
+      asks_none = names_none m shapes inv r own.state (inv.hands (who own.state) own.state own.in_hand).driven (no_enter (driver_of own.state) own.driver own.driver_is)
 
       alone : ((q : ℕ) (c : CallId) → z.owners q ≡ Some c → c ≡ own.state.call) → (q : ℕ) (c : CallId) → sh.owners q ≡ Some c → c ≡ own.state.call
       alone all q c owns = all q c (owner_left R r e.active z q c owns).1
@@ -142,7 +143,7 @@ module _ (m : Machine) (shapes : ℕ → Shape) (inv : InvariantIn shapes m) (r 
       by_test : (b : Bool) → is_of_node m.cluster r own.state.call.actor ≡ b → IsOwner n k sh d ⊎ IsLeft n sh d
       by_test false stays = inl (record {
         state = own.state;
-        in_hand = still m shapes inv r (who own.state) own.state own.in_hand (by_client m shapes inv r own.state (ap (enters_on r) at.asks) ∙ stays);
+        in_hand = still m shapes inv r (who own.state) own.state own.in_hand (by_client m shapes inv r own.state asks_none ∙ stays);
         call_is = own.call_is;
         driver = own.driver;
         driver_is = own.driver_is;
@@ -150,7 +151,7 @@ module _ (m : Machine) (shapes : ℕ → Shape) (inv : InvariantIn shapes m) (r 
         phase = phase_left own.driver.phase own.phase;
       })
       by_test true goes =
-          let dead = abandoned_dead m shapes inv r (who own.state) own.state own.in_hand no_enter goes in
+          let dead = abandoned_dead m shapes inv r (who own.state) own.state own.in_hand goes in
           inr (subst (IsDead n) own.call_is dead, origin_dead dead own.driver.phase own.phase)
 
   -- whoever owns a slot is in hand, or dead
@@ -166,7 +167,7 @@ module _ (m : Machine) (shapes : ℕ → Shape) (inv : InvariantIn shapes m) (r 
     | inl before ↦ before
     | inr dead ↦ absurd (
         let held = (left_is m shapes inv r (who own.state) own.state own.in_hand).0 in
-        let live : is_live m.cluster d ≡ true = ap (is_live m.cluster) (sym own.call_is) ∙ in_hand_live m shapes inv r (who own.state) own.state held (ap is_enter own.driver_is) in
+        let live : is_live m.cluster d ≡ true = ap (is_live m.cluster) (sym own.call_is) ∙ in_hand_live m shapes inv r (who own.state) own.state held (no_enter (driver_of own.state) own.driver own.driver_is) in
         let w : true ≡ false = sym live ∙ dead.0.gone in cc w)
   ]
 
@@ -177,7 +178,7 @@ module _ (m : Machine) (shapes : ℕ → Shape) (inv : InvariantIn shapes m) (r 
   marker_then marks live own =
       let hand = inv.hands (who own.state) own.state own.in_hand in
       let at : IsActiveIn m shapes own.state own.driver = subst (IsInPlace m shapes own.state) own.driver_is hand.here in
-      let stays = live_left m shapes inv r own.state hand.client (ap (is_live R) own.call_is ∙ live) in
+      let stays = live_left m shapes inv r own.state (ap (is_live R) own.call_is ∙ live) in
       record {
         state = own.state;
         in_hand = still m shapes inv r (who own.state) own.state own.in_hand (by_client m shapes inv r own.state (active_no_enter r own.state.kept.all own.state.kept.weak (asked own.state.op) own.driver.kind at.kind) ∙ stays);
@@ -235,7 +236,8 @@ module _ (m : Machine) (shapes : ℕ → Shape) (inv : InvariantIn shapes m) (r 
       let hand = inv.hands (who own.state) own.state own.in_hand in
       let here : IsSyncBy m own.state own.driver own.driver.kind = subst (IsInPlace m shapes own.state) own.driver_is hand.here in
       let at : IsSettingIn m own.state own.driver own.local = subst (IsSyncBy m own.state own.driver) own.kind here in
-      let stays : is_of_node m.cluster r own.state.call.actor ≡ false = of_node_client m.cluster r own.state.call.actor hand.client ∙ sym (of_those (goes_with_node m.cluster r) own.state.call hand.client) ∙ ap (λ c. is_of_those (goes_with_node m.cluster r) (Some c)) own.call_is ∙ others in
+      let client : IsClient own.state.call.actor = asker_client own.state.call.actor (asking.SetActive at.place) (subst (MayAsk own.state.call.actor) at.asks hand.asker) (λ copies. copies) in
+      let stays : is_of_node m.cluster r own.state.call.actor ≡ false = of_node_client m.cluster r own.state.call.actor client ∙ sym (of_those (goes_with_node m.cluster r) own.state.call client) ∙ ap (λ c. is_of_those (goes_with_node m.cluster r) (Some c)) own.call_is ∙ others in
       record {
         collocated = ap is_collocated left.attributes ∙ on.collocated;
         unmarked = none_left R r e.active z on.unmarked;
@@ -265,6 +267,7 @@ module _ (m : Machine) (shapes : ℕ → Shape) (inv : InvariantIn shapes m) (r 
   -- the checkpoint is spread behind the failure
   pub spread_then : IsSpread n k sh f
   spread_then = record {
+    well_formed = ap is_malformed left.attributes ∙ spread.well_formed;
     nodes = ap length left.complete ∙ length-slice_set e.complete r 0 ∙ spread.nodes;
     some = some_then;
     up = λ q there. (let (other, before) = node_was q there in index-other m.cluster.up r q 0 other ∙ spread.up q before ∙ sym (ap (λ cs. slice_index cs q) left.complete ∙ index-other e.complete r q 0 other));

@@ -1,6 +1,6 @@
 -- The invariant holds behind the failure of a node.
 use Rattle.std.proofs.Common.{◌≡◌, ℕ, ◌≤◌, ◌+◌, List, [], ◌∷◌, length, Option, Some, None, is_some, option_map, Bool, true, false, cond, ◌==◌, refl, sym, ap, subst, ◌∙◌, arith}
-use Rattle.std.specs.Prelude.{IsSome, IsSomeAnd, IfSome, Contains, slice_set, slice_index}
+use Rattle.std.specs.Prelude.{IsSomeAnd, IfSome, Contains, slice_set, slice_index}
 use Rattle.std.proofs.lemmas.Bool.{eqb-true, eq-eqb}
 use Rattle.std.proofs.lemmas.Option.{same_Some}
 use Rattle.ckpt_types.specs.declared.attributes.CreationAttributes.{CreationAttributes}
@@ -23,13 +23,14 @@ use Rattle.cluster_record.specs.Placement.{is_collocated}
 use Rattle.cluster_record.specs.Places.{find_key}
 use Rattle.cluster_record.specs.RecordState.{RecordState, entry_of, complete_of, home_of, node_of_client, is_active, no_nodes, client_key}
 use Rattle.ckpt_machine.specs.InHand.{IsInPlace, IsOpenIn}
-use Rattle.ckpt_machine.specs.Invariant.{InvariantIn, IsGoodIn, IsMaker, IsGoodClient, IsGoodHandle, IsOfGeneration, IsCompleteAt, AreCalls, IsBegunBy, IsKeptOf, calls_of}
+use Rattle.ckpt_machine.specs.Invariant.{InvariantIn, IsGoodIn, IsMaker, IsGoodClient, IsGoodHandle, IsOfGeneration, IsCompleteAt, IsReservedFor, AreCalls, IsBegunBy, IsKeptOf, calls_of}
 use Rattle.ckpt_machine.specs.Machine.{Machine, ReplicaState, who}
 use Rattle.ckpt_machine.specs.Shape.{Shape, IsCompleteOn, IsSpread}
 use Rattle.ckpt_machine.specs.Failing.{is_of_node, enters_on, failed_at, replica_left}
 use Rattle.ckpt_machine.specs.Laws.{FailuresKeep}
 use Rattle.ckpt_machine.specs.After.{replica_under, replicas_under, reservation_under, opened_state}
 use Rattle.ckpt_machine.specs.Due.{count_in}
+use Rattle.ckpt_machine.proofs.FewEntries.{fewer_from}
 use Rattle.ckpt_machine.proofs.OptionLemmas.{IsSomeAnd-from, IfSome-from, IfSome-at}
 use Rattle.ckpt_machine.proofs.NodeLists.{length-slice_set, index-other, is_up-none}
 use Rattle.ckpt_machine.proofs.EntryLists.{AllStay-swept}
@@ -38,6 +39,7 @@ use Rattle.ckpt_machine.proofs.KeptLists.{among_none}
 use Rattle.ckpt_machine.proofs.FailedEntries.{failed_rises, then_rises, then_up_to}
 use Rattle.ckpt_machine.proofs.FailedClients.{up_other, found_then, found_staying, of_node_client, of_those, home_elsewhere}
 use Rattle.ckpt_machine.proofs.FailedCalls.{left_is, still, left_stays, by_client}
+use Rattle.ckpt_machine.proofs.ReservedUnder.{was_reserved, reserved_later}
 use Rattle.ckpt_machine.proofs.NodeGone.{complete_was, complete_still}
 use Rattle.ckpt_machine.proofs.FailedShape.{generation_led}
 use Rattle.ckpt_machine.proofs.FailedSpread.{spread_then}
@@ -92,7 +94,7 @@ module _ (m : Machine) (shapes : ℕ → Shape) (inv : InvariantIn shapes m) (r 
           maker_then own others =
               let hand = inv.hands (who own.state) own.state own.in_hand in
               let at : IsOpenIn m own.state own.driver = subst (IsInPlace m shapes own.state) own.driver_is hand.here in
-              let stays : is_of_node m.cluster r own.state.call.actor ≡ false = of_node_client m.cluster r own.state.call.actor hand.client ∙ sym (of_those goes own.state.call hand.client) ∙ ap (λ c. is_of_those goes (Some c)) own.call_is ∙ others in
+              let stays : is_of_node m.cluster r own.state.call.actor ≡ false = of_node_client m.cluster r own.state.call.actor at.caller ∙ sym (of_those goes own.state.call at.caller) ∙ ap (λ c. is_of_those goes (Some c)) own.call_is ∙ others in
               record {
                 state = own.state;
                 in_hand = still m shapes inv r (who own.state) own.state own.in_hand (by_client m shapes inv r own.state (ap (enters_on r) at.asks.asks) ∙ stays);
@@ -147,22 +149,15 @@ module _ (m : Machine) (shapes : ℕ → Shape) (inv : InvariantIn shapes m) (r 
       by_under None none is = absurd (cc is)
       by_under (Some y) under is = by_entry (entry_of k R.entries) refl y under (same_Some (replica_left R k q y) x is)
 
-  -- what is reserved is for what is in the making
-  reserves_then : (k q i : ℕ) → n.reserved k q ≡ Some i → IsSomeAnd (entry_of k R.entries) (λ e. IsSome e.making)
-  reserves_then k q i is = elim (q == r) as (λ b. cond b None (reservation_under (entry_of k R.entries) q (m.reserved k q)) ≡ Some i → IsSomeAnd (entry_of k R.entries) (λ e. IsSome e.making)) [
-    | true ↦ λ gone. absurd (cc gone)
-    | false ↦ λ some. by_entry (entry_of k R.entries) refl some
-  ] is
-    where
-      by_entry : (o : Option Entry) → entry_of k R.entries ≡ o → reservation_under o q (m.reserved k q) ≡ Some i → IsSomeAnd o (λ e. IsSome e.making)
-      by_entry None none some = absurd (cc some)
-      by_entry (Some f) found some =
-          let it = was_entry m shapes inv r k f found in
-          ap is_some it.left.making ∙ subst (λ o. IsSomeAnd o (λ (e : Entry). IsSome e.making)) it.was (inv.reserves k q i (by_complete (slice_index f.complete q == 0) some))
-        where
-          by_complete : (b : Bool) → cond b (m.reserved k q) None ≡ Some i → m.reserved k q ≡ Some i
-          by_complete true some = some
-          by_complete false gone = absurd (cc gone)
+  -- what is reserved is for what it was
+  reserves_then : (k q i : ℕ) → n.reserved k q ≡ Some i → IsSomeAnd (entry_of k R.entries) (IsReservedFor R q i)
+  reserves_then k q i is = elim (q == r) as (λ b. (q == r) ≡ b → cond b None (reservation_under (entry_of k R.entries) q (m.reserved k q)) ≡ Some i → IsSomeAnd (entry_of k R.entries) (IsReservedFor R q i)) [
+    | true ↦ λ same gone. absurd (cc gone)
+    | false ↦ λ other some. was_reserved (entry_of k R.entries) q i (m.reserved k q) (IsReservedFor R q i) (λ f found free was.
+        let it = was_entry m shapes inv r k f found in
+        reserved_later m.cluster R q i it.e f it.left.making it.left.attributes free (index-other m.cluster.up r q 0 other)
+        (subst (λ o. IsSomeAnd o (IsReservedFor m.cluster q i)) it.was (inv.reserves k q i was))) some
+  ] refl is
 
   -- ---- clients and their tables
 
@@ -264,10 +259,14 @@ module _ (m : Machine) (shapes : ℕ → Shape) (inv : InvariantIn shapes m) (r 
   failure_keeps = record {
     up = length-slice_set m.cluster.up r 0 ∙ inv.up;
     first_up = λ none. ap (λ up. slice_set up r 0) (inv.first_up none) ∙ slice_set-replicate 8 r;
-    incarnations = record { nodes = inv.incarnations.nodes; first_nodes = inv.incarnations.first_nodes; no_later = no_later_then };
+    incarnations = record { nodes = inv.incarnations.nodes; first_nodes = inv.incarnations.first_nodes; no_later = no_later_then; from_one = inv.incarnations.from_one; present = inv.incarnations.present };
     none_live = none_then;
     rises = then_rises counts r m.cluster inv.rises;
     up_to = then_up_to counts r m.cluster inv.rises m.cluster.last_identity inv.up_to;
+    few =
+        let no_more : length R.entries ≤ length m.cluster.entries = fewer_from m.cluster.entries R.entries inv.rises (then_rises counts r m.cluster inv.rises) (λ k f found. (let it = was_entry m shapes inv r k f found in (it.e, it.was))) in
+        let before : length m.cluster.entries ≤ 16 = inv.few in
+        omega (arith, no_more, before);
     swept = AllStay-swept m.cluster.moment (failed counts r m.cluster).entries;
     entries = good_then;
     replicas = complete_then;

@@ -4,6 +4,7 @@ use Rattle.std.specs.Prelude.{is_some, IsSome, IsSomeAnd, IfSome, slice_index}
 use Rattle.std.proofs.lemmas.Bool.{eqb-true, eq-eqb}
 use Rattle.std.proofs.lemmas.Option.{same_Some}
 use Rattle.ckpt_types.specs.declared.identities.CallId.{CallId}
+use Rattle.ckpt_types.specs.Attributes.{is_malformed}
 use Rattle.ckpt_types.specs.declared.identities.Who.{Who}
 use Rattle.ckpt_types.specs.declared.update.Update.TheVariants as updates
 use Rattle.ckpt_types.specs.Sections.{opening}
@@ -18,15 +19,17 @@ use Rattle.ckpt_machine.specs.Entries.{AllStay, WasMade}
 use Rattle.ckpt_machine.specs.InHand.{is_marked_by, attributes_asked, IsMakingIn, IsDoneIn, IsInHand}
 use Rattle.ckpt_types.specs.Asks.{asked}
 use Rattle.weak_marks.specs.Marks.{Marked}
-use Rattle.ckpt_machine.specs.Invariant.{IsMaker, IsGoodIn, IsOfGeneration, InvariantIn}
+use Rattle.ckpt_machine.specs.Invariant.{IsMaker, IsGoodIn, IsOfGeneration, IsReservedFor, InvariantIn}
 use Rattle.ckpt_machine.specs.Machine.{Machine, ReplicaState, CallState, who}
 use Rattle.ckpt_machine.specs.After.{with_record, replica_under, reservation_under, opened_state}
 use Rattle.ckpt_machine.specs.Due.{driver_of}
 use Rattle.ckpt_machine.specs.Shape.{Shape, IsCompleteOn, IsShapedBy, is_owner, IsOwner, IsMarker, IsActiveBy, IsHolder, IsSpread}
+use Rattle.ckpt_machine.proofs.FewEntries.{few-change_key}
 use Rattle.ckpt_machine.proofs.Handles.{IsGoodHandle-later}
 use Rattle.ckpt_machine.proofs.ActiveBy.{lowest_complete}
 use Rattle.ckpt_machine.proofs.Lives.{LivesOn, lives_on-one, enters-one, dead_on}
-use Rattle.ckpt_machine.proofs.OtherCalls.{LooksAlike, LooksLater-refl, making_still, IsInHand-alike, IsGoodIn-alike}
+use Rattle.ckpt_machine.proofs.LaterIncarnations.{incarnations_stay}
+use Rattle.ckpt_machine.proofs.OtherCalls.{LooksAlike, LooksLater-refl, LiesUnder, LiesUnder-refl, home_stays, making_still, IsInHand-alike, IsGoodIn-alike}
 use Rattle.ckpt_machine.proofs.OptionLemmas.{IsSomeAnd-at, IsSomeAnd-from}
 use Rattle.ckpt_machine.proofs.MarksAt.{none_marked}
 use Rattle.ckpt_machine.proofs.Targets.{targets-length, target-up}
@@ -34,7 +37,7 @@ use Rattle.cluster_record.specs.Placement.{is_collocated, targets, is_all}
 use Rattle.ckpt_machine.proofs.CallsKept.{apart_from, same_call-None, calls_left}
 use Rattle.ckpt_machine.proofs.OwnMaking.{owner_apart, marker_apart, holder_apart, maker_same}
 use Rattle.ckpt_types.specs.declared.identities.ActorName.TheVariants.{Client}
-use Rattle.ckpt_types.specs.Limits.{handles_max}
+use Rattle.ckpt_types.specs.Limits.{checkpoints_max, handles_max}
 use Rattle.cluster_record.specs.Makings.{makings_of}
 use Rattle.cluster_record.proofs.MakingCounts.{makings_of-finished}
 use Rattle.ckpt_machine.proofs.EntryLists.{find_key-change_key}
@@ -121,7 +124,7 @@ module _ (m : Machine) (shapes : ℕ → Shape) (inv : InvariantIn shapes m) (s 
       ∙ (λ i. cond (there i) None (cond (there i) (Some (opened_state g)) (m.replicas j r)))
 
   IsGoodIn-then : LivesOn m then_machine → (j : ℕ) (sh : Shape) (g : Entry) (maker : Option CallId) → (j == making.ckpt) ≡ false → entry_of j m.cluster.entries ≡ Some g → IsGoodIn m j sh g maker → IsGoodIn then_machine j sh g maker
-  IsGoodIn-then lives j sh g maker other was good = IsGoodIn-alike m then_machine j lives sh g (λ r there. replica_other j r g other was there) (owner_stays j sh) (λ marks stand own. marker_stays j marks own) (holder_stays j) (λ d own. maker_stays j d other own) maker good
+  IsGoodIn-then lives j sh g maker other was good = IsGoodIn-alike m then_machine j lives sh g (λ r there. replica_other j r g other was there) (λ r d owns own. owner_stays j sh d own) (λ marks stand own. marker_stays j marks own) (holder_stays j) (λ d own. maker_stays j d other own) maker good
 
   -- ---- the checkpoint that is made
 
@@ -139,6 +142,12 @@ module _ (m : Machine) (shapes : ℕ → Shape) (inv : InvariantIn shapes m) (s 
       let good : IsGoodIn m making.ckpt (shapes making.ckpt) e (Some s.call) = subst (IsGoodIn m making.ckpt (shapes making.ckpt) e) by (inv.entries making.ckpt e found) in
       good.0.free
 
+  -- and it declares what was checked
+  well_formed : is_malformed e.attributes ≡ false
+  well_formed =
+      let good : IsGoodIn m making.ckpt (shapes making.ckpt) e (Some s.call) = subst (IsGoodIn m making.ckpt (shapes making.ckpt) e) by (inv.entries making.ckpt e found) in
+      good.0.well_formed
+
   replica_here : (r : ℕ) → IsCompleteOn f r → then_machine.replicas making.ckpt r ≡ Some (opened_state f)
   replica_here r there =
       ap (λ o. replica_under o (slice_index (complete_of (entry_of making.ckpt m.cluster.entries)) r) r (m.replicas making.ckpt r)) entry_here
@@ -153,6 +162,7 @@ module _ (m : Machine) (shapes : ℕ → Shape) (inv : InvariantIn shapes m) (s 
   spread_here : IsSpread then_machine making.ckpt opened_shape f
   unfolding opened_shape
   spread_here = record {
+    well_formed = well_formed;
     nodes = targets-length e.attributes (home_of c m.cluster) m.cluster.up inv.up;
     some = some;
     up = λ r there. sym (target-up e.attributes (home_of c m.cluster) m.cluster.up r there);
@@ -208,14 +218,18 @@ module _ (m : Machine) (shapes : ℕ → Shape) (inv : InvariantIn shapes m) (s 
     looks_then : LooksAlike m then_machine shapes (put shapes making.ckpt opened_shape) z
     looks_then = record {
       up = λ r up. up;
-      lives = refl;
-      home = refl;
+      incarnations = incarnations_stay m.cluster R refl refl;
+      lives = λ client. refl;
+      node = λ r own. refl;
+      home = home_stays z.call.actor m.cluster R refl;
       handle = λ there. there;
       making = λ v at. making_still m then_machine z v making_then at;
       made = WasMade-then;
-      later = λ j was g found. (g, sym (entry_other j (not_made j was)) ∙ found, LooksLater-refl z (shapes j).marks g);
+      later = λ j was g found. (g, sym (entry_other j (not_made j was)) ∙ found, LooksLater-refl m.cluster.up z (shapes j) g);
+      reserved = λ j r was own g found free. ap (λ o. reservation_under o r (m.reserved j r)) found ∙ ap (λ b. cond b (m.reserved j r) None) free;
       owners = λ j was r. ap (λ (sh : Shape). is_owner z.call (sh.owners r)) (ap (λ b. cond b opened_shape (shapes j)) (not_made j was));
       marks = λ j was. ap (λ (sh : Shape). is_marked_by z.call sh.marks) (ap (λ b. cond b opened_shape (shapes j)) (not_made j was));
+      under = λ j was g found all. subst (LiesUnder (shapes j)) (sym (ap (λ b. cond b opened_shape (shapes j)) (not_made j was))) (LiesUnder-refl (shapes j));
       dead = λ j g was found. dead_on m then_machine (λ d. refl) refl (enters-one m then_machine s held (inv.hands (who s) s held).driven None (same_call-None s) (λ z none. absurd (cc none)) (λ a. refl));
       done = λ j was. subst (λ sh. IsDoneIn sh z) (sym (ap (λ b. cond b opened_shape (shapes j)) (not_made j was)));
     }
@@ -223,8 +237,8 @@ module _ (m : Machine) (shapes : ℕ → Shape) (inv : InvariantIn shapes m) (s 
   -- ---- the whole
 
   -- what is reserved is for another checkpoint, since a node on which this one is not made had none
-  reserves_then : (j q n : ℕ) (g : Entry) → entry_of j R.entries ≡ Some g → (slice_index g.complete q == 0) ≡ true → m.reserved j q ≡ Some n → (b : Bool) → (j == making.ckpt) ≡ b → IsSome g.making
-  reserves_then j q n g there free was false other = subst (λ o. IsSomeAnd o (λ (x : Entry). IsSome x.making)) (sym (entry_other j other) ∙ there) (inv.reserves j q n was)
+  reserves_then : (j q n : ℕ) (g : Entry) → entry_of j R.entries ≡ Some g → (slice_index g.complete q == 0) ≡ true → m.reserved j q ≡ Some n → (b : Bool) → (j == making.ckpt) ≡ b → IsReservedFor R q n g
+  reserves_then j q n g there free was false other = subst (λ o. IsSomeAnd o (IsReservedFor m.cluster q n)) (sym (entry_other j other) ∙ there) (inv.reserves j q n was)
   reserves_then j q n g there free was true same =
       let at_k : making.ckpt ≡ j = sym (eqb-true j making.ckpt same) in
       let g_is : f ≡ g = same_Some f g (sym entry_here ∙ ap (λ n. entry_of n R.entries) at_k ∙ there) in
@@ -247,10 +261,11 @@ module _ (m : Machine) (shapes : ℕ → Shape) (inv : InvariantIn shapes m) (s 
     none_live = inv.none_live;
     rises = IdentitiesRise-change_key (made_with (home_of c m.cluster) m.cluster.up c) (λ x. refl) making.ckpt m.cluster.entries inv.rises;
     up_to = AllUpTo-change_key (made_with (home_of c m.cluster) m.cluster.up c) (λ x. refl) m.cluster.last_identity making.ckpt m.cluster.entries inv.up_to;
+    few = few-change_key (made_with (home_of c m.cluster) m.cluster.up c) making.ckpt m.cluster.entries checkpoints_max inv.few;
     swept = stays;
     entries = λ j g there. by_test j g there (j == making.ckpt) refl;
     replicas = λ j q x is. under_complete (entry_of j R.entries) (slice_index (complete_of (entry_of j m.cluster.entries)) q) q (m.replicas j q) x (λ g found was. generation_then j q x g found was (j == making.ckpt) refl) is;
-    reserves = λ j q n reserved. was_reserved (entry_of j R.entries) q n (m.reserved j q) (λ g. IsSome g.making) (λ g found free was. reserves_then j q n g found free was (j == making.ckpt) refl) reserved;
+    reserves = λ j q n reserved. was_reserved (entry_of j R.entries) q n (m.reserved j q) (IsReservedFor R q n) (λ g found free was. reserves_then j q n g found free was (j == making.ckpt) refl) reserved;
     handles = λ b h among. IsGoodHandle-later m.cluster R WasMade-then (λ j was g found. (g, sym (entry_other j (not_made j was)) ∙ found, refl, λ r there. there)) b h refl (inv.handles b h among);
     rest = inv.rest;
     clients = inv.clients;

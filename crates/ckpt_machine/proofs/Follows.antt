@@ -1,6 +1,6 @@
 -- What a step leaves of replicas and their effects: a replica is where its node is complete; effects are those that were, or of the call that commits, applies, or ends its weak write, or of the snapshot in the hand of one that installs it, or has its client's node lead with it; and a background snapshot is one that was.
 use Rattle.std.proofs.Common.{◌≡◌, ◌⊎◌, ℕ, inl, inr, List, [], ◌∷◌, ◌++◌, Option, Some, None, true, false, cond, ◌==◌, ◌&&◌, ℤ, refl, sym, ap, subst}
-use Rattle.std.specs.Prelude.{Bool, IsSomeAnd, slice_index, if◌then◌else◌}
+use Rattle.std.specs.Prelude.{Bool, IfSome, IsSomeAnd, slice_index, if◌then◌else◌}
 use Rattle.std.proofs.lemmas.Bool.{eqb-true, and_parts}
 use Rattle.std.proofs.lemmas.Option.{same_Some}
 use Rattle.ckpt_types.specs.declared.identities.ActorName.{ActorName}
@@ -14,6 +14,7 @@ use Rattle.node_msgs.specs.declared.steps.StepReply.{StepReply}
 use Rattle.node_msgs.specs.declared.steps.StepReply.TheVariants as words
 use Rattle.cluster_record.specs.declared.entries.Entry.{Entry}
 use Rattle.cluster_record.specs.Calls.{client_of}
+use Rattle.cluster_record.specs.Joining.{completed}
 use Rattle.cluster_record.specs.Makings.{making_of}
 use Rattle.cluster_record.specs.Places.{put2}
 use Rattle.cluster_record.specs.RecordState.{RecordState, entry_of, complete_of, swept, entered, finished, opened, closed, unlinked, departed, undone, hold_set, active_set}
@@ -22,11 +23,11 @@ use Rattle.ckpt_types.specs.Asks.{asked, update_of}
 use Rattle.ckpt_machine.specs.Machine.{Machine, Effect, Applied, ReplicaState, Snapshot, Staged, CallState}
 use Rattle.ckpt_machine.specs.Owned.{IsEffectOf, HasEffect}
 use Rattle.ckpt_machine.specs.Shape.{IsCompleteOn}
-use Rattle.ckpt_machine.specs.After.{with_record, record_step, created_for, retained_for, change_replica, with_slot, with_claim, without_slot, staged_moment, with_committed, committed_slot, with_applied, with_marks, with_next_element, next_element_written, without_marks, marks_ended, with_installed, with_lead, led_from, effect_of, changed, on_ok, on_look, without_making, at_some, replica_under, reservation_under, snapshot_under, opened_state, with_closed, goes_with}
+use Rattle.ckpt_machine.specs.After.{with_record, record_step, created_for, retained_for, change_replica, with_slot, with_claim, without_slot, staged_moment, with_committed, committed_slot, with_applied, with_marks, with_next_element, next_element_written, without_marks, marks_ended, with_installed, with_lead, led_from, replica_copied, effect_of, changed, on_ok, on_look, without_making, at_some, replica_under, reservation_under, snapshot_under, opened_state, with_closed, goes_with}
 use Rattle.ckpt_machine.specs.Tables.{handle_closed}
 use Rattle.ckpt_machine.specs.Whose.{is_of}
 use Rattle.ckpt_machine.proofs.Dropped.{left_was}
-use Rattle.ckpt_machine.proofs.OptionLemmas.{IsSomeAnd-at}
+use Rattle.ckpt_machine.proofs.OptionLemmas.{IsSomeAnd-at, IfSome-at}
 
 -- ---- what is so in every state of a run
 
@@ -249,7 +250,7 @@ module _ (m : Machine) (bare : IsBare m) (IsNew : ℕ → CallId → Type 0) whe
         | false ↦ λ at some. bare.reserves j q i some
       ] refl is
 
-  -- what a step of a call needs of its row: a node that reserves is not complete, the new effects of a commit are of the origins of what is staged there, that of an update in one step is of the call, that of the end of a weak write is of the call of the marks, and those of an installation, and of a node that leads, are the ones of the snapshot in hand
+  -- what a step of a call needs of its row: a node that reserves is not complete, the new effects of a commit are of the origins of what is staged there, that of an update in one step is of the call, that of the end of a weak write is of the call of the marks, and those of an installation, of a node that leads, and of one that is complete from then on, are the ones of the snapshot in hand
   abbrev pub StepNeeds : CallState → Verb → Option ℕ → Option ℕ → StepReply → Type 0
   StepNeeds s verbs.Reserve (Some k) (Some r) words.Ok = IsSomeAnd (entry_of k m.cluster.entries) (λ e. IsIncomplete e r)
   StepNeeds s verbs.Commit (Some k) (Some r) words.Ok = (x : ReplicaState) (slot : Staged) → m.replicas k r ≡ Some x → x.slot ≡ Some slot → IsNew k slot.origin
@@ -257,6 +258,9 @@ module _ (m : Machine) (bare : IsBare m) (IsNew : ℕ → CallId → Type 0) whe
   StepNeeds s verbs.Unmark (Some k) (Some r) words.Ok = (x : ReplicaState) (marks : Marked) → m.replicas k r ≡ Some x → x.marks ≡ Some marks → IsNew k marks.call
   StepNeeds s verbs.Install (Some k) (Some r) words.Ok = (pulled : Snapshot) (d : CallId) → s.snapshot ≡ Some pulled → HasEffect d pulled.effects → IsNew k d
   StepNeeds s verbs.Activate (Some k) (Some r) words.Ok = (copy : Snapshot) (d : CallId) → s.snapshot ≡ Some copy → HasEffect d copy.effects → IsNew k d
+  StepNeeds s verbs.Complete (Some k) (Some r) words.Ok =
+      ((e : Entry) → entry_of k (swept (completed k r m.cluster)).entries ≡ Some e → IsCompleteOn e r)
+      × ((copy : Snapshot) (d : CallId) → s.snapshot ≡ Some copy → HasEffect d copy.effects → IsNew k d)
   StepNeeds s verb k r reply = Unit {0}
 
   reserved_follows : (s : CallState) (k r : Option ℕ) (reply : StepReply) → StepNeeds s verbs.Reserve k r reply → ReplicasFollow m IsNew (on_ok reply m (at_some k m (λ k. at_some r m (λ r. record m { reserved = put2 m.reserved k r (Some (slice_index m.cluster.up r)) }))))
@@ -333,6 +337,42 @@ module _ (m : Machine) (bare : IsBare m) (IsNew : ℕ → CallId → Type 0) whe
   activate_follows s None r words.Ok new = same_follows
   activate_follows s k r reply new = same_follows
 
+  -- a replica put behind it, which is of a complete node, and whose effects are new
+  put_behind : (b : Machine) → ReplicasFollow m IsNew b → (k r : ℕ) (o : Option ReplicaState) → IfSome o (λ y. IsSomeAnd (entry_of k b.cluster.entries) (λ e. IsCompleteOn e r) × ((d : CallId) → HasEffect d y.effects → IsNew k d)) → ReplicasFollow m IsNew (record b { replicas = put2 b.replicas k r o })
+  put_behind b follows k r o is = record {
+    bare = record { complete = λ j q z here. by_place j q z (λ j q z. IsSomeAnd (entry_of j b.cluster.entries) (λ e. IsCompleteOn e q)) (λ y at. (IfSome-at o _ is y at).0) (follows.bare.complete j q z) here; reserves = follows.bare.reserves };
+    next = follows.next;
+    in_hand = follows.in_hand;
+    effects = λ j q z d here. by_place j q z (λ j q z. HasEffect d z.effects → Has m j q d ⊎ IsNew j d) (λ y at has. inr ((IfSome-at o _ is y at).1 d has)) (λ was has. follows.effects j q z d was has) here;
+    copies = follows.copies;
+  }
+    where
+      by_place : (j q : ℕ) (z : ReplicaState) (P : ℕ → ℕ → ReplicaState → Type 0) → ((y : ReplicaState) → o ≡ Some y → P k r y) → (b.replicas j q ≡ Some z → P j q z) → put2 b.replicas k r o j q ≡ Some z → P j q z
+      by_place j q z P here other is = elim ((j == k) && (q == r)) as (λ t. ((j == k) && (q == r)) ≡ t → cond t o (b.replicas j q) ≡ Some z → P j q z) [
+        | true ↦ λ at some.
+            let (ckpt, node) = and_parts (j == k) (q == r) at in
+            let k_is : k ≡ j = sym (eqb-true j k ckpt) in
+            let r_is : r ≡ q = sym (eqb-true q r node) in
+            subst (λ q. P j q z) r_is (subst (λ j. P j r z) k_is (here z some))
+        | false ↦ λ at some. other some
+      ] refl is
+
+  -- a node that is complete from then on has what the call has in hand
+  copied_is : (call : CallId) (t : ℤ) (f : Option Entry) (s : Option Snapshot) (k r : ℕ) → ((e : Entry) → f ≡ Some e → IsCompleteOn e r) → ((copy : Snapshot) (d : CallId) → s ≡ Some copy → HasEffect d copy.effects → IsNew k d)
+      → IfSome (replica_copied call t f s) (λ y. IsSomeAnd f (λ e. IsCompleteOn e r) × ((d : CallId) → HasEffect d y.effects → IsNew k d))
+  copied_is call t None s k r complete new = tt
+  copied_is call t (Some e) None k r complete new = tt
+  copied_is call t (Some e) (Some copy) k r complete new = (complete e refl, λ d has. new copy d refl has)
+
+  complete_follows : (s : CallState) (k r : Option ℕ) (reply : StepReply) → StepNeeds s verbs.Complete k r reply → ReplicasFollow m IsNew (changed m s verbs.Complete k r reply)
+  complete_follows s (Some k) (Some r) words.Ok needs =
+      let b = record_step (completed k r) m in
+      put_behind b (step_follows (completed k r)) k r (replica_copied s.call (staged_moment m k) (entry_of k b.cluster.entries) s.snapshot)
+      (copied_is s.call (staged_moment m k) (entry_of k b.cluster.entries) s.snapshot k r needs.0 needs.1)
+  complete_follows s (Some k) None words.Ok needs = same_follows
+  complete_follows s None r words.Ok needs = same_follows
+  complete_follows s k r reply needs = same_follows
+
   -- any step
   pub changed_follows : (s : CallState) (verb : Verb) (k r : Option ℕ) (reply : StepReply) → StepNeeds s verb k r reply → ReplicasFollow m IsNew (changed m s verb k r reply)
   changed_follows s verbs.Enter k r reply new = ok_follows reply _ (one_follows r _ (λ r. step_follows (entered (client_of s.call) r s.call.number)))
@@ -358,5 +398,6 @@ module _ (m : Machine) (bare : IsBare m) (IsNew : ℕ → CallId → Type 0) whe
   changed_follows s verbs.Retain k r reply new = ok_follows reply _ (one_follows k _ (λ k. step_follows (retained_for (asked s.op) k)))
   changed_follows s verbs.Hold k r reply new = ok_follows reply _ (one_follows k _ (λ k. step_follows (hold_set k s.call)))
   changed_follows s verbs.Activate k r reply new = activate_follows s k r reply new
+  changed_follows s verbs.Complete k r reply new = complete_follows s k r reply new
   changed_follows s verbs.Look k r reply new = look_follows reply _ _ (closed_follows s m same_follows) (making_follows (making_of s.call m.cluster))
   changed_follows s verb k r reply new = same_follows

@@ -10,12 +10,14 @@ use Rattle.cluster_record.specs.RecordState.{RecordState, entry_of, complete_of,
 use Rattle.replica.specs.Replicas.{Replica, opened_replica}
 use Rattle.node_core.specs.Nodes.{is_there, replica_key}
 use Rattle.ckpt_machine.specs.Nodes.{freed, replica_in}
-use Rattle.ckpt_machine.specs.Holding.{replicas_on, IsReservation, IsHeld, HoldsOnlyWhatStands}
+use Rattle.ckpt_machine.specs.Holding.{replicas_on, IsAwaited, IsReservation, IsHeld, HoldsOnlyWhatStands}
 use Rattle.ckpt_machine.specs.Shown.{shown_reservation, where_complete, complete_replica, reserved_in}
 use Rattle.ckpt_machine.specs.After.{reservation_under}
 use Rattle.ckpt_machine.proofs.HoldingLaws.{StandsFor, held_at, holds_by_key, standing}
 use Rattle.node_core.proofs.OnceByKey.{counted, counted-filter}
-use Rattle.ckpt_machine.proofs.GoesAt.{GoesAt, NodeGoes, zero_there}
+use Rattle.ckpt_machine.proofs.GoesAt.{GoesAt, NodeGoes, test_zero, zero_there}
+use Rattle.ckpt_machine.proofs.Lacking.{lacked_later}
+use Rattle.cluster_record.specs.Placement.{is_collocated}
 
 -- ---- found by a key among those of some keys
 
@@ -67,7 +69,8 @@ reserved_in-freed R nodes k r =
 
 -- ---- what they hold
 
-filtered_once : (p : Replica → Bool) (nodes : List (List Replica)) → ((r k : ℕ) → counted replica_key k (replicas_on nodes r) ≤ 1) → (r k : ℕ) → counted replica_key k (replicas_on (map (filter p) nodes) r) ≤ 1
+-- none of them stands twice
+pub filtered_once : (p : Replica → Bool) (nodes : List (List Replica)) → ((r k : ℕ) → counted replica_key k (replicas_on nodes r) ≤ 1) → (r k : ℕ) → counted replica_key k (replicas_on (map (filter p) nodes) r) ≤ 1
 filtered_once p nodes once r k =
     subst (λ (o : Option (List Replica)). counted replica_key k (list_or o) ≤ 1) (sym (slice_get-map (filter p) nodes r)) (by_node (slice_get nodes r) (once r k))
   where
@@ -88,6 +91,10 @@ module _ (R N : RecordState) (nodes new : List (List Replica)) (up : N.up ≡ R.
           (subst (λ (us : List ℕ). (slice_index f.complete r ≡ slice_index us r) ⊎ IsReservation f r x) (sym up) stands);
     }
 
+    awaited_then : f.making ≡ e.making → slice_index f.complete r ≡ 0 → IsAwaited r e → IsAwaited r f
+    awaited_then same unset (inl making) = inl (ap is_some same ∙ making)
+    awaited_then same unset (inr lacks) = inr (lacked_later r e f same (ap is_collocated goes.0) (test_zero (slice_index f.complete r) unset) lacks)
+
     by_node : NodeGoes R.up k e f r (replica_in nodes k r) (Some x) → IsHeld N r x
     by_node (inr new) = held_as (ap (λ (x : Replica). x.ckpt) (same_Some x _ new.3)) new.2 (inl new.1)
     by_node (inl same) =
@@ -97,7 +104,7 @@ module _ (R N : RecordState) (nodes new : List (List Replica)) (up : N.up ≡ R.
           | inl making ↦ elim (standing R nodes holds k r e x was (sym same.1)) [
             | inl complete ↦ inl (same.0 ∙ complete)
             | inr reservation ↦ inr (record {
-              making = ap is_some making ∙ reservation.making;
+              awaited = awaited_then making (same.0 ∙ reservation.not_complete) reservation.awaited;
               not_complete = same.0 ∙ reservation.not_complete;
               opening = reservation.opening ∙ (λ i. opened_replica x.ckpt (sym goes.0 i) (sym goes.1 i));
             })

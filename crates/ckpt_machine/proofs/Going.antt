@@ -1,9 +1,9 @@
 -- What each step of the record makes of each entry.
 use Rattle.std.proofs.Common.{◌≡◌, inl, inr, ℕ, ◌+◌, ◌<◌, ◌≤◌, length, Bool, true, false, List, refl, sym, ap, subst, ◌∙◌, cond, arith}
-use Rattle.std.specs.Prelude.{Option, Some, None, IsSomeAnd, not, nat_lt, ◌==◌, ◌&&◌, slice_index, slice_set, filter}
+use Rattle.std.specs.Prelude.{Option, Some, None, IsSome, IsSomeAnd, is_some, not, nat_lt, ◌==◌, ◌&&◌, slice_index, slice_set, filter}
 use Rattle.std.specs.Option.{option_map}
 use Rattle.std.proofs.lemmas.Option.{same_Some}
-use Rattle.std.proofs.lemmas.Bool.{eqb-true, eqb-false, eq-eqb, ltb-true, and_parts}
+use Rattle.std.proofs.lemmas.Bool.{eqb-true, eqb-false, eq-eqb, ltb-true, and_parts, not-true}
 use Rattle.std.proofs.lemmas.List.{length-set, get_or-set_same, get_or-set_other}
 use Rattle.ckpt_types.specs.declared.attributes.CreationAttributes.{CreationAttributes}
 use Rattle.ckpt_types.specs.declared.identities.CallId.{CallId}
@@ -15,33 +15,41 @@ use Rattle.cluster_record.specs.declared.calls.Making.{Making}
 use Rattle.cluster_record.specs.declared.entries.Entry.{Entry}
 use Rattle.replica.specs.Replicas.{Replica, opened_replica}
 use Rattle.ckpt_machine.specs.After.{reservation_under}
+use Rattle.cluster_record.specs.DueCopy.{lacks_replica}
+use Rattle.cluster_record.specs.Joining.{can_complete, completed, completed_on}
 use Rattle.cluster_record.specs.Places.{change_key}
 use Rattle.ckpt_types.specs.declared.calls.OpenAsk.{OpenAsk}
 use Rattle.cluster_record.specs.Opening.{answer_named, open_answer}
 use Rattle.cluster_record.specs.Placement.{targets, is_collocated, adds}
-use Rattle.cluster_record.specs.RecordState.{RecordState, identity_of, entry_of, named, stays, referred, opened_with, home_of, made_with, new_entry, created_as, opened, finished, undone, swept}
-use Rattle.ckpt_machine.specs.Nodes.{replica_in, with_added, with_opened}
+use Rattle.cluster_record.specs.RecordState.{RecordState, identity_of, entry_of, is_up, named, stays, referred, opened_with, home_of, made_with, new_entry, created_as, opened, finished, undone, swept}
+use Rattle.ckpt_machine.specs.Nodes.{replica_in, with_added, with_changed, with_opened}
 use Rattle.ckpt_machine.specs.RecordAfter.{event_change, event_after, nodes_behind}
 use Rattle.cluster_record.specs.DueOpen.{making_ckpt}
 use Rattle.cluster_record.specs.LookUps.{at_ckpt, identity_in}
 use Rattle.ckpt_machine.specs.Machine.{Machine, CallState}
 use Rattle.cluster_record.specs.Identities.{IdentitiesRise}
 use Rattle.ckpt_machine.specs.Holding.{replicas_on, HoldsOnlyWhatStands}
-use Rattle.ckpt_machine.specs.RecordReady.{CanAdd, HasNoneOf}
+use Rattle.ckpt_machine.specs.RecordReady.{CanAdd, HasNoneOf, IsPlain}
 use Rattle.ckpt_machine.specs.Facts.{Facts, FitsOpen, IsEventReady, AllReserved, NoneReservedElse, IsFinishable}
 use Rattle.ckpt_machine.specs.Shown.{shown_reservation, reserved_in}
 use Rattle.cluster_record.proofs.IdentityLaws.{IsLeft, KeepsIdentity, entry_of-beyond, IdentitiesRise-change_key, IdentitiesRise-push, filter_leaves}
+use Rattle.cluster_record.proofs.JoinLaws.{completed_at, node_complete, others_complete, rest_stays}
+use Rattle.cluster_record.proofs.KeptLaws.{completed_on-keeps}
 use Rattle.cluster_record.proofs.Places.{find_changed}
 use Rattle.ckpt_machine.specs.Driving.{event_refusal, refusal_in}
 use Rattle.ckpt_machine.proofs.Joining.{opened_with-identity}
 use Rattle.ckpt_machine.proofs.OptionLemmas.{IsSomeAnd-at}
-use Rattle.node_core.proofs.OnceByKey.{counted}
+use Rattle.node_core.proofs.OnceByKey.{counted, counted-change_key}
 use Rattle.node_core.specs.Nodes.{replica_key}
 use Rattle.cluster_record.proofs.NameLaws.{named-entry}
 use Rattle.ckpt_machine.proofs.Adding.{added_replica, added_here, added_once, opened_none, opened_adds}
-use Rattle.ckpt_machine.proofs.HoldingLaws.{held_at, none_gone, opening_there}
+use Rattle.ckpt_machine.proofs.EntryLists.{AllStay-change_key, swept-all}
+use Rattle.ckpt_machine.proofs.HoldingLaws.{held_at, none_gone, once_set, opening_there}
 use Rattle.ckpt_machine.proofs.KeptEntries.{IsKept, Sight, sight, Keeps, IsQuiet, created_there, kept_all, undone_stays, swept_stays, quiet_stays}
+use Rattle.ckpt_machine.proofs.Lacking.{IsLacked, lacked_parts}
+use Rattle.ckpt_machine.proofs.NodeMaps.{changed_here}
 use Rattle.ckpt_machine.proofs.Readiness.{made_as}
+use Rattle.ckpt_machine.proofs.ServedNodes.{node_within}
 use Rattle.ckpt_machine.proofs.Targets.{target-up}
 use Rattle.ckpt_machine.proofs.GoesAt.{IsUpIn, GoesAt, NodeGoes, zero_there}
 
@@ -56,6 +64,16 @@ reserved_there k r u f e y is free reserved opening = at y has opening where
   at : (y : Option Replica) → shown_reservation u y ≡ Some u → ((x : Replica) → y ≡ Some x → x ≡ opened_replica k e.attributes e.made) → y ≡ Some (opened_replica k e.attributes e.made)
   at None has opening = absurd (cc has)
   at (Some x) has opening = ap Some (opening x refl)
+
+-- in whatever incarnation that was
+reserved_one : (k r u : ℕ) (f : Option Entry) (e : Entry) (y : Option Replica) → f ≡ Some e → IsSome (reservation_under f r (shown_reservation u y)) → ((x : Replica) → y ≡ Some x → x ≡ opened_replica k e.attributes e.made) → y ≡ Some (opened_replica k e.attributes e.made)
+reserved_one k r u f e y is some opening = at y (subst (λ f. IsSome (reservation_under f r (shown_reservation u y))) is some) opening where
+  at : (y : Option Replica) → IsSome (reservation_under (Some e) r (shown_reservation u y)) → ((x : Replica) → y ≡ Some x → x ≡ opened_replica k e.attributes e.made) → y ≡ Some (opened_replica k e.attributes e.made)
+  at None some opening = absurd (by_test (slice_index e.complete r == 0) some) where
+    by_test : (b : Bool) → IsSome (cond b (shown_reservation u None) None) → ⊥
+    by_test true some = cc some
+    by_test false some = cc some
+  at (Some x) some opening = ap Some (opening x refl)
 
 -- and one that has not has none
 pub unreserved_there : (r u : ℕ) (f : Option Entry) (e : Entry) (y : Option Replica) → f ≡ Some e → slice_index e.complete r ≡ 0 → reservation_under f r (shown_reservation u y) ≡ None → y ≡ None
@@ -112,6 +130,20 @@ module _ (up : List ℕ) where
         inr (ap (slice_index e.complete) s ∙ free, ap (slice_index with_opener.complete) s ∙ get_or-set_same e.complete opener (slice_index up opener) 0 within ∙ ap (slice_index up) (sym s), subst (IsUpIn up) (sym s) is_up_there, has s)
 
 -- ---- every step
+
+-- no node comes to be complete by a step of its own
+abbrev pub CompletesNone : RecordStep → Type 0
+CompletesNone (events.Complete k r moment) = ⊥
+CompletesNone step = Unit {0}
+
+-- a plain one is so
+pub plain_completes : (step : RecordStep) → IsPlain step → CompletesNone step
+plain_completes (events.Complete k r moment) plain = plain
+plain_completes step plain = tt
+
+-- a replica with this generation
+abbrev pub raised : ℕ → Replica → Replica
+raised generation x = record x { generation = generation }
 
 opened_length : (o : Option Entry) (r : ℕ) (nodes : List (List Replica)) → length (with_opened o r nodes) ≡ length nodes
 opened_length None r nodes = refl
@@ -220,7 +252,7 @@ module _ (m : Machine) (nodes : List (List Replica)) (reserved : (k r : ℕ) →
 
       -- the node has none yet
       none_yet : replica_in nodes e.identity home ≡ None
-      none_yet = unreserved_there home (slice_index R.up home) (entry_of e.identity R.entries) e (replica_in nodes e.identity home) there free (reserved e.identity home ∙ (fits made).1.unreserved)
+      none_yet = unreserved_there home (slice_index R.up home) (entry_of e.identity R.entries) e (replica_in nodes e.identity home) there free (reserved e.identity home ∙ (fits made).1.unreserved (and_parts (is_collocated e.attributes) (slice_index e.complete home == 0) new).0)
 
       opened_adding : length nodes ≡ 8 → GoesOn N (with_added e home nodes)
       opened_adding eight =
@@ -256,29 +288,108 @@ module _ (m : Machine) (nodes : List (List Replica)) (reserved : (k r : ℕ) →
   event_free s (drivers.Once x) step granted ready = tt
   event_free s x step granted ready = tt
 
-  change_go : (call : CallId) (s : CallState) (x : Driver) (step : RecordStep) → length nodes ≡ 8 → event_refusal R step x ≡ None → IsEventReady m s x step → GoesOn (event_change call x step R) (nodes_behind x step R nodes)
-  change_go call s (drivers.Open o) events.Create eight granted ready = on (created_as call o.ask.name o.ask.attrs R) (created_go call o.ask.name o.ask.attrs)
-  change_go call s (drivers.Open o) events.Open eight granted ready = opened_go o.ask (named o.ask.name R.entries) refl eight granted ready.0
-  change_go call s (drivers.Open o) events.Finish eight granted ready = on _ (finished_go o.ask.client s o.making ready.0)
-  change_go call s (drivers.Open o) step eight granted ready = quietly call (drivers.Open o) step tt
-  change_go call s x step eight granted ready = quietly call x step tt
+  change_go : (call : CallId) (s : CallState) (x : Driver) (step : RecordStep) → CompletesNone step → length nodes ≡ 8 → event_refusal R step x ≡ None → IsEventReady m s x step → GoesOn (event_change call x step R) (nodes_behind x step R nodes)
+  change_go call s (drivers.Open o) events.Create none eight granted ready = on (created_as call o.ask.name o.ask.attrs R) (created_go call o.ask.name o.ask.attrs)
+  change_go call s (drivers.Open o) events.Open none eight granted ready = opened_go o.ask (named o.ask.name R.entries) refl eight granted ready.0
+  change_go call s (drivers.Open o) events.Finish none eight granted ready = on _ (finished_go o.ask.client s o.making ready.0)
+  change_go call s (drivers.Open o) step none eight granted ready = quietly call (drivers.Open o) step tt
+  change_go call s (drivers.Copy c) (events.Complete k r moment) none eight granted ready = absurd none
+  change_go call s (drivers.Copy c) step none eight granted ready = quietly call (drivers.Copy c) step tt
+  change_go call s x step none eight granted ready = quietly call x step tt
+
+  -- what goes on does so after the sweep
+  module _ (between : RecordState) (then : List (List Replica)) (on_going : GoesOn between then) where
+    swept_goes : (j r : ℕ) → GoesAt R.up j (entry_of j R.entries) (entry_of j (swept between).entries) r (replica_in nodes j r) (replica_in then j r)
+    swept_goes j r = goes_left R.up j (entry_of j R.entries) (entry_of j between.entries) (entry_of j (filter (stays between.moment) between.entries)) r (replica_in nodes j r) (replica_in then j r) (on_going.goes j r) (filter_leaves (stays between.moment) between.entries on_going.rises j)
 
   -- and after the sweep
-  module _ (call : CallId) (s : CallState) (x : Driver) (step : RecordStep) (eight : length nodes ≡ 8) (granted : event_refusal R step x ≡ None) (ready : IsEventReady m s x step) where
-    abbrev then : List (List Replica)
-    then = nodes_behind x step R nodes
+  module _ (call : CallId) (s : CallState) (x : Driver) (step : RecordStep) (none : CompletesNone step) (eight : length nodes ≡ 8) (granted : event_refusal R step x ≡ None) (ready : IsEventReady m s x step) where
+    on_going : GoesOn (event_change call x step R) (nodes_behind x step R nodes)
+    on_going = change_go call s x step none eight granted ready
 
-    abbrev between : RecordState
-    between = event_change call x step R
+    pub event_goes : (j r : ℕ) → GoesAt R.up j (entry_of j R.entries) (entry_of j (event_after call x step R).entries) r (replica_in nodes j r) (replica_in (nodes_behind x step R nodes) j r)
+    event_goes = swept_goes (event_change call x step R) (nodes_behind x step R nodes) on_going
 
-    on_going : GoesOn between then
-    on_going = change_go call s x step eight granted ready
-
-    pub event_goes : (j r : ℕ) → GoesAt R.up j (entry_of j R.entries) (entry_of j (event_after call x step R).entries) r (replica_in nodes j r) (replica_in then j r)
-    event_goes j r = goes_left R.up j (entry_of j R.entries) (entry_of j between.entries) (entry_of j (filter (stays between.moment) between.entries)) r (replica_in nodes j r) (replica_in then j r) (on_going.goes j r) (filter_leaves (stays between.moment) between.entries on_going.rises j)
-
-    pub event_once : (r k : ℕ) → counted replica_key k (replicas_on then r) ≤ 1
+    pub event_once : (r k : ℕ) → counted replica_key k (replicas_on (nodes_behind x step R nodes) r) ≤ 1
     event_once = on_going.once
+
+  -- a completion by a node that lacks the checkpoint, and has reserved for it
+  module _ (k r : ℕ) (e : Entry) (there : entry_of k R.entries ≡ Some e) (some : IsSome (m.reserved k r)) (lacks : lacks_replica r e ≡ true) (on_node : is_up r R ≡ true) (wide : length e.complete ≡ 8) where
+    abbrev its_entry : Entry
+    its_entry = completed_on r (slice_index R.up r) e
+
+    -- it has the replica that its reservation has made
+    pub reserved_replica : replica_in nodes k r ≡ Some (opened_replica k e.attributes e.made)
+    reserved_replica = reserved_one k r (slice_index R.up r) (entry_of k R.entries) e (replica_in nodes k r) there (subst IsSome (sym (reserved k r)) some) (λ x. opening_there R nodes holds k r e x there (eqb-true (slice_index e.complete r) 0 (lacked_parts r e lacks).none))
+
+    -- with the generation that its checkpoint has then
+    abbrev pub raised_nodes : List (List Replica)
+    raised_nodes = with_changed k r (raised its_entry.generation) nodes
+
+    pub raised_there : (j q : ℕ) → replica_in raised_nodes j q ≡ cond ((j == k) && (q == r)) (Some (raised its_entry.generation (opened_replica k e.attributes e.made))) (replica_in nodes j q)
+    raised_there = changed_here nodes k r (raised its_entry.generation) (λ x. refl) (opened_replica k e.attributes e.made) reserved_replica
+
+    can : can_complete r (slice_index R.up r) e ≡ true
+    can =
+        let lacked : IsLacked r e = lacked_parts r e lacks in
+        let some_life : not (slice_index R.up r == 0) ≡ true = (and_parts (nat_lt r 8) (not (slice_index R.up r == 0)) on_node).1 in
+        λ i. not (is_some (lacked.made i)) && not (lacked.apart i) && some_life i && lacked.none i
+
+    within : r < length e.complete
+    within = subst (λ size. r < size) (sym wide) (ltb-true r 8 (and_parts (nat_lt r 8) (not (slice_index R.up r == 0)) on_node).0)
+
+    -- so it is complete for it, in its incarnation
+    pub complete_then : slice_index its_entry.complete r ≡ slice_index R.up r
+    complete_then = node_complete r (slice_index R.up r) e can within
+
+    pub complete_there : (slice_index its_entry.complete r == 0) ≡ false
+    complete_there = ap (λ c. c == 0) complete_then ∙ not-true (slice_index R.up r == 0) (and_parts (nat_lt r 8) (not (slice_index R.up r == 0)) on_node).1
+
+    -- and the checkpoint is there
+    pub entry_then : entry_of k (swept (completed k r R)).entries ≡ Some its_entry
+    entry_then =
+        ap (λ (N : RecordState). entry_of k N.entries) (swept-all (completed k r R) (AllStay-change_key R.moment (completed_on r (slice_index R.up r)) k R.entries facts.stay (λ x found was. ap (stays R.moment) (rest_stays r (slice_index R.up r) x) ∙ was)))
+        ∙ completed_at k r R e there
+
+    -- what a completion leaves of all else
+    pub declares : its_entry.attributes ≡ e.attributes
+    declares = ap (λ (f : Entry). f.attributes) (rest_stays r (slice_index R.up r) e)
+
+    as_made : its_entry.made ≡ e.made
+    as_made = ap (λ (f : Entry). f.made) (rest_stays r (slice_index R.up r) e)
+
+    node_goes : (q : ℕ) (b : Bool) → (q == r) ≡ b → NodeGoes R.up k e its_entry q (replica_in nodes k q) (cond b (Some (raised its_entry.generation (opened_replica k e.attributes e.made))) (replica_in nodes k q))
+    node_goes q false other = inl (others_complete r (slice_index R.up r) e q (eqb-false q r other), refl, inl (ap (λ (f : Entry). f.making) (rest_stays r (slice_index R.up r) e)))
+    node_goes q true same = subst (λ q. NodeGoes R.up k e its_entry q (replica_in nodes k q) (Some (raised its_entry.generation (opened_replica k e.attributes e.made)))) (sym (eqb-true q r same)) (inr (
+      eqb-true (slice_index e.complete r) 0 (lacked_parts r e lacks).none,
+      complete_then,
+      on_node,
+      (λ i. Some (record (opened_replica k (sym declares i) (sym as_made i)) { generation = its_entry.generation })),
+    ))
+
+    completed_going : GoesOn (completed k r R) raised_nodes
+    completed_going = record {
+      goes = λ j q. changed_goes R.up (completed_on r (slice_index R.up r)) (completed_on-keeps r (slice_index R.up r)).1 k j q R.entries e (replica_in nodes j q) (replica_in raised_nodes j q) there
+          (λ same. subst (λ y. GoesAt R.up j (Some e) (Some its_entry) q (replica_in nodes j q) y) (sym (raised_there j q)) (
+          let here : NodeGoes R.up k e its_entry q (replica_in nodes k q) (cond (q == r) (Some (raised its_entry.generation (opened_replica k e.attributes e.made))) (replica_in nodes k q)) = node_goes q (q == r) refl in
+          subst (λ (z : ℕ × Bool). GoesAt R.up z.0 (Some e) (Some its_entry) q (replica_in nodes z.0 q) (cond (z.1 && (q == r)) (Some (raised its_entry.generation (opened_replica k e.attributes e.made))) (replica_in nodes z.0 q))) (λ i. (sym same i, sym (eq-eqb j k same) i)) (declares, as_made, here)
+          ))
+          (λ other. raised_there j q ∙ ap (λ b. cond (b && (q == r)) (Some (raised its_entry.generation (opened_replica k e.attributes e.made))) (replica_in nodes j q)) other);
+      rises = IdentitiesRise-change_key (completed_on r (slice_index R.up r)) (completed_on-keeps r (slice_index R.up r)).1 k R.entries facts.rises;
+      once = raised_once;
+    }
+      where
+        at_node : (q : ℕ) → r < length nodes → (j : ℕ) → counted replica_key j (replicas_on raised_nodes q) ≤ 1
+        at_node q on j = once_set nodes r on (change_key replica_key k (raised its_entry.generation) (replicas_on nodes r)) (λ j. subst (λ (n : ℕ). n ≤ 1) (sym (counted-change_key replica_key k j (raised its_entry.generation) (λ x. refl) (replicas_on nodes r))) (holds.once r j)) holds.once q j
+
+        raised_once : (q j : ℕ) → counted replica_key j (replicas_on raised_nodes q) ≤ 1
+        raised_once q j = at_node q (node_within nodes k r (opened_replica k e.attributes e.made) reserved_replica) j
+
+    pub completed_goes : (j q : ℕ) → GoesAt R.up j (entry_of j R.entries) (entry_of j (swept (completed k r R)).entries) q (replica_in nodes j q) (replica_in raised_nodes j q)
+    completed_goes = swept_goes (completed k r R) raised_nodes completed_going
+
+    pub completed_once : (q j : ℕ) → counted replica_key j (replicas_on raised_nodes q) ≤ 1
+    completed_once = completed_going.once
 
   -- and where a making is undone in between
   pub unmade_goes : (k j r : ℕ) → GoesAt R.up j (entry_of j R.entries) (entry_of j (swept (undone k R)).entries) r (replica_in nodes j r) (replica_in nodes j r)

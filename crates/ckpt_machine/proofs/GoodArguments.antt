@@ -20,4 +20,4 @@ pub good_arguments : (log : List Label) → IsRun log → HaveGoodArguments (las
 good_arguments log run s held =
     let began = all_began log run s held in
     let there = IsRunFrom-back empty_cluster began.before (labels.Began s.call s.op began.end began.details ∷ began.behind) (subst IsRun began.log_is run) in
-    (row_passed (standing_of (last began.before) s.call.actor s.op) s.op began.end there.0.built there.0.row began.goes).unrefused.arguments
+    (row_passed (standing_of (last began.before) s.call.actor s.op) s.op began.end there.0.row began.goes).unrefused.arguments

@@ -16,7 +16,7 @@ use Rattle.node_msgs.specs.declared.steps.StepReply.TheVariants as words
 use Rattle.run_labels.specs.declared.labels.Label.{Label}
 use Rattle.run_labels.specs.declared.labels.Label.TheVariants as labels
 use Rattle.cluster_record.specs.Failing.{goes_with_node}
-use Rattle.cluster_record.specs.Placement.{is_collocated}
+use Rattle.cluster_record.specs.Placement.{is_all, is_collocated}
 use Rattle.cluster_record.specs.declared.entries.Entry.{Entry}
 use Rattle.cluster_record.specs.Calls.{client_of}
 use Rattle.cluster_record.specs.Makings.{making_of}
@@ -37,7 +37,8 @@ use Rattle.ckpt_machine.specs.Under.{replicas_under}
 use Rattle.ckpt_machine.proofs.Activating.{Leads, with_leader, leader-cases, made_where_complete, led_by, found_led, led_made, others_stay, after_activate}
 use Rattle.ckpt_machine.proofs.ActiveNode.{active_complete}
 use Rattle.ckpt_machine.proofs.Copying.{IsOfSource, TakesOver, after_pull, after_put_over}
-use Rattle.ckpt_machine.proofs.EachReplica.{Each, PulledInHand, IsAhead}
+use Rattle.ckpt_machine.proofs.Completions.{Brings, after_complete, brought, brought-cases, brought_made, entry_then, joined_entry, none_before, with_brought}
+use Rattle.ckpt_machine.proofs.EachReplica.{Each, PulledInHand, IsAhead, IsPulledOf}
 use Rattle.ckpt_machine.proofs.Entries.{ComesOf-filter}
 use Rattle.ckpt_machine.proofs.FailedHands.{WasEntry, was_entry}
 use Rattle.ckpt_machine.proofs.FailedMade.{failed_goes}
@@ -152,23 +153,23 @@ module _ (m : Machine) (inv : Invariant m) (bare : IsBare m) (each : Each (λ o 
   abbrev pub IsCopyOf : ℕ → Snapshot → Type 0
   IsCopyOf k s = (m.snapshots k ≡ Some s) ⊎ PulledInHand m.in_hand k s
 
-  -- the checkpoint of such a snapshot, where it is there, is made, and its updates go to an active alone, which there is where the snapshot is of its generation
-  copy_source : (k : ℕ) (s : Snapshot) (e : Entry) → entry_of k m.cluster.entries ≡ Some e → IsCopyOf k s → IsOfSource e s
-  copy_source k s e found (inl is) =
+  -- the checkpoint of such a snapshot, where it is there, is made, and where its updates go to an active alone, there is one where the snapshot is of its generation
+  copy_source : (k : ℕ) (s : Snapshot) (e : Entry) → entry_of k m.cluster.entries ≡ Some e → is_all e.attributes ≡ false → IsCopyOf k s → IsOfSource e s
+  copy_source k s e found alone (inl is) =
       let (f, there, is_so) = IsSomeAnd-at (entry_of k m.cluster.entries) (λ e. IsOfSource e s × Unit {0}) (each.snapshot k s is) in
       subst (λ e. IsOfSource e s) (same_Some f e (sym there ∙ found)) is_so.0
-  copy_source k s e found (inr has) = (IfSome-at (entry_of k m.cluster.entries) (λ e. IsOfSource e s × Unit {0}) (each.in_hand k s has).1 e found).0
+  copy_source k s e found alone (inr has) = (IfSome-at (entry_of k m.cluster.entries) (λ e. IsPulledOf (asked has.state.op) e s × Unit {0}) (each.in_hand k s has).1 e found).0.source (inl alone)
 
   -- no such snapshot of this generation is ahead of the active
   copy_first : (k : ℕ) (collocated : Bool) (g : ℕ) (s : Snapshot) (y : ReplicaState) → IsAhead k collocated g m.replicas m.snapshots m.in_hand y → IsCopyOf k s → s.generation ≡ g → IsPrefix s.effects y.effects
   copy_first k collocated g s y ahead (inl is) present = ahead.snapshot s is present
   copy_first k collocated g s y ahead (inr has) present = ahead.in_hand s has present
 
-  module _ (k r : ℕ) (e : Entry) (s : Snapshot) (x : ReplicaState) (found : entry_of k m.cluster.entries ≡ Some e) (copy : IsCopyOf k s) (there : m.replicas k r ≡ Some x) (own : x.generation ≡ e.generation) (present : s.generation ≡ e.generation) where
+  module _ (k r : ℕ) (e : Entry) (s : Snapshot) (x : ReplicaState) (found : entry_of k m.cluster.entries ≡ Some e) (alone : is_all e.attributes ≡ false) (copy : IsCopyOf k s) (there : m.replicas k r ≡ Some x) (own : x.generation ≡ e.generation) (present : s.generation ≡ e.generation) where
     -- a snapshot and a replica of the present generation are both first parts of what the active has
     both_first : (y : ReplicaState) × IsPrefix x.effects y.effects × IsPrefix s.effects y.effects
     both_first =
-        let of = copy_source k s e found copy in
+        let of = copy_source k s e found alone copy in
         let source = of.source in
         let (q, active) = led e.active refl (of.led present) in
         let (y, at) = active_there k q e found source.made active in
@@ -195,7 +196,7 @@ module _ (m : Machine) (inv : Invariant m) (bare : IsBare m) (each : Each (λ o 
 
   -- a replica of the present generation grows by such a snapshot that it takes over
   taken_grows : (k r : ℕ) (s : Snapshot) (x : ReplicaState) → IsCopyOf k s → (over : TakesOver m k r s x) → x.generation ≡ over.on.entry.generation → GrowsTo x (replica_from s x)
-  taken_grows k r s x copy over own = (over.present ∙ sym own, behind_first k r over.on.entry s x over.on.found copy over.on.there own over.present over.behind)
+  taken_grows k r s x copy over own = (over.present ∙ sym own, behind_first k r over.on.entry s x over.on.found over.on.alone copy over.on.there own over.present over.behind)
 
   -- and is of the present generation then
   taken_generation : (k r : ℕ) (s : Snapshot) (x : ReplicaState) (over : TakesOver m k r s x) (e : Entry) → entry_of k m.cluster.entries ≡ Some e → s.generation ≡ e.generation
@@ -345,18 +346,44 @@ module _ (m : Machine) (inv : Invariant m) (bare : IsBare m) (each : Each (λ o 
     finished_goes s None q words.Ok by = goes_on_same
     finished_goes s j q reply by = goes_on_same
 
-    -- what an installation and the setting of an active leave
+    -- where a copying brings a checkpoint to its node, this has a replica more, and the others have what they had
+    brought_goes : (s : CallState) (j q : ℕ) (b : Brings m s j q) → GoesOn m k (with_brought m inv s j q b)
+    brought_goes s j q b = record {
+      made = λ g found. brought_made m inv s j q b k g found;
+      away = λ f r found there. none_gone r;
+      led = λ e f r was found still active. none_gone r;
+      replica = λ r x e g stays was found still at present. IsSomeAnd-from ((with_brought m inv s j q b).replicas k r) (GrowsTo x) x (there_still r x at) (grows_to_same x);
+      generations = λ r y e g was found still at. elim (brought-cases m inv s j q b k r y at) [
+        | inl here ↦ inl (
+            let g_is : g ≡ joined_entry m inv s j q b = same_Some g (joined_entry m inv s j q b) (sym found ∙ ap (λ k. entry_of k (with_brought m inv s j q b).cluster.entries) (sym here.0) ∙ entry_then m inv s j q b) in
+            ap (λ (x : ReplicaState). x.generation) (sym here.2) ∙ ap (λ (e : Entry). e.generation) (sym g_is))
+        | inr other ↦ as_before r y other.0
+      ];
+    }
+      where
+        -- the node had none of it
+        there_still : (r : ℕ) (x : ReplicaState) → m.replicas k r ≡ Some x → (with_brought m inv s j q b).replicas k r ≡ Some x
+        there_still r x at = elim ((k == j) && (r == q)) as (λ t. ((k == j) && (r == q)) ≡ t → cond t (Some (brought m inv s j q b)) (m.replicas k r) ≡ Some x) [
+          | true ↦ λ here. absurd (
+              let (ckpt, node) = and_parts (k == j) (r == q) here in
+              none_before m inv s j q b bare x ((λ i. m.replicas (sym (eqb-true k j ckpt) i) (sym (eqb-true r q node) i)) ∙ at))
+          | false ↦ λ other. at
+        ] refl
+
+    -- what an installation, the setting of an active and a completion leave
     abbrev Installs : CallState → Verb → Option ℕ → Option ℕ → StepReply → Type 0
     Installs s verbs.Install j q reply = GoesOn m k (changed m s verbs.Install j q reply)
     Installs s verbs.Activate j q reply = GoesOn m k (changed m s verbs.Activate j q reply)
+    Installs s verbs.Complete j q reply = GoesOn m k (changed m s verbs.Complete j q reply)
     Installs s verb j q reply = Unit {0}
 
-    -- a checkpoint goes on where a call installs what it has pulled there, or sets an active
+    -- a checkpoint goes on where a call installs what it has pulled there, sets an active, or brings the checkpoint to its node
     installs : (s : CallState) → m.in_hand (who s) ≡ Some s → (verb : Verb) (j q : Option ℕ) (reply : StepReply) (t : Told) → IsOnOwn verb j s.kept.ckpt → Row m s verb (record t { verb = verb; ckpt = j; node = q; reply = reply }) → Installs s verb j q reply
     installs s held verbs.Install j q reply t own row = after_install (GoesOn m k) m s t j q reply row goes_on_same (λ i r z x is in_hand over. (
         let has : PulledInHand m.in_hand i z = record { name = who s; state = s; in_hand = held; ckpt = sym own ∙ is; snapshot = in_hand } in
         put_goes i r x (replica_from z x) over.on.there (λ e found present. taken_grows i r z x (inr has) over (present ∙ ap (λ (e : Entry). e.generation) (same_Some e over.on.entry (sym found ∙ over.on.found)))) (λ e found. inl (taken_generation i r z x over e found))))
     installs s held verbs.Activate j q reply t own row = after_activate (GoesOn m k) m inv bare s held t j q reply own row goes_on_same (λ i r on. record_goes (swept (active_set i r m.cluster)) (on k)) (leads_go s)
+    installs s held verbs.Complete j q reply t own row = after_complete (GoesOn m k) m inv s held t j q reply own row goes_on_same (brought_goes s)
     installs s held verb j q reply t own row = tt
 
     -- a checkpoint goes on by any step
@@ -379,6 +406,7 @@ module _ (m : Machine) (inv : Invariant m) (bare : IsBare m) (each : Each (λ o 
     steps_go s verbs.Install j q reply needs done = done
     steps_go s verbs.Hold j q reply needs done = entry_goes (λ j. hold_set j s.call) (λ j. changed_on k m.cluster given inv.holds.rises inv.holds.up_to j (with_hold s.call) (held-identity s.call) (held_made s.call)) j reply
     steps_go s verbs.Activate j q reply needs done = done
+    steps_go s verbs.Complete j q reply needs done = done
     steps_go s verbs.Iter j q reply needs done = ok_goes reply _ (both_go j q _ (λ j q. goes_on_same))
     steps_go s verbs.Next j q reply needs done = ok_goes reply _ (both_go j q _ (λ j q. goes_on_same))
     steps_go s verbs.Leave j q reply needs done = ok_goes reply _ (step_goes (departed (client_of s.call)) (departed_on k m.cluster given inv.holds.rises inv.holds.up_to (client_of s.call)))

@@ -169,7 +169,7 @@ module _ (R : RecordState) (nodes : List (List Replica)) (holds : HoldsOnlyWhatS
         (λ j y found. by_test (j == k) x j y is (sym (find_changed replica_key k f same (replicas_on nodes r) x j is) ∙ found))
         (λ j. subst (λ (n : ℕ). n ≤ 1) (sym (counted-change_key replica_key k j f same (replicas_on nodes r))) (holds.once r j))
 
-  -- with one reserved for a checkpoint in the making, unless there is one
+  -- with one reserved where it is awaited, unless there is one
   holds_reserved : (k : ℕ) (e : Entry) → entry_of k R.entries ≡ Some e → IsReservable R r e → HoldsOnlyWhatStands R (slice_set nodes r (with_reserved (replica_in nodes k r) (opened_replica k e.attributes e.made) (replicas_on nodes r)))
   holds_reserved k e there can = by_found (replica_in nodes k r) refl where
     new : Replica
@@ -178,7 +178,7 @@ module _ (R : RecordState) (nodes : List (List Replica)) (holds : HoldsOnlyWhatS
     held_new : IsHeld R r new
     held_new = record {
       up = can.up;
-      stands = subst (λ (o : Option Entry). IsSomeAnd o (StandsFor R r new)) (sym there) (inr (record { making = can.making; not_complete = can.not_complete; opening = refl }));
+      stands = subst (λ (o : Option Entry). IsSomeAnd o (StandsFor R r new)) (sym there) (inr (record { awaited = can.awaited; not_complete = can.not_complete; opening = refl }));
     }
 
     by_test : (b : Bool) (j : ℕ) (y : Replica) → cond b (Some new) (replica_in nodes j r) ≡ Some y → IsHeld R r y
@@ -191,7 +191,7 @@ module _ (R : RecordState) (nodes : List (List Replica)) (holds : HoldsOnlyWhatS
         (counted-push replica_key (replicas_on nodes r) new is (holds.once r))
     by_found (Some x) is = holds_as_it_was
 
-  -- what a reservation asks: the checkpoint is in the making, and the node is not complete for it
+  -- what a reservation asks: it is awaited, and the node is not complete for the checkpoint
   by_entry : (k : ℕ) (o : Option Entry) → entry_of k R.entries ≡ o → IsSomeAnd o (IsReservable R r) → HoldsOnlyWhatStands R (slice_set nodes r (reserved_for (entry_seen r o) k (replicas_on nodes r)))
   by_entry k None there can = holds_as_it_was
   by_entry k (Some e) there can = holds_reserved k e there can

@@ -1,5 +1,5 @@
 -- The effects of each replica keep the order of the calls, in every state of a run; and so do those of each snapshot.
-use Rattle.std.proofs.Common.{◌≡◌, ◌⊎◌, ℕ, ◌+◌, inl, inr, List, [], ◌∷◌, ◌++◌, Option, Some, None, IfSome, cond, true, refl, sym, ap, subst, ◌∙◌}
+use Rattle.std.proofs.Common.{◌≡◌, ◌⊎◌, ℕ, ◌+◌, inl, inr, List, [], ◌∷◌, ◌++◌, Option, Some, None, IfSome, Bool, cond, true, false, ℤ, refl, sym, ap, subst, ◌∙◌}
 use Rattle.std.proofs.lemmas.Option.{same_Some}
 use Rattle.ckpt_types.specs.declared.attributes.CreationAttributes.{CreationAttributes}
 use Rattle.ckpt_types.specs.declared.identities.CallId.{CallId}
@@ -7,7 +7,9 @@ use Rattle.ckpt_types.specs.Asks.{update_of}
 use Rattle.node_msgs.specs.declared.steps.Verb.{Verb}
 use Rattle.run_labels.specs.declared.labels.Label.{Label}
 use Rattle.weak_marks.specs.Marks.{Marked, is_left, with_next_done}
-use Rattle.ckpt_machine.proofs.EachKept.{IsFreeFor}
+use Rattle.cluster_record.specs.declared.entries.Entry.{Entry}
+use Rattle.cluster_record.specs.Placement.{is_all}
+use Rattle.ckpt_machine.proofs.EachKept.{IsFreeFor, IsStagedLike, having_copied}
 use Rattle.ckpt_machine.specs.After.{having_taken, committed_slot, next_element_written, marks_ended, with_lead, effect_of, staged_moment}
 use Rattle.ckpt_machine.specs.Failing.{broken}
 use Rattle.ckpt_machine.specs.InOrder.{EndsBefore, StandsBefore, KeepOrder, EffectsKeepOrder}
@@ -78,6 +80,15 @@ led_ordered : (log : List Label) (o : Option Snapshot) (g : ℕ) (x : ReplicaSta
 led_ordered log None g x free none copied was = record { order = was.order; staged = was.staged; marked = was.marked }
 led_ordered log (Some s) g x free none copied was = ordered_alone log (with_lead (Some s) g x) free none copied
 
+-- one that a copying has brought to its node has the slot and the effects of another
+copied_ordered : (log : List Label) (e f : Entry) (call : CallId) (t : ℤ) (s : Snapshot) (all : Bool) → KeepOrder log s.effects → IsStagedLike (λ o r x. IsOrdered log x) e call t s all → IsOrdered log (having_copied call t f s all)
+copied_ordered log e f call t s false order like = ordered_alone log (having_copied call t f s false) refl refl order
+copied_ordered log e f call t s true order (q, y, was, slot, effects) = record {
+  order = order;
+  staged = λ z is. subst (IsBehindAll log z.origin) effects (was.staged z (slot ∙ is));
+  marked = λ marks none. absurd (cc none);
+}
+
 -- behind the next element of a weak write
 element_ordered : (log : List Label) (a : CreationAttributes) (x : ReplicaState) (marks : Marked) → x.marks ≡ Some marks → is_left marks ≡ true → IsOrdered log x → IsOrdered log (next_element_written a x (Some marks))
 element_ordered log a x marks stand left was = record {
@@ -100,10 +111,11 @@ kept_order : (log : List Label) → IsRun log → IsKept (λ o r x. IsOrdered lo
 kept_order log run = record {
   opened = λ e r. record { order = λ c d ends none. none; staged = λ slot none. absurd (cc none); marked = λ marks none. absurd (cc none) };
   stays = λ e f r x same stays made was. was;
-  stays_copied = λ e f s same stays source was. was;
+  stays_copied = λ e f s same stays made was. was;
   led = λ e f r o x same goes made free none copied was. led_ordered log o f.generation x free none copied was;
-  pulled = λ e r x source active none was. was.order;
+  pulled = λ e r x none was. was.order;
   put = λ e r s x present free none copied was. ordered_alone log (replica_from s x) free none copied;
+  completed = λ e f r call t s same goes made copied like. copied_ordered log e f call t s (is_all f.attributes) copied like;
   staged = λ m s k r x step was. record {
     order = was.order;
     staged = λ slot is.

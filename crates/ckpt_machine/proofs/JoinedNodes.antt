@@ -1,6 +1,6 @@
 -- A node joins that is not up: what holds stays, and no call that is dead comes to live again.
-use Rattle.std.proofs.Common.{◌≡◌, ℕ, ◌<◌, ◌≤◌, List, Option, Some, None, Bool, true, false, cond, not, ◌==◌, ◌&&◌, nat_lt, refl, sym, ap, subst, ◌∙◌, arith}
-use Rattle.std.specs.Prelude.{IfSome, slice_index, slice_set, replicate}
+use Rattle.std.proofs.Common.{◌≡◌, ℕ, ◌<◌, ◌≤◌, inl, inr, List, Option, Some, None, Bool, true, false, cond, not, ◌==◌, ◌&&◌, nat_lt, refl, sym, ap, subst, ◌∙◌, arith}
+use Rattle.std.specs.Prelude.{IsSomeAnd, IfSome, slice_index, slice_set, replicate}
 use Rattle.std.proofs.lemmas.Bool.{eqb-true, eqb-false, lt-ltb}
 use Rattle.ckpt_types.specs.declared.attributes.CreationAttributes.{CreationAttributes}
 use Rattle.ckpt_types.specs.declared.identities.ActorName.{ActorName}
@@ -18,20 +18,24 @@ use Rattle.cluster_record.specs.DueOpen.{targets_by}
 use Rattle.cluster_record.specs.Joining.{next_incarnation}
 use Rattle.cluster_record.specs.Placement.{is_collocated, alone_on}
 use Rattle.cluster_record.specs.Places.{find_key}
-use Rattle.cluster_record.specs.RecordState.{client_key, home_of, is_live, is_up, no_nodes}
+use Rattle.cluster_record.specs.RecordState.{client_key, entry_of, home_of, is_live, is_up, no_nodes}
 use Rattle.cluster_record.specs.StepDone.{has}
 use Rattle.cluster_record.proofs.JoinLaws.{earlier_life_over, other_call_stays}
-use Rattle.ckpt_machine.specs.Dead.{IsDead, is_enter}
+use Rattle.ckpt_machine.specs.Dead.{IsDead}
+use Rattle.ckpt_machine.specs.Due.{driver_of}
 use Rattle.ckpt_machine.specs.InHand.{attributes_asked, IsMakingIn, IsInHand}
-use Rattle.ckpt_machine.specs.Invariant.{InvariantIn, Invariant, IsGoodIn, IsGoodClient}
+use Rattle.ckpt_machine.specs.Invariant.{InvariantIn, Invariant, IsGoodIn, IsGoodClient, IsReservedFor}
 use Rattle.ckpt_machine.specs.Machine.{Machine, CallState, who}
 use Rattle.ckpt_machine.specs.NodeJoins.{MayJoin, joined_at}
 use Rattle.ckpt_machine.specs.Shape.{Shape}
-use Rattle.ckpt_machine.proofs.EndedTables.{live_alike}
+use Rattle.ckpt_machine.proofs.LaterIncarnations.{IncarnationsGoOn}
+use Rattle.ckpt_machine.proofs.NodeCalls.{node_is_up}
+use Rattle.ckpt_machine.proofs.OptionLemmas.{IsSomeAnd-more}
+use Rattle.ckpt_machine.proofs.UpdateIn.{no_enter}
 use Rattle.ckpt_machine.proofs.Handles.{IsGoodHandle-later}
 use Rattle.ckpt_machine.proofs.Lives.{LivesOn}
 use Rattle.ckpt_machine.proofs.NodeLists.{index-set, index-other, length-slice_set}
-use Rattle.ckpt_machine.proofs.OtherCalls.{LooksAlike, LooksLater-refl, making_still, IsInHand-alike, IsGoodIn-alike}
+use Rattle.ckpt_machine.proofs.OtherCalls.{LooksAlike, LooksLater-refl, LiesUnder-refl, home_stays, making_still, IsInHand-alike, IsGoodIn-alike}
 
 -- ---- one node more that is up
 
@@ -95,6 +99,13 @@ module _ (m : Machine) (shapes : ℕ → Shape) (inv : InvariantIn shapes m) (r 
     | false ↦ λ other. ap (λ i. nat_lt q 8 && not (i == 0)) (index-other m.cluster.up r q (next_incarnation r m.cluster) other) ∙ up
   ] refl
 
+  -- and is another
+  up_apart : (q : ℕ) → is_up q m.cluster ≡ true → (q == r) ≡ false
+  up_apart q up = elim (q == r) as (λ b. (q == r) ≡ b → b ≡ false) [
+    | true ↦ λ same. absurd (let w : true ≡ false = sym up ∙ ap (λ q. is_up q m.cluster) (eqb-true q r same) ∙ is_down in cc w)
+    | false ↦ λ other. refl
+  ] refl
+
   -- ---- calls
 
   -- a call that was begun and is not live is not live then, also one of the node itself, which is of an earlier life
@@ -112,6 +123,23 @@ module _ (m : Machine) (shapes : ℕ → Shape) (inv : InvariantIn shapes m) (r 
   -- a dead call stays dead
   pub dead_still : (d : CallId) → IsDead m d → IsDead n d
   dead_still d dead = record { begun = dead.begun; gone = gone_still d.actor d.number dead.begun dead.gone; before = dead.before }
+
+  -- what is had is the incarnation itself
+  had_same : (c o : ℕ) → has c o ≡ true → c ≡ o
+  had_same c o had = eqb-true c o (by_test (c == 0) (c == o) had)
+    where
+      by_test : (none same : Bool) → (not none && same) ≡ true → same ≡ true
+      by_test true same had = absurd (cc had)
+      by_test false same had = had
+
+  no_later_then : (own : List ℕ) (q : ℕ) → slice_index own q ≤ slice_index m.cluster.last_incarnations q → slice_index own q ≤ slice_index n.cluster.last_incarnations q
+  no_later_then own q within = elim (q == r) as (λ b. (q == r) ≡ b → slice_index own q ≤ slice_index n.cluster.last_incarnations q) [
+    | true ↦ λ same. (
+        let next : slice_index n.cluster.last_incarnations q ≡ next_incarnation r m.cluster = ap (slice_index n.cluster.last_incarnations) (eqb-true q r same) ∙ joined_last in
+        let last : slice_index m.cluster.last_incarnations q ≡ slice_index m.cluster.last_incarnations r = ap (slice_index m.cluster.last_incarnations) (eqb-true q r same) in
+        omega (arith, within, next, last))
+    | false ↦ λ other. subst (λ (i : ℕ). slice_index own q ≤ i) (sym (index-other m.cluster.last_incarnations r q (next_incarnation r m.cluster) other)) within
+  ] refl
 
   -- what a call makes is in the making still: what it has for reserved is of no incarnation that is still to come
   making_then : (z : CallState) (w : Making) → IsMakingIn m z w → IsMakingIn n z w
@@ -134,55 +162,82 @@ module _ (m : Machine) (shapes : ℕ → Shape) (inv : InvariantIn shapes m) (r 
     within = λ q some. targets_stay m.cluster.up r (next_incarnation r m.cluster) down (attributes_asked (asked z.op)) (home_of (client_of z.call) m.cluster) q (at.within q some);
     no_later = λ q. no_later_then w.reserved q (at.no_later q);
   }
-    where
-      -- what is had is the incarnation itself
-      had_same : (c o : ℕ) → has c o ≡ true → c ≡ o
-      had_same c o had = eqb-true c o (by_test (c == 0) (c == o) had)
-        where
-          by_test : (none same : Bool) → (not none && same) ≡ true → same ≡ true
-          by_test true same had = absurd (cc had)
-          by_test false same had = had
 
-      no_later_then : (own : List ℕ) (q : ℕ) → slice_index own q ≤ slice_index m.cluster.last_incarnations q → slice_index own q ≤ slice_index n.cluster.last_incarnations q
-      no_later_then own q within = elim (q == r) as (λ b. (q == r) ≡ b → slice_index own q ≤ slice_index n.cluster.last_incarnations q) [
-        | true ↦ λ same. (
-            let next : slice_index n.cluster.last_incarnations q ≡ next_incarnation r m.cluster = ap (slice_index n.cluster.last_incarnations) (eqb-true q r same) ∙ joined_last in
-            let last : slice_index m.cluster.last_incarnations q ≡ slice_index m.cluster.last_incarnations r = ap (slice_index m.cluster.last_incarnations) (eqb-true q r same) in
-            omega (arith, within, next, last))
-        | false ↦ λ other. subst (λ (i : ℕ). slice_index own q ≤ i) (sym (index-other m.cluster.last_incarnations r q (next_incarnation r m.cluster) other)) within
-      ] refl
-
-  -- a call looks at nothing that changes
-  looks_joined : (z : CallState) → LooksAlike m n shapes shapes z
-  looks_joined z = record {
-    up = up_still;
-    lives = refl;
-    home = refl;
-    handle = λ there. there;
-    making = λ o at. making_still m n z o (making_then z) at;
-    made = λ k was. was;
-    later = λ k was e found. (e, found, LooksLater-refl z (shapes k).marks e);
-    owners = λ k was q. refl;
-    marks = λ k was. refl;
-    dead = λ k f was found. dead_still;
-    done = λ k was done. done;
+  -- an incarnation that is still to come is none that has been
+  joins_go_on : IncarnationsGoOn m.cluster n.cluster
+  joins_go_on = record {
+    was_up = λ q own within had. elim (q == r) as (λ b. (q == r) ≡ b → has (slice_index m.cluster.up q) own ≡ true) [
+      | true ↦ λ same. absurd (
+          let up : slice_index n.cluster.up q ≡ own = had_same (slice_index n.cluster.up q) own had in
+          let next : slice_index n.cluster.up q ≡ next_incarnation r m.cluster = ap (slice_index n.cluster.up) (eqb-true q r same) ∙ joined_up in
+          let last : slice_index m.cluster.last_incarnations q ≡ slice_index m.cluster.last_incarnations r = ap (slice_index m.cluster.last_incarnations) (eqb-true q r same) in
+          omega (arith, up, next, last, within))
+      | false ↦ λ other. ap (λ i. has i own) (sym (index-other m.cluster.up r q (next_incarnation r m.cluster) other)) ∙ had
+    ] refl;
+    last = λ q. no_later_then m.cluster.last_incarnations q (omega arith);
   }
+
+  -- ---- a call in hand
+
+  module _ (w : Who) (z : CallState) (was : IsInHand m shapes w z) where
+    -- the node of a copying is another
+    own_apart : (q : ℕ) → z.call.actor ≡ Node q → (q == r) ≡ false
+    own_apart q own = up_apart q (node_is_up m shapes w z was q own)
+
+    -- it looks at nothing that changes
+    looks_joined : LooksAlike m n shapes shapes z
+    looks_joined = record {
+      up = up_still;
+      incarnations = joins_go_on;
+      lives = λ client. refl;
+      node = λ q own. index-other m.cluster.up r q (next_incarnation r m.cluster) (own_apart q own);
+      home = home_stays z.call.actor m.cluster n.cluster refl;
+      handle = λ there. there;
+      making = λ o at. making_still m n z o (making_then z) at;
+      made = λ k was. was;
+      later = λ k was e found. (e, found, LooksLater-refl n.cluster.up z (shapes k) e);
+      reserved = λ k q was own f found free. refl;
+      owners = λ k was q. refl;
+      marks = λ k was. refl;
+      under = λ k was e found all. LiesUnder-refl (shapes k);
+      dead = λ k f was found. dead_still;
+      done = λ k was done. done;
+    }
+
+    -- it is live as it was
+    live_joined : (b : ActorName) → z.call.actor ≡ b → is_live n.cluster z.call ≡ is_live m.cluster z.call
+    live_joined (Client c) is =
+        let same : z.call ≡ record { actor = Client c; number = z.call.number } = (λ i. record { actor = is i; number = z.call.number }) in
+        ap (is_live n.cluster) same ∙ ap (is_live m.cluster) (sym same)
+    live_joined (Node q) is =
+        let same : z.call ≡ record { actor = Node q; number = z.call.number } = (λ i. record { actor = is i; number = z.call.number }) in
+        ap (is_live n.cluster) same ∙ other_call_stays r (m.next (Node r)) m.cluster q z.call.number (eqb-false q r (own_apart q is)) ∙ ap (is_live m.cluster) (sym same)
 
   -- so it is where it was
   hands_then : (w : Who) (z : CallState) → m.in_hand w ≡ Some z → IsInHand n shapes w z
-  hands_then w z held = let was = inv.hands w z held in IsInHand-alike m n shapes shapes z (looks_joined z) w (λ live. live_alike m.cluster n.cluster z.call was.client refl ∙ live) was.number was
+  hands_then w z held = let was = inv.hands w z held in IsInHand-alike m n shapes shapes z (looks_joined w z was) w (λ live. live_joined w z was z.call.actor refl ∙ live) was.number was
+
+  -- what is reserved is for what it was
+  reserves_then : (k q i : ℕ) → m.reserved k q ≡ Some i → IsSomeAnd (entry_of k m.cluster.entries) (IsReservedFor n.cluster q i)
+  reserves_then k q i reserved = IsSomeAnd-more (entry_of k m.cluster.entries) (IsReservedFor m.cluster q i) (IsReservedFor n.cluster q i) by_cause (inv.reserves k q i reserved)
+    where
+      by_cause : (e : Entry) → IsReservedFor m.cluster q i e → IsReservedFor n.cluster q i e
+      by_cause e (inl making) = inl making
+      by_cause e (inr lacked) =
+          let other : (q == r) ≡ false = up_apart q lacked.1 in
+          inr (lacked.0, up_still q lacked.1, lacked.2 ∙ sym (index-other m.cluster.up r q (next_incarnation r m.cluster) other))
 
   -- ---- checkpoints
 
   lives : LivesOn m n
   lives = record {
     dead = dead_still;
-    owners = λ k sh d own. ap (is_live n.cluster) (sym own.call_is) ∙ (hands_then (who own.state) own.state own.in_hand).live (ap is_enter own.driver_is);
+    owners = λ k sh d own. ap (is_live n.cluster) (sym own.call_is) ∙ (hands_then (who own.state) own.state own.in_hand).live (no_enter (driver_of own.state) own.driver own.driver_is);
     up = λ q there. stays_up m.cluster.up r (next_incarnation r m.cluster) down q there;
   }
 
   good_then : (k : ℕ) (e : Entry) → IsGoodIn m k (shapes k) e e.making → IsGoodIn n k (shapes k) e e.making
-  good_then k e good = IsGoodIn-alike m n k lives (shapes k) e (λ q there. refl) (λ d own. refl) (λ marks stand own. refl) (λ active d own. refl) (λ d own. refl) e.making good
+  good_then k e good = IsGoodIn-alike m n k lives (shapes k) e (λ q there. refl) (λ q d owns own. refl) (λ marks stand own. refl) (λ active d own. refl) (λ d own. refl) e.making good
 
   -- ---- the whole
 
@@ -205,6 +260,21 @@ module _ (m : Machine) (shapes : ℕ → Shape) (inv : InvariantIn shapes m) (r 
         omega (arith, up, last, within))
   ] refl
 
+  -- and the next call of each node is of its present life
+  present_now : (q : ℕ) → slice_index n.cluster.first_calls q ≤ m.next (Node q)
+  present_now q = elim (q == r) as (λ b. (q == r) ≡ b → slice_index n.cluster.first_calls q ≤ m.next (Node q)) [
+    | true ↦ λ same. (
+        let q_is : q ≡ r = eqb-true q r same in
+        let nodes = inv.incarnations.first_nodes in
+        let first : slice_index n.cluster.first_calls q ≡ m.next (Node r) = ap (slice_index n.cluster.first_calls) q_is ∙ index-set m.cluster.first_calls r (m.next (Node r)) (omega (arith, node, nodes)) in
+        let next : m.next (Node q) ≡ m.next (Node r) = ap (λ q. m.next (Node q)) q_is in
+        omega (arith, first, next))
+    | false ↦ λ other. (
+        let first : slice_index n.cluster.first_calls q ≡ slice_index m.cluster.first_calls q = index-other m.cluster.first_calls r q (m.next (Node r)) other in
+        let present = inv.incarnations.present q in
+        omega (arith, first, present))
+  ] refl
+
   -- all of the invariant, by its fields
   pub join_keeps : InvariantIn shapes n
   join_keeps = record {
@@ -214,14 +284,17 @@ module _ (m : Machine) (shapes : ℕ → Shape) (inv : InvariantIn shapes m) (r 
       nodes = length-slice_set m.cluster.last_incarnations r (next_incarnation r m.cluster) ∙ inv.incarnations.nodes;
       first_nodes = length-slice_set m.cluster.first_calls r (m.next (Node r)) ∙ inv.incarnations.first_nodes;
       no_later = no_later_now;
+      from_one = inv.incarnations.from_one;
+      present = present_now;
     };
     none_live = λ none. absurd (none_without n.cluster.up none joined_up);
     rises = inv.rises;
     up_to = inv.up_to;
+    few = inv.few;
     swept = inv.swept;
     entries = λ k e found. good_then k e (inv.entries k e found);
     replicas = inv.replicas;
-    reserves = inv.reserves;
+    reserves = reserves_then;
     handles = λ a h among. IsGoodHandle-later m.cluster n.cluster (λ k was. was) (λ k was e found. (e, found, refl, λ q there. there)) a h refl (inv.handles a h among);
     rest = inv.rest;
     clients = λ c. client_then c (find_key client_key c m.cluster.clients) (inv.clients c);

@@ -16,10 +16,12 @@ use Rattle.cluster_record.specs.DueOnce.{OneStep}
 use Rattle.cluster_record.specs.DueOnce as once
 use Rattle.cluster_record.specs.DueOpen.{making_ckpt}
 use Rattle.cluster_record.specs.Identities.{AllUpTo, IdentitiesRise}
+use Rattle.cluster_record.specs.Joining.{completed_on}
 use Rattle.cluster_record.specs.LookUps.{at_ckpt, identity_in}
 use Rattle.cluster_record.specs.Places.{change_key}
 use Rattle.cluster_record.specs.RecordState.{RecordState, client_key, identity_of, entry_of, named, stays, has_references, home_of, made_with, new_entry, created_as, opened, opened_with, finished, undone, idle_from, unreferred, released_all, unnamed, unlinked, retaining, is_call_of, departed, can_be_held, with_hold, can_lead, generation_under, with_active, swept}
 use Rattle.cluster_record.proofs.IdentityLaws.{IsLeft, KeepsIdentity, entry_of-beyond, IdentitiesRise-filter, IdentitiesRise-map, IdentitiesRise-change_key, IdentitiesRise-push, filter_leaves}
+use Rattle.cluster_record.proofs.JoinLaws.{rest_stays}
 use Rattle.cluster_record.proofs.Places.{find_pushed}
 use Rattle.ckpt_machine.specs.Drivers.{Driver}
 use Rattle.ckpt_machine.specs.Drivers as drivers
@@ -168,11 +170,12 @@ clients_behind call (drivers.Once (once.Enter r)) R = R.clients ++ record { clie
 clients_behind call (drivers.Once once.Leave) R = filter (λ live. not (client_key live == client_of call)) R.clients
 clients_behind call x R = R.clients
 
--- a step of which a node sees nothing but what goes by it: all but these three
+-- a step of which a node sees nothing but what goes by it: all but these four
 abbrev pub IsQuiet : Driver → RecordStep → Type 0
 IsQuiet (drivers.Open o) events.Create = ⊥
 IsQuiet (drivers.Open o) events.Open = ⊥
 IsQuiet (drivers.Open o) events.Finish = ⊥
+IsQuiet (drivers.Copy c) (events.Complete k r moment) = ⊥
 IsQuiet x step = Unit {0}
 
 module _ {X : Type 0} (part : Entry → X) (R : RecordState) where
@@ -223,6 +226,7 @@ module _ {X : Type 0} (part : Entry → X) (R : RecordState) where
     quiet_stays call (drivers.Open o) step quiet = as_it_was
     quiet_stays call (drivers.Sync u) (events.Hold r) quiet = quietly (with_hold call) (quiet_hold call) u.ckpt
     quiet_stays call (drivers.Sync u) (events.Activate r) quiet = quietly (with_active r) (quiet_active r) u.ckpt
+    quiet_stays call (drivers.Copy c) (events.Complete k r moment) quiet = absurd quiet
     quiet_stays call x step quiet = as_it_was
 
 -- ---- what is declared
@@ -264,6 +268,9 @@ module _ (R : RecordState) (call : CallId) where
       at_stays declared R (identity_in (named o.ask.name R.entries)) (λ k. opened k o.ask.client R) (one_stays declared R (opened_with home R.up o.ask.client) (opened_with-identity home R.up o.ask.client) (joined-attributes home R.up))
   declared_stays (drivers.Open o) events.Finish = at_stays declared R (making_ckpt o.making) (λ k. finished k o.ask.client R) (one_stays declared R (made_with (home_of o.ask.client R) R.up o.ask.client) (λ e. refl) (λ e. refl))
   declared_stays (drivers.Open o) step = quiet_stays declared R (λ f q e i. (q e i).2) call (drivers.Open o) step tt
+  declared_stays (drivers.Copy c) (events.Complete k r moment) =
+      let n = slice_index R.up r in
+      one_stays declared R (completed_on r n) (λ e. ap (λ (e : Entry). e.identity) (rest_stays r n e)) (λ e. ap declared (rest_stays r n e)) k
   declared_stays x step = quiet_stays declared R (λ f q e i. (q e i).2) call x step tt
 
   -- behind each step and the sweep, what each checkpoint declares is as it was, or as it was created

@@ -13,6 +13,7 @@ use Rattle.ckpt_machine.specs.Laws.{IsLawful}
 use Rattle.ckpt_machine.proofs.Active.{active_goes}
 use Rattle.ckpt_machine.proofs.Beginnings.{begin_keeps}
 use Rattle.ckpt_machine.proofs.BeginRows.{begin_row, word_row}
+use Rattle.ckpt_machine.proofs.CopyMoves.{copy_goes}
 use Rattle.ckpt_machine.proofs.BroughtUp.{nodes_keep}
 use Rattle.ckpt_machine.proofs.SettingActive.{sync_goes}
 use Rattle.ckpt_machine.proofs.JoinedNodes.{joins_keep}
@@ -37,12 +38,13 @@ module _ (m : Machine) (inv : Invariant m) (s : CallState) (held : m.in_hand (wh
   driver_goes (drivers.Update u) is done = subst (λ d. Goes m s d t) (sym is) (update_goes m inv.shapes inv.holds s u held is t done)
   driver_goes (drivers.Active a) is done = active_goes m inv.shapes inv.holds s a.call a.ckpt held a.kind a.marks is (rooms_of m s) t refl done
   driver_goes (drivers.Sync u) is done = sync_goes m inv.shapes inv.holds s u held is t done
+  driver_goes (drivers.Copy c) is done = subst (λ d. Goes m s d t) (sym is) (copy_goes m inv.shapes inv.holds s c held is t done)
 
 -- ---- the law
 
 -- what is due is allowed, and leaves the invariant
 pub lawful : IsLawful
-lawful m (labels.Began call op end details) inv is = (begin_row m call op end details is, begin_keeps m inv.shapes inv.holds call is.client is.number op end details is)
+lawful m (labels.Began call op end details) inv is = (begin_row m call op end details is, begin_keeps m inv.shapes inv.holds call is.number op end details is)
 lawful m (labels.Stepped call op verb k r reply end details) inv step =
     let told : Told = record { verb = verb; ckpt = k; node = r; reply = reply; end = end; details = details } in
     let held : m.in_hand (who step.state) ≡ Some step.state = held_as m call op step.state step.in_hand step.call_is step.word in
@@ -52,7 +54,7 @@ lawful m (labels.Stepped call op verb k r reply end details) inv step =
       subst (λ o. Invariant (step_of m o verb k r reply end)) (sym step.in_hand) (told_keeps m inv step.state held told goes.holds),
     )
 lawful m (labels.Word who word said) inv is = (word_row m who word said is, inv)
-lawful m (labels.Nodes n) inv is = (is, record { shapes = inv.shapes; holds = nodes_keep m inv.shapes inv.holds n (inv.holds.first_up is.2) })
+lawful m (labels.Nodes n) inv is = (is, record { shapes = inv.shapes; holds = nodes_keep m inv.shapes inv.holds n is.2 (inv.holds.first_up is.2) })
 lawful m (labels.Moved t) inv is = (is, moved_keeps m t inv)
 lawful m (labels.Failed r true) inv is = (is, failures_keep m r inv is.1)
 lawful m (labels.Failed r false) inv is = (is, inv)

@@ -7,7 +7,8 @@ use Rattle.ckpt_types.specs.declared.identities.ActorName.TheVariants.{Client, N
 use Rattle.ckpt_types.specs.declared.identities.CallId.{CallId}
 use Rattle.ckpt_types.specs.declared.identities.Who.{Who}
 use Rattle.ckpt_types.specs.declared.identities.Who.TheVariants.{Actor}
-use Rattle.ckpt_types.specs.Asks.{asked, is_async_ask}
+use Rattle.ckpt_types.specs.Asks.{Ask, MayAsk, asked, is_async_ask}
+use Rattle.ckpt_types.specs.Asks as asks
 use Rattle.ckpt_types.specs.OpWord.{is_async, word_of_op}
 use Rattle.call_dispatch.specs.PendingCalls.{no_pending}
 use Rattle.node_msgs.specs.declared.next.RecordStep.TheVariants as events
@@ -23,9 +24,8 @@ use Rattle.cluster_record.specs.Places.{find_key}
 use Rattle.cluster_record.specs.RecordState.{RecordState, entry_of, client_key, is_live, is_live_from, stays, swept, released_all, is_call_of, departed}
 use Rattle.cluster_record.proofs.IdentityLaws.{IdentitiesRise-filter, IdentitiesRise-map, AllUpTo-filter, AllUpTo-map}
 use Rattle.cluster_record.proofs.MakingCounts.{is_call_of-own}
-use Rattle.ckpt_machine.specs.Drivers.{Driver}
 use Rattle.ckpt_machine.specs.Drivers as drivers
-use Rattle.ckpt_machine.specs.InHand.{IsLeaveAt, IsMakingIn, IsOpenIn, IsUpdateIn, IsActiveIn, IsSettingIn, IsSyncBy, IsInHand, IsInPlace}
+use Rattle.ckpt_machine.specs.InHand.{IsLeaveAt, IsMakingIn, IsOpenIn, IsActiveIn, IsSettingIn, IsSyncBy, IsInHand, IsInPlace}
 use Rattle.ckpt_machine.specs.Invariant.{IsMaker, IsGoodClient, AreCalls, InvariantIn, Invariant}
 use Rattle.ckpt_machine.specs.Later.{IsLaterEntry, IsLaterRecord}
 use Rattle.ckpt_machine.specs.Machine.{Machine, CallState, who}
@@ -40,7 +40,8 @@ use Rattle.ckpt_machine.proofs.CallsPending.{calls_dropped}
 use Rattle.ckpt_machine.proofs.ClientTables.{KeepsHandle}
 use Rattle.ckpt_machine.proofs.DroppedCalls.{without_those, left_in, pending_keeps}
 use Rattle.ckpt_machine.proofs.DueStep.{Goes}
-use Rattle.ckpt_machine.proofs.EndedTables.{other_number, live_alike, emptied_keeps}
+use Rattle.ckpt_machine.proofs.Askers.{asker_client}
+use Rattle.ckpt_machine.proofs.EndedTables.{other_number, live_as, emptied_keeps}
 use Rattle.ckpt_machine.proofs.Entries.{ComesOf, ComesOf-filter, ComesOf-map, ComesOf-then, found_filter, found_passing, found_map}
 use Rattle.ckpt_machine.proofs.EntryLists.{find_key-without, AllStay-swept}
 use Rattle.ckpt_machine.proofs.FewerCalls.{calls_fewer}
@@ -51,14 +52,16 @@ use Rattle.ckpt_machine.proofs.PlainCalls.{is_plain, ending, IsLaterEntry-then, 
 use Rattle.ckpt_machine.proofs.RecordSteps.{record_keeps}
 use Rattle.ckpt_machine.proofs.References.{released_all-identity, released_all-later}
 use Rattle.ckpt_machine.proofs.StepLabels.{IsEvent-told}
+use Rattle.ckpt_machine.proofs.UpdateIn.{update_plain}
 use Rattle.ckpt_machine.proofs.Whose.{put_who-other, stepped_as-plain, stepped_as-async}
 
--- a call of another client is none of this one
-not_call_of : (c : ℕ) (call : CallId) → IsClient call.actor → (client_of call == c) ≡ false → is_call_of c (Some call) ≡ false
-not_call_of c call client other = by_actor call.actor call.number client other where
-  by_actor : (a : ActorName) (n : ℕ) → IsClient a → (number_of a == c) ≡ false → is_call_of c (Some (record { actor = a; number = n })) ≡ false
-  by_actor (Client d) n client other = other
-  by_actor (Node r) n client other = absurd client
+-- a call of another client, or of a node, is none of this client's
+not_call_of : (c : ℕ) (call : CallId) (ask : Ask) → MayAsk call.actor ask → (IsClient call.actor → (client_of call == c) ≡ false) → is_call_of c (Some call) ≡ false
+not_call_of c call ask may other = by_actor call.actor call.number ask may other where
+  by_actor : (a : ActorName) (n : ℕ) (ask : Ask) → MayAsk a ask → (IsClient a → (number_of a == c) ≡ false) → is_call_of c (Some (record { actor = a; number = n })) ≡ false
+  by_actor (Client d) n asks.Copy may other = absurd may
+  by_actor (Client d) n ask may other = other may
+  by_actor (Node r) n ask may other = refl
 
 module _ (m : Machine) (shapes : ℕ → Shape) (inv : InvariantIn shapes m) (s : CallState) (held : m.in_hand (who s) ≡ Some s) (is : driver_of s ≡ drivers.Once Leave) where
   abbrev a : ActorName
@@ -75,7 +78,7 @@ module _ (m : Machine) (shapes : ℕ → Shape) (inv : InvariantIn shapes m) (s 
 
   -- it is a client's, and no asynchronous call
   client : IsClient a
-  client = (inv.hands (who s) s held).client
+  client = asker_client a asks.Leave (subst (MayAsk a) at_leave.asks (inv.hands (who s) s held).asker) (λ copy. copy)
 
   name : who s ≡ Actor a
   name = own_name s (ap is_async_ask at_leave.asks)
@@ -113,11 +116,12 @@ module _ (m : Machine) (shapes : ℕ → Shape) (inv : InvariantIn shapes m) (s 
       by_word z whose other stays false plain = (λ i. same_who (sym (stepped_as-plain z.call (word_of_op z.op) plain) i) (sym name i)) ∙ ap (λ v. same_who v (who s)) whose ∙ other
       by_word z whose other stays true async = ap (is_of a) (sym (stepped_as-async z.call (word_of_op z.op) async) ∙ whose) ∙ stays
 
-  others_client : (w : Who) (z : CallState) → hands w ≡ Some z → IsClient z.call.actor × ((client_of z.call == leaver) ≡ false)
-  others_client w z left =
-      let (other, stays, at) = left_is w z left in
-      let was = inv.hands w z at in
-      (was.client, other_number z.call.actor a was.client client (others_actor w z left))
+  others_client : (w : Who) (z : CallState) → hands w ≡ Some z → IsClient z.call.actor → (client_of z.call == leaver) ≡ false
+  others_client w z left is_client = other_number z.call.actor a is_client client (others_actor w z left)
+
+  -- who asks for what it does may do so
+  its_asker : (w : Who) (z : CallState) → hands w ≡ Some z → MayAsk z.call.actor (asked z.op)
+  its_asker w z left = (inv.hands w z (left_is w z left).2).asker
 
   -- what is another call, and none of the client's asynchronous ones, is left
   stays_left : (w : Who) → same_who w (who s) ≡ false → is_of a w ≡ false → hands w ≡ m.in_hand w
@@ -154,9 +158,9 @@ module _ (m : Machine) (shapes : ℕ → Shape) (inv : InvariantIn shapes m) (s 
       (ComesOf-filter (IsLaterEntry m.cluster.up) (IsLaterEntry-refl m.cluster.up) (stays m.cluster.moment) left_then.entries left_rise)
 
   -- what another client's call is making is left
-  makes_still : (z : CallState) → IsClient z.call.actor → (client_of z.call == leaver) ≡ false → (k : ℕ) (e : Entry) → entry_of k m.cluster.entries ≡ Some e → e.making ≡ Some z.call → IsSome (entry_of k (swept left_then).entries)
-  makes_still z is_client other k e was by =
-      let among : others_made e ≡ true = ap (λ o. not (is_call_of leaver o)) by ∙ ap not (not_call_of leaver z.call is_client other) in
+  makes_still : (z : CallState) → MayAsk z.call.actor (asked z.op) → (IsClient z.call.actor → (client_of z.call == leaver) ≡ false) → (k : ℕ) (e : Entry) → entry_of k m.cluster.entries ≡ Some e → e.making ≡ Some z.call → IsSome (entry_of k (swept left_then).entries)
+  makes_still z may other k e was by =
+      let among : others_made e ≡ true = ap (λ o. not (is_call_of leaver o)) by ∙ ap not (not_call_of leaver z.call (asked z.op) may other) in
       let found = found_map release (released_all-identity leaver m.cluster.moment) k (filter others_made m.cluster.entries) e (found_filter others_made k m.cluster.entries e was among) in
       let made_by : is_some (release e).making ≡ true = ap is_some (released_all-later m.cluster.up leaver m.cluster.moment e).making ∙ ap is_some by in
       ap is_some (found_filter (stays m.cluster.moment) k left_then.entries (release e) found (making_stays m.cluster.moment (release e) made_by))
@@ -185,8 +189,8 @@ module _ (m : Machine) (shapes : ℕ → Shape) (inv : InvariantIn shapes m) (s 
 
   owner_left : (k : ℕ) (sh : Shape) (d : CallId) (own : IsOwner emptied_then k sh d) → hands (who own.state) ≡ m.in_hand (who own.state)
   owner_left k sh d own =
-      let at : IsUpdateIn emptied_then shapes own.state own.driver = subst (λ d. IsInPlace emptied_then shapes own.state d) own.driver_is (emptied_inv.hands (who own.state) own.state own.in_hand).here in
-      stays_left (who own.state) (owner_apart emptied_then shapes emptied_inv s held plain k sh d own) (plain_of own.state (plain_asked own.state.op (ap is_async_ask at.asks)))
+      let plain_ask = update_plain emptied_then shapes own.state (driver_of own.state) own.driver (emptied_inv.hands (who own.state) own.state own.in_hand).here own.driver_is in
+      stays_left (who own.state) (owner_apart emptied_then shapes emptied_inv s held plain k sh d own) (plain_of own.state (plain_asked own.state.op plain_ask))
 
   marker_left : (k : ℕ) (marks : Marked) (own : IsMarker emptied_then k marks) → hands (who own.state) ≡ m.in_hand (who own.state)
   marker_left k marks own =
@@ -208,6 +212,9 @@ module _ (m : Machine) (shapes : ℕ → Shape) (inv : InvariantIn shapes m) (s 
       its : IsMakingIn emptied_then own.state own.making
       its = subst (λ w. IfSome w (IsMakingIn emptied_then own.state)) own.making_is (let at : IsOpenIn emptied_then own.state own.driver = subst (λ d. IsInPlace emptied_then shapes own.state d) own.driver_is was.here in at.making)
 
+      its_client : IsClient own.state.call.actor
+      its_client = let at : IsOpenIn emptied_then own.state own.driver = subst (λ d. IsInPlace emptied_then shapes own.state d) own.driver_is was.here in at.caller
+
       -- it is none of the client's
       none_of : is_call_of leaver (Some own.state.call) ≡ false
       none_of =
@@ -216,7 +223,7 @@ module _ (m : Machine) (shapes : ℕ → Shape) (inv : InvariantIn shapes m) (s 
 
       by_actor : (b : Bool) → same_actor own.state.call.actor a ≡ b → same_actor own.state.call.actor a ≡ false
       by_actor false other = other
-      by_actor true same = absurd (let w : true ≡ false = sym (is_call_of-own own.state.call was.client) ∙ ap (λ b. is_call_of (number_of b) (Some own.state.call)) (same_actor-true own.state.call.actor a same) ∙ none_of in cc w)
+      by_actor true same = absurd (let w : true ≡ false = sym (is_call_of-own own.state.call its_client) ∙ ap (λ b. is_call_of (number_of b) (Some own.state.call)) (same_actor-true own.state.call.actor a same) ∙ none_of in cc w)
 
       by_word : (b : Bool) → is_async (word_of_op own.state.op) ≡ b → is_of a (who own.state) ≡ false
       by_word false is_plain_call = plain_of own.state is_plain_call
@@ -252,9 +259,9 @@ module _ (m : Machine) (shapes : ℕ → Shape) (inv : InvariantIn shapes m) (s 
     clients = λ d. subst (λ o. IfSome o (IsGoodClient m.next left_then d)) (sym (find_key-without client_key leaver d m.cluster.clients)) (elim (d == leaver) as (λ b. IfSome (cond b None (find_key client_key d m.cluster.clients)) (IsGoodClient m.next left_then d)) [ true ↦ tt | false ↦ inv.clients d ]);
     was_held = λ w z left. (left_is w z left).2;
     dead = λ d dead. dead_left d.actor d.number dead.gone;
-    live = λ w z left live. let (is_client, other) = others_client w z left in live_alike m.cluster left_then z.call is_client (found_other (client_of z.call) other) ∙ live;
-    lives = λ w z left. found_other (client_of z.call) (others_client w z left).1;
-    makes = λ w z k e left was by. let (is_client, other) = others_client w z left in makes_still z is_client other k e was by;
+    live = λ w z left live. live_as m.cluster left_then z.call (asked z.op) (its_asker w z left) (λ client. found_other (client_of z.call) (others_client w z left client)) refl refl ∙ live;
+    lives = λ w z left client. found_other (client_of z.call) (others_client w z left client);
+    makes = λ w z k e left was by. makes_still z (its_asker w z left) (others_client w z left) k e was by;
     homes = λ b h among. found_other (number_of b) (not_leaving b h among);
     owners = owner_left;
     markers = λ k marks there own. marker_left k marks own;

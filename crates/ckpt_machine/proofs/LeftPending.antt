@@ -1,5 +1,5 @@
 -- What a step leaves of the asynchronous calls that are not dispatched, and of the handles for which places stand: all, but where a call closes a handle or lets its client leave.
-use Rattle.std.proofs.Common.{◌≡◌, ◌⊎◌, ℕ, inl, inr, List, [], ◌∷◌, Option, Some, None, true, false, cond, refl, sym, ap, subst, ◌∙◌}
+use Rattle.std.proofs.Common.{◌≡◌, ◌⊎◌, ℕ, ℤ, Bool, inl, inr, List, [], ◌∷◌, Option, Some, None, true, false, cond, refl, sym, ap, subst, ◌∙◌}
 use Rattle.std.specs.Option.{option_map}
 use Rattle.ckpt_types.specs.declared.ais_error.AisError.{AisError}
 use Rattle.ckpt_types.specs.declared.answers.Answer.{Answer}
@@ -14,6 +14,7 @@ use Rattle.ckpt_types.specs.declared.open_flags.OpenFlags.{OpenFlags}
 use Rattle.ckpt_types.specs.declared.operation.Op.{Op}
 use Rattle.ckpt_types.specs.declared.operation.Op.TheVariants as ops
 use Rattle.ckpt_types.specs.declared.sections.Choice.{Choice}
+use Rattle.ckpt_types.specs.declared.update.Update.{Update}
 use Rattle.ckpt_types.specs.Asks as asks
 use Rattle.ckpt_types.specs.Asks.{Ask, asked, is_async_ask}
 use Rattle.ckpt_types.specs.Attributes.{open_flags_of}
@@ -32,10 +33,14 @@ use Rattle.cluster_record.specs.Makings.{making_of}
 use Rattle.cluster_record.specs.RecordState.{RecordState, entered, finished, opened, active_set}
 use Rattle.ckpt_machine.specs.After.{changed, change_replica, record_step, on_ok, at_some, without_making, goes_with, left_over}
 use Rattle.ckpt_machine.specs.Due.{Told}
-use Rattle.ckpt_machine.specs.Guards.{AsksToOpen, Row}
+use Rattle.ckpt_machine.specs.ActiveGuards.{PullRow}
+use Rattle.ckpt_machine.specs.CopyGuards.{CopyPullRow, CopyReserveRow}
+use Rattle.ckpt_machine.specs.Guards.{AsksOpen, AsksToOpen, AsksUpdate, Row}
 use Rattle.ckpt_machine.specs.LookGuards.{LookRow, LookDone, LookRefused}
 use Rattle.ckpt_machine.specs.Machine.{Machine, ReplicaState, CallState}
+use Rattle.ckpt_machine.specs.OpenGuards.{ReserveRow}
 use Rattle.ckpt_machine.specs.Tables.{tables_given, tables_done, flags_or_none, started, gone_on, closing, handle_closed}
+use Rattle.ckpt_machine.specs.UpdateGuards.{ClaimRow, CommitRow, StageRow, WithdrawRow}
 use Rattle.ckpt_machine.specs.Whose.{is_of}
 use Rattle.ckpt_machine.proofs.ByActor.{put_actor-here, put_actor-other, put_actor-same}
 use Rattle.ckpt_machine.proofs.KeptLists.{found_front}
@@ -199,6 +204,7 @@ module _ (m : Machine) (s : CallState) where
   other_stays verbs.Next other k r reply = at_entry reply k _ (λ k. where_some r _ (λ r. own_change (gone_on (asked s.op) _) (λ async. stands_gone_on (asked s.op) async _ (m.tables a))))
   other_stays verbs.Hold other k r reply = at_entry reply k _ (λ k. stays)
   other_stays verbs.Activate other k r reply = at_entry reply k _ (λ k. where_some r _ (λ r. at_replica (record_step (active_set k r) m) k r ((record_step (active_set k r) m).replicas k r) _ stays))
+  other_stays verbs.Complete other k r reply = at_entry reply k _ (λ k. where_some r _ (λ r. stays))
   other_stays verbs.Look other k r reply = absurd other
   other_stays verb other k r reply = stays
 
@@ -212,21 +218,33 @@ module _ (m : Machine) (s : CallState) where
     asks_no_open : (name : List ℕ) (attributes : Option CreationAttributes) → AsksToOpen s name attributes → ⊥
     asks_no_open name attributes is = asks_none (asks.Open is.place name is.flags is.timeout attributes) is.asks tt
 
+    asks_no_update : (P : Update → (Bool → Bool) → Type 0) → AsksUpdate m s P → ⊥
+    asks_no_update P (inl p) = asks_none _ p.2 tt
+    asks_no_update P (inr p) = asks_none _ p.0 tt
+
+    reserve_asks : (k r : ℕ) (reply : StepReply) (end : Option Outcome) → AsksOpen s (λ name a. ReserveRow m s k r reply end) ⊎ ((asked s.op ≡ asks.Copy) × CopyReserveRow m s k r reply end) → ⊥
+    reserve_asks k r reply end (inl p) = asks_no_open p.0 p.1 p.2
+    reserve_asks k r reply end (inr p) = asks_none _ p.0 tt
+
+    pull_asks : (k r : ℕ) (t : Told) → ((place : ℕ) × (timeout : Option ℤ) × (asked s.op ≡ asks.Synchronize place timeout) × PullRow m s k r t t.reply) ⊎ ((asked s.op ≡ asks.Copy) × CopyPullRow m s k r t t.reply) → ⊥
+    pull_asks k r t (inl p) = asks_none _ p.2 tt
+    pull_asks k r t (inr p) = asks_none _ p.0 tt
+
     other_asks : (verb : Verb) (t : Told) → IsOther verb → Row m s verb t → ⊥
     other_asks verbs.Enter t other row = at_node_alone t.ckpt t.node _ row.0 (λ r p. asks_none _ p.2 tt)
     other_asks verbs.Leave t other row = other
     other_asks verbs.Open t other row = row_at_ckpt t.ckpt t.node _ row.0 (λ k p. asks_no_open p.0 p.1 p.2)
     other_asks verbs.Create t other row = row_at_ckpt t.ckpt t.node _ row.0 (λ k p. asks_no_open p.0 p.1 p.2)
-    other_asks verbs.Reserve t other row = at_node t.ckpt t.node _ row.0 (λ k r p. asks_no_open p.0 p.1 p.2)
+    other_asks verbs.Reserve t other row = at_node t.ckpt t.node _ row.0 (λ k r p. reserve_asks k r t.reply t.end p)
     other_asks verbs.Finish t other row = row_at_ckpt t.ckpt t.node _ row.0 (λ k p. asks_no_open p.0 p.1 p.2)
     other_asks verbs.Undo t other row = row_at_ckpt t.ckpt t.node _ row.0 (λ k p. asks_no_open p.0 p.1 p.2)
     other_asks verbs.Close t other row = other
     other_asks verbs.Unlink t other row = row_at_ckpt t.ckpt t.node _ row.0 (λ k p. asks_none _ p.1 tt)
     other_asks verbs.Retain t other row = row_at_ckpt t.ckpt t.node _ row.0 (λ k p. asks_none _ p.2 tt)
-    other_asks verbs.Stage t other row = at_node t.ckpt t.node _ row.0 (λ k r p. asks_none _ p.2 tt)
-    other_asks verbs.Claim t other row = at_node t.ckpt t.node _ row.0 (λ k r p. asks_none _ p.2 tt)
-    other_asks verbs.Withdraw t other row = at_node t.ckpt t.node _ row.0 (λ k r p. asks_none _ p.2 tt)
-    other_asks verbs.Commit t other row = at_node t.ckpt t.node _ row (λ k r p. asks_none _ p.2 tt)
+    other_asks verbs.Stage t other row = at_node t.ckpt t.node _ row.0 (λ k r p. asks_no_update (λ update ends. StageRow m s update k r t.reply t.end) p)
+    other_asks verbs.Claim t other row = at_node t.ckpt t.node _ row.0 (λ k r p. asks_no_update (λ update ends. ClaimRow m s k r t.reply t.end) p)
+    other_asks verbs.Withdraw t other row = at_node t.ckpt t.node _ row.0 (λ k r p. asks_no_update (λ update ends. WithdrawRow m s k r t.reply t.end) p)
+    other_asks verbs.Commit t other row = at_node t.ckpt t.node _ row (λ k r p. asks_no_update (λ update ends. CommitRow m s.call update ends k r t.reply t.end t.details) p)
     other_asks verbs.Apply t other row = at_node t.ckpt t.node _ row (λ k r p. asks_none _ p.2 tt)
     other_asks verbs.Mark t other row = at_node t.ckpt t.node _ row (λ k r p. asks_none _ p.2 tt)
     other_asks verbs.Element t other row = at_node t.ckpt t.node _ row (λ k r p. asks_none _ p.2 tt)
@@ -235,12 +253,12 @@ module _ (m : Machine) (s : CallState) where
     other_asks verbs.Status t other row = at_node t.ckpt t.node _ row (λ k r p. asks_none _ p.1 tt)
     other_asks verbs.Iter t other row = at_node t.ckpt t.node _ row.0 (λ k r p. asks_none _ p.4 tt)
     other_asks verbs.Next t other row = at_node t.ckpt t.node _ row (λ k r p. asks_none _ p.1 tt)
-    other_asks verbs.Pull t other row = at_node t.ckpt t.node _ row.0 (λ k r p. asks_none _ p.2 tt)
+    other_asks verbs.Pull t other row = at_node t.ckpt t.node _ row.0 (λ k r p. pull_asks k r t p)
     other_asks verbs.Install t other row = at_node t.ckpt t.node _ row.0 (λ k r p. asks_none _ p.2 tt)
     other_asks verbs.Hold t other row = at_node t.ckpt t.node _ row.0 (λ k r p. asks_none _ p.1 tt)
     other_asks verbs.Activate t other row = at_node t.ckpt t.node _ row.0 (λ k r p. asks_none _ p.1 tt)
+    other_asks verbs.Complete t other row = at_node t.ckpt t.node _ row.0 (λ k r p. asks_none _ p.0 tt)
     other_asks verbs.Look t other row = other
-    other_asks verb t other row = row
 
   -- the number of the handle for which a place of its client stands
   abbrev pub number_at : ℕ → Option ℕ
@@ -308,6 +326,7 @@ module _ (m : Machine) (s : CallState) where
       by_ask (asks.Close place) is answers.Nothing done = closed place is (Some (Done answers.Nothing)) refl
       by_ask (asks.Synchronize place timeout) is answer done = none_closed (asks.Synchronize place timeout) is tt refl refl (Some (Done answer))
       by_ask (asks.Change place update) is answer done = none_closed (asks.Change place update) is tt refl refl (Some (Done answer))
+      by_ask asks.Copy is answer done = none_closed asks.Copy is tt refl refl (Some (Done answer))
       by_ask ask is answer done = absurd done
 
   -- and one that refuses its call is of neither

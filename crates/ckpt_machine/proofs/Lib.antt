@@ -2,11 +2,30 @@ pub mod ActiveBy
 pub mod AsyncNames
 pub mod ByActor
 pub mod ByNumber
+pub mod FewEntries
+pub mod CopyLeft
+pub mod CopyNearer
 mod FewSteps
 pub mod HeldIdentity
 pub mod MostSteps
 pub mod PendingNames
 pub mod OnComplete
+mod CopyHand
+mod CopyFrame
+mod CopyLacks
+mod CopyReserve
+mod CopyLook
+mod CopyPulled
+mod CopyPull
+mod CopyPullStaged
+mod CompletedEntry
+mod CompletedRecord
+mod CompletingFrame
+mod CompletingActive
+mod CompletingStaged
+mod CopyMoves
+mod DueReady
+mod CopyReady
 pub mod Handles
 pub mod Served
 pub mod Sync
@@ -43,10 +62,22 @@ pub mod SixFacts
 pub mod Stage
 pub mod StagedMoment
 pub mod StaysMade
+pub mod CompletedMade
+pub mod StepsMade
+pub mod StepsRemain
+pub mod CopyCommits
+pub mod Completions
+pub mod EachThere
+pub mod SameNodes
 pub mod AtRest
 pub mod ClientTables
 pub mod AllOrNone
 pub mod Update
+pub mod UpdateIn
+mod CopiesStay
+mod Lacking
+mod NodeCalls
+mod LaterIncarnations
 pub mod Start
 pub mod Starting
 pub mod UpdateReady
@@ -78,6 +109,7 @@ pub mod OneReplica
 pub mod OnAll
 pub mod OneStepCalls
 pub mod Enter
+pub mod UpdateStays
 pub mod Acknowledged
 pub mod AcknowledgedExamples
 pub mod ClaimExamples
@@ -107,6 +139,11 @@ pub mod Facts
 pub mod Nearer
 pub mod OptionLemmas
 pub mod Actors
+pub mod Askers
+pub mod CopyingHands
+pub mod CopyingLeft
+pub mod CopiesTold
+pub mod LabelsLeave
 pub mod Whose
 pub mod Dropped
 pub mod DueStep
@@ -129,6 +166,8 @@ pub mod References
 pub mod OpenReady
 pub mod Follows
 pub mod HeldIn
+pub mod HasHistory
+pub mod StepHistory
 pub mod Histories
 pub mod RefusedRuns
 pub mod RefusedRows
@@ -169,6 +208,7 @@ pub mod SettleExamples
 pub mod DueRuns
 pub mod CutRuns
 pub mod JoinExamples
+pub mod CopyExamples
 pub mod CallbackRows
 pub mod FailureExamples
 pub mod Asking
@@ -194,6 +234,7 @@ pub mod Going
 pub mod DriverTaking
 mod EachKept
 mod FailedEach
+mod CompletedEach
 mod FailedMade
 mod FailedReplicas
 pub mod StepTaking
@@ -210,6 +251,9 @@ mod EndedSlots
 mod InOrder
 mod CallsEnd
 pub mod Claim
+pub mod BehindStep
+pub mod UpdatesBy
+pub mod CopyStages
 pub mod Frame
 pub mod LetGo
 pub mod Resolve

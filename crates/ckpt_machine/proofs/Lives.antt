@@ -19,6 +19,7 @@ use Rattle.ckpt_machine.specs.Shape.{Shape, IsOwner}
 use Rattle.ckpt_machine.specs.Due.{IsDriven, driver_of}
 use Rattle.ckpt_machine.specs.Whose.{put_who}
 use Rattle.ckpt_machine.proofs.CallsKept.{IsSameCall}
+use Rattle.ckpt_machine.proofs.UpdateIn.{no_enter}
 use Rattle.ckpt_machine.proofs.Whose.{put_who-cases, put_who-here}
 
 -- n follows on m: a dead call is dead still, whoever owns a slot is live, and a node that was up is up
@@ -56,6 +57,7 @@ start_enters call (asks.Iterate iteration place chosen time) kept = kept_enters 
 start_enters call (asks.Next iteration) kept = kept_enters kept.ckpt _ (λ k. refl)
 start_enters call (asks.Synchronize place timeout) kept = kept_enters kept.ckpt _ (λ k. refl)
 start_enters call (asks.SetActive place) kept = kept_enters kept.ckpt _ (λ k. refl)
+start_enters call asks.Copy kept = refl
 start_enters call ask kept = tt
 
 taken_enters : (d : StepDone) (x : Driver) → is_enter (driver_taken d x) ≡ is_enter x
@@ -64,6 +66,7 @@ taken_enters d (drivers.Open o) = refl
 taken_enters d (drivers.Update u) = refl
 taken_enters d (drivers.Active a) = refl
 taken_enters d (drivers.Sync u) = refl
+taken_enters d (drivers.Copy c) = refl
 
 steps_enter : (begun : Driver) (steps : List StepDone) → is_enter (driver_state begun steps) ≡ is_enter begun
 steps_enter begun [] = refl
@@ -105,7 +108,7 @@ module _ (m n : Machine) (shapes then_shapes : ℕ → Shape) (inv : InvariantIn
   lives_on : EntersWere m n → LivesOn m n
   lives_on were = record {
     dead = dead_on m n live next were;
-    owners = λ k sh d own. ap (is_live n.cluster) (sym own.call_is) ∙ (hands (who own.state) own.state own.in_hand).live (ap is_enter own.driver_is);
+    owners = λ k sh d own. ap (is_live n.cluster) (sym own.call_is) ∙ (hands (who own.state) own.state own.in_hand).live (no_enter (driver_of own.state) own.driver own.driver_is);
     up = λ r there. ap (λ nodes. slice_index nodes r) up;
   }
 

@@ -6,19 +6,15 @@ use Rattle.ckpt_types.specs.declared.update.Update.{Update}
 use Rattle.ckpt_types.specs.Updates.{outcome}
 use Rattle.weak_marks.specs.Marks.{Marked}
 use Rattle.node_msgs.specs.declared.steps.Verb.{Verb}
-use Rattle.ckpt_types.specs.declared.operation.Op.{Op}
-use Rattle.ckpt_types.specs.declared.operation.Op.TheVariants as ops
 use Rattle.ckpt_types.specs.Asks.{asked, update_of}
-use Rattle.ckpt_types.specs.Asks as asks
-use Rattle.ckpt_types.specs.OpWord.{word_of_op}
 use Rattle.std.proofs.lemmas.Option.{same_Some}
-use Rattle.ckpt_machine.specs.Acknowledged.{IsUpdateWord}
 use Rattle.run_labels.specs.declared.labels.Label.{Label}
 use Rattle.ckpt_machine.specs.WasAsked.{WasAsked}
 use Rattle.cluster_record.specs.declared.entries.Entry.{Entry}
 use Rattle.cluster_record.specs.RecordState.{entry_of}
 use Rattle.ckpt_machine.specs.Beginning.{update_is_bad}
 use Rattle.ckpt_machine.specs.ActiveGuards.{AreMarksOf}
+use Rattle.ckpt_machine.specs.InHand.{IsUpdateAsk}
 use Rattle.ckpt_machine.specs.Invariant.{Invariant}
 use Rattle.ckpt_machine.specs.Machine.{Machine, Staged, ReplicaState, CallState, who}
 use Rattle.ckpt_machine.specs.Options.{is_weak, is_by_element}
@@ -30,15 +26,6 @@ use Rattle.ckpt_machine.specs.Due.{Told, IsDone, due}
 use Rattle.ckpt_machine.proofs.Histories.{HasHistory}
 use Rattle.ckpt_machine.proofs.Prefixes.{prefix_same, prefix_of_same}
 
--- what asks for an update has such a word
-pub update_word : (op : Op) (place : ℕ) (update : Update) → asked op ≡ asks.Change place update → IsUpdateWord (word_of_op op)
-update_word (ops.Create p u) place update is = tt
-update_word (ops.Delete p u) place update is = tt
-update_word (ops.Expire p u) place update is = tt
-update_word (ops.Write p u) place update is = tt
-update_word (ops.Over p u) place update is = tt
-update_word op place update is = absurd (cc is)
-
 -- the state is the one behind a front of the log
 pub record IsBehindFront (log : List Label) (m : Machine) : Type 0 where
   pub front : List Label
@@ -46,7 +33,7 @@ pub record IsBehindFront (log : List Label) (m : Machine) : Type 0 where
   pub log_is : log ≡ front ++ rest
   pub state_is : m ≡ last front
 
--- a call in hand takes this step, which is due, behind a front of the log where this holds, on a replica that is there; it began in the log with this very update, of this checkpoint
+-- a call in hand takes this step, which is due, behind a front of the log where this holds, on a replica that is there; it began in the log with this very update, of this checkpoint, or is a copying that has reserved for it
 pub record StepsWhen (When : Machine → Type 0) (log : List Label) (m : Machine) (s : CallState) (verb : Verb) (k r : ℕ) (x : ReplicaState) : Type 0 where
   pub inv : Invariant m
   pub history : HasHistory m
@@ -56,8 +43,9 @@ pub record StepsWhen (When : Machine → Type 0) (log : List Label) (m : Machine
   pub told : Told
   pub verb_is : told.verb ≡ verb
   pub done : IsDone m s (due m s) told
+  pub asks : IsUpdateAsk (asked s.op)
+  pub kept : s.kept.ckpt ≡ Some k
   pub asked : WasAsked log k s.call (update_of s.op)
-  pub word : IsUpdateWord (word_of_op s.op)
   pub when : When m
 
 -- behind any front

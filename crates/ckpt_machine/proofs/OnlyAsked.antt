@@ -1,5 +1,5 @@
 -- Each effect of each replica, and what is staged and marked there, is of a call that began with this very update, of this checkpoint.
-use Rattle.std.proofs.Common.{◌≡◌, ℕ, ◌+◌, List, [], ◌∷◌, ◌++◌, Option, Some, None, Bool, true, false, cond, refl, sym, subst}
+use Rattle.std.proofs.Common.{◌≡◌, ℕ, ◌+◌, inl, inr, List, [], ◌∷◌, ◌++◌, Option, Some, None, Bool, true, false, cond, ℤ, refl, sym, ap, subst, ◌∙◌}
 use Rattle.std.specs.Prelude.{IfSome}
 use Rattle.std.proofs.lemmas.Option.{same_Some}
 use Rattle.ckpt_types.specs.declared.attributes.CreationAttributes.{CreationAttributes}
@@ -7,19 +7,22 @@ use Rattle.ckpt_types.specs.Asks.{update_of}
 use Rattle.run_labels.specs.declared.labels.Label.{Label}
 use Rattle.weak_marks.specs.Marks.{Marked, is_left}
 use Rattle.cluster_record.specs.declared.entries.Entry.{Entry}
+use Rattle.cluster_record.specs.Placement.{is_all}
 use Rattle.cluster_record.specs.RecordState.{entry_of, identity_of}
 use Rattle.ckpt_types.specs.declared.identities.CallId.{CallId}
 use Rattle.ckpt_types.specs.declared.update.Update.{Update}
 use Rattle.ckpt_machine.proofs.OneReplica.{claimed_was}
 use Rattle.ckpt_machine.specs.Laws.{OfEachRun}
 use Rattle.ckpt_machine.specs.Failing.{broken}
+use Rattle.ckpt_machine.specs.Options.{is_weak, is_by_element}
 use Rattle.ckpt_machine.specs.Machine.{Machine, Effect, Applied, Broken, Staged, ReplicaState, Snapshot}
 use Rattle.ckpt_machine.specs.Runs.{last, IsRun}
 use Rattle.ckpt_machine.specs.Shape.{IsCompleteOn}
 use Rattle.ckpt_machine.specs.Propagation.{replica_from}
 use Rattle.ckpt_machine.specs.After.{opened_state, having_taken, committed_slot, next_element_written, marks_ended, with_lead, with_marks, effect_of, staged_moment}
-use Rattle.ckpt_machine.specs.WasAsked.{WasAsked, EffectWasAsked, EachWasAsked, HasOnlyAsked, OnlyAskedThroughout}
+use Rattle.ckpt_machine.specs.WasAsked.{WasAskedFor, WasAsked, EffectWasAsked, EachWasAsked, HasOnlyAsked, OnlyAskedThroughout}
 use Rattle.ckpt_machine.proofs.Copying.{IsOfSource}
+use Rattle.ckpt_machine.proofs.EachKept.{IsStagedLike, having_copied}
 use Rattle.ckpt_machine.proofs.EachReplica.{IsKept, Each, run_each}
 use Rattle.ckpt_machine.proofs.EntryLists.{find_key-key}
 use Rattle.ckpt_machine.proofs.Histories.{run_history}
@@ -51,12 +54,17 @@ module _ (log : List Label) where
   element_asked : (a : CreationAttributes) (k : ℕ) (x : ReplicaState) (marks : Marked) → x.marks ≡ Some marks → HasOnlyAsked log k x → HasOnlyAsked log k (next_element_written a x (Some marks))
   element_asked a k x marks stand was = record { effects = was.effects; staged = was.staged; marked = by_left (is_left marks) }
     where
-      own : WasAsked log k marks.call marks.update
+      own : WasAskedFor log k marks.call marks.update
       own = was.marked marks stand
 
-      by_left : (b : Bool) (other : Marked) → cond b (Some (record marks { done = marks.done + 1 })) (Some marks) ≡ Some other → WasAsked log k other.call other.update
-      by_left true other is = subst (λ (z : Marked). WasAsked log k z.call z.update) (same_Some (record marks { done = marks.done + 1 }) other is) own
-      by_left false other is = subst (λ (z : Marked). WasAsked log k z.call z.update) (same_Some marks other is) own
+      by_left : (b : Bool) (other : Marked) → cond b (Some (record marks { done = marks.done + 1 })) (Some marks) ≡ Some other → WasAskedFor log k other.call other.update
+      by_left true other is = subst (λ (z : Marked). WasAskedFor log k z.call z.update) (same_Some (record marks { done = marks.done + 1 }) other is) own
+      by_left false other is = subst (λ (z : Marked). WasAskedFor log k z.call z.update) (same_Some marks other is) own
+
+  -- a call of which there are marks was asked for what they are of, since a copying does nothing that is done element by element
+  marks_asked : (weak : Bool) (k : ℕ) (call : CallId) (update : Update) → is_by_element weak update ≡ true → WasAsked log k call update → WasAskedFor log k call update
+  marks_asked weak k call update by_element (inl asked) = asked
+  marks_asked weak k call update by_element (inr copying) = absurd (let w : false ≡ true = ap (is_by_element weak) (sym copying.update_is) ∙ by_element in cc w)
 
   -- a replica leads with what is in hand, or with what it has
   led_asked : (k : ℕ) (o : Option Snapshot) (g : ℕ) (x : ReplicaState) → IfSome o (λ s. EachWasAsked log k s.effects) → HasOnlyAsked log k x → HasOnlyAsked log k (with_lead o g x)
@@ -75,14 +83,20 @@ module _ (log : List Label) where
   its_own : (m : Machine) (k : ℕ) (e : Entry) → entry_of k m.cluster.entries ≡ Some e → k ≡ e.identity
   its_own m k e found = sym (find_key-key identity_of k m.cluster.entries e found)
 
+  -- one that a copying has brought to its node has the slot of another
+  copied_asked : (e f : Entry) (call : CallId) (t : ℤ) (s : Snapshot) (all : Bool) → EachWasAsked log e.identity s.effects → IsStagedLike (λ o r x. IsAskedIn o x) e call t s all → HasOnlyAsked log e.identity (having_copied call t f s all)
+  copied_asked e f call t s false copied like = record { effects = copied; staged = λ slot none. absurd (cc none); marked = λ marks none. absurd (cc none) }
+  copied_asked e f call t s true copied (q, y, was, slot, effects) = record { effects = copied; staged = λ z is. (was e refl).staged z (slot ∙ is); marked = λ marks none. absurd (cc none) }
+
   kept_asked : IsKept (λ o r x. IsAskedIn o x) IsAskedCopy log
   kept_asked = record {
     opened = λ e r. asked_as e (opened_state e) (record { effects = tt; staged = λ slot none. absurd (cc none); marked = λ marks none. absurd (cc none) });
     stays = λ e f r x same stays made was. asked_as f x (asked_still e f x same (was e refl));
-    stays_copied = λ e f s same stays source was. subst (λ k. EachWasAsked log k s.effects) (sym same) was;
+    stays_copied = λ e f s same stays made was. subst (λ k. EachWasAsked log k s.effects) (sym same) was;
     led = λ e f r o x same goes made free none copied was. asked_as f (with_lead o f.generation x) (asked_still e f (with_lead o f.generation x) same (led_asked e.identity o f.generation x copied (was e refl)));
-    pulled = λ e r x source active none was. (was e refl).effects;
+    pulled = λ e r x none was. (was e refl).effects;
     put = λ e r s x present free none copied was. asked_as e (replica_from s x) (let it = was e refl in record { effects = copied; staged = it.staged; marked = it.marked });
+    completed = λ e f r call t s same goes made copied like. asked_as f (having_copied call t f s (is_all f.attributes)) (asked_still e f (having_copied call t f s (is_all f.attributes)) same (copied_asked e f call t s (is_all f.attributes) copied like));
     staged = λ m s k r x step was e found. (
         let it = was e found in
         record {
@@ -111,12 +125,12 @@ module _ (log : List Label) where
           staged = it.staged;
           marked = λ marks is. (
               let new : Marked = record { call = s.call; update = update_of s.op; moment = m.cluster.moment; done = 0; generation = x.generation } in
-              subst (λ (z : Marked). WasAsked log e.identity z.call z.update) (same_Some new marks is) (subst (λ k. WasAsked log k s.call (update_of s.op)) (its_own m k e active.found) step.asked));
+              subst (λ (z : Marked). WasAskedFor log e.identity z.call z.update) (same_Some new marks is) (marks_asked (is_weak e.attributes) e.identity s.call (update_of s.op) can.by_element (subst (λ k. WasAsked log k s.call (update_of s.op)) (its_own m k e active.found) step.asked)));
         });
     element = λ m s k r x e marks step active stand was. asked_as e (next_element_written e.attributes x (Some marks)) (element_asked e.attributes e.identity x marks stand.stand (was e refl));
     unmarked = λ m s k r x e marks step active stand was. asked_as e (marks_ended x (Some marks)) (
         let it = was e refl in
-        record { effects = asked_more log e.identity x.effects (Applied marks.call marks.update marks.moment) it.effects (it.marked marks stand.stand); staged = it.staged; marked = λ other none. absurd (cc none) });
+        record { effects = asked_more log e.identity x.effects (Applied marks.call marks.update marks.moment) it.effects (inl (it.marked marks stand.stand)); staged = it.staged; marked = λ other none. absurd (cc none) });
     broken_off = λ e r x marks stand free none was. asked_as e (broken marks x) (
         let it = was e refl in
         record { effects = asked_more log e.identity x.effects (Broken marks.call marks.update marks.moment marks.done) it.effects (it.marked marks stand); staged = it.staged; marked = λ other none. absurd (cc none) });

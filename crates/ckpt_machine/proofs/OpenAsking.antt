@@ -1,6 +1,6 @@
 -- An open that makes nothing yet is refused, creates a checkpoint, or opens one that is there; with any calls of others in hand.
-use Rattle.std.proofs.Common.{◌≡◌, ◌≤◌, ℕ, ◌+◌, ◌<◌, inl, inr, ◌∷◌, length, Option, Some, None, Bool, true, false, cond, not, ◌==◌, nat_le, ℤ, refl, sym, ap, subst, ◌∙◌, arith}
-use Rattle.std.specs.Prelude.{is_some, IsSome, IsSomeAnd, slice_index}
+use Rattle.std.proofs.Common.{◌≡◌, ◌≤◌, ℕ, ◌+◌, ◌<◌, inl, inr, ◌∷◌, length, Option, Some, None, Bool, true, false, cond, not, ◌==◌, nat_le, nat_lt, ℤ, refl, sym, ap, subst, ◌∙◌, arith}
+use Rattle.std.specs.Prelude.{is_some, IsSomeAnd, slice_index}
 use Rattle.std.proofs.lemmas.Bool.{leb-true, leb-false, ltb-true}
 use Rattle.moment_rules.specs.Times.{is_reached}
 use Rattle.ckpt_types.specs.declared.ais_error.AisError.{AisError}
@@ -38,12 +38,13 @@ use Rattle.ckpt_machine.specs.LookGuards.{MayExist, IsAccepted, OpenLook}
 use Rattle.ckpt_machine.specs.OpenGuards.{MayCreate, IsOpenable, MayOpen, OpenRow}
 use Rattle.ckpt_machine.specs.GuardTerms.{IsInTime}
 use Rattle.ckpt_machine.specs.InHand.{attributes_asked, AreGoodAttributes, is_enter, IsInPlace, IsInHand, IsOpenIn}
-use Rattle.ckpt_machine.specs.Invariant.{IsMaker, IsGoodIn, InvariantIn, Invariant}
+use Rattle.ckpt_machine.specs.Invariant.{IsMaker, IsGoodIn, IsReservedFor, InvariantIn, Invariant}
 use Rattle.ckpt_machine.specs.Left.{steps_left}
 use Rattle.ckpt_machine.specs.Machine.{Machine, ReplicaState, CallState, who}
 use Rattle.ckpt_machine.specs.After.{reservation_under, with_record, created_for}
-use Rattle.ckpt_machine.specs.Due.{Told, IsDone, IsEvent, IsRecordAnswer, IsEventAnswer, driver_of, rooms_of}
+use Rattle.ckpt_machine.specs.Due.{Told, IsDone, IsEvent, IsRecordAnswer, IsEventAnswer, driver_of, event_done, rooms_of}
 use Rattle.ckpt_machine.specs.Shape.{Shape}
+use Rattle.ckpt_machine.proofs.Askers.{client_makings}
 use Rattle.ckpt_machine.proofs.Created.{entry_new, created_keeps}
 use Rattle.ckpt_machine.proofs.Deadlines.{in_time-cases}
 use Rattle.ckpt_machine.proofs.EntryLists.{entry_of-given, swept-all, AllStay-push}
@@ -52,6 +53,7 @@ use Rattle.ckpt_machine.proofs.OptionLemmas.{IsSomeAnd-from}
 use Rattle.ckpt_machine.proofs.StepsLeft.{lacking-few}
 use Rattle.ckpt_machine.proofs.NodeLists.{had-there, has-none}
 use Rattle.ckpt_machine.proofs.OpenReady.{client_live}
+use Rattle.ckpt_machine.proofs.OtherCalls.{home_stays}
 use Rattle.ckpt_machine.proofs.OpenThere.{opened_keeps}
 use Rattle.ckpt_machine.proofs.OpenFacts.{LookRefused-open}
 use Rattle.ckpt_machine.proofs.OwnMaking.{open_at}
@@ -71,7 +73,7 @@ module _ (m : Machine) (shapes : ℕ → Shape) (inv : InvariantIn shapes m) (s 
 
   -- its client is live
   own_live : is_live_client (client_of s.call) m.cluster ≡ true
-  own_live = let hand = inv.hands (who s) s held in client_live m.cluster s.call hand.client (hand.live (ap is_enter is))
+  own_live = client_live m.cluster s.call at_open.caller ((inv.hands (who s) s held).live (ap is_enter is))
 
   -- the call ends, and nothing else changes
   ends : Invariant (record m { in_hand = put_who m.in_hand (who s) None })
@@ -87,7 +89,9 @@ module _ (m : Machine) (shapes : ℕ → Shape) (inv : InvariantIn shapes m) (s 
 
   -- its client has a free place for a handle
   has_room : (rooms_of m s).handles ≡ true → length (m.tables s.call.actor).handles + makings_of (client_of s.call) m.cluster.entries < handles_max
-  has_room room = ltb-true (length (m.tables s.call.actor).handles + makings_of (client_of s.call) m.cluster.entries) handles_max room
+  has_room room =
+      ltb-true (length (m.tables s.call.actor).handles + makings_of (client_of s.call) m.cluster.entries) handles_max
+      (ap (λ n. nat_lt (length (m.tables s.call.actor).handles + n) handles_max) (sym (client_makings m.cluster.entries s.call.actor at_open.caller)) ∙ room)
 
   -- before it
   in_time_is : IsBefore m.cluster.moment deadline → IsInTime m s
@@ -144,12 +148,12 @@ module _ (m : Machine) (shapes : ℕ → Shape) (inv : InvariantIn shapes m) (s 
     own_then : (rooms_of m s).handles ≡ true → IsInHand then_machine shapes (who s) then_state
     own_then room = let hand = inv.hands (who s) s held in record {
       whose = refl;
-      client = hand.client;
+      asker = hand.asker;
       number = hand.number;
       built = hand.built;
       driven = hand.driven;
       live = λ others. hand.live (ap is_enter is);
-      home = λ others. hand.home (ap is_enter is);
+      home = λ others. hand.home (ap is_enter is) ∙ sym (home_stays s.call.actor m.cluster after_it refl);
       here = subst (IsInPlace then_machine shapes then_state) (sym driver_then) (record {
         caller = at_open.caller;
         client = at_open.client;
@@ -169,13 +173,13 @@ module _ (m : Machine) (shapes : ℕ → Shape) (inv : InvariantIn shapes m) (s 
         not_given : (r : ℕ) → m.reserved next r ≡ None
         not_given r = by_reserved (m.reserved next r) refl
           where
-            by_entry : (e : Option Entry) → entry_of next m.cluster.entries ≡ e → IsSomeAnd e (λ e. IsSome e.making) → m.reserved next r ≡ None
-            by_entry None found some = absurd some
-            by_entry (Some e) found some = absurd (let below : next ≤ m.cluster.last_identity = entry_of-given m.cluster.last_identity next m.cluster.entries e inv.up_to found in omega (arith, below))
+            by_entry : (n : ℕ) (e : Option Entry) → entry_of next m.cluster.entries ≡ e → IsSomeAnd e (IsReservedFor m.cluster r n) → m.reserved next r ≡ None
+            by_entry n None found some = absurd some
+            by_entry n (Some e) found some = absurd (let below : next ≤ m.cluster.last_identity = entry_of-given m.cluster.last_identity next m.cluster.entries e inv.up_to found in omega (arith, below))
 
             by_reserved : (n : Option ℕ) → m.reserved next r ≡ n → m.reserved next r ≡ None
             by_reserved None none = none
-            by_reserved (Some n) some = by_entry (entry_of next m.cluster.entries) refl (inv.reserves next r n some)
+            by_reserved (Some n) some = by_entry n (entry_of next m.cluster.entries) refl (inv.reserves next r n some)
 
         -- its entry is the new one
         found_new : entry_of next after_it.entries ≡ Some new
@@ -192,10 +196,10 @@ module _ (m : Machine) (shapes : ℕ → Shape) (inv : InvariantIn shapes m) (s 
         ∙ swept-all after_it (AllStay-push m.cluster.moment m.cluster.entries new inv.swept refl)
 
     -- the call goes on, making it
-    create_keeps : (rooms_of m s).handles ≡ true → Invariant then_machine
-    create_keeps room = record {
+    create_keeps : (rooms_of m s).handles ≡ true → length m.cluster.entries < 16 → Invariant then_machine
+    create_keeps room few = record {
       shapes = shapes;
-      holds = created_keeps m shapes inv s held (ap (λ d. is_plain d s.snapshot) is) ask.name a (subst AreGoodAttributes given at_open.declared) then_state refl refl at_open.caller (has_room room) at_making driver_then making refl refl (own_then room);
+      holds = created_keeps m shapes inv s held (ap (λ d. is_plain d s.snapshot) is) ask.name a (subst AreGoodAttributes given at_open.declared) then_state refl refl at_open.caller (has_room room) at_making driver_then making refl refl few (own_then room);
     }
 
     -- its reservations and its finish are left
@@ -211,7 +215,7 @@ module _ (m : Machine) (shapes : ℕ → Shape) (inv : InvariantIn shapes m) (s 
     create_goes t room few event = elim (IsEvent-told m s events.Create t (drivers.Open asking) event is refl tt) [
       | inl ok ↦ subst (Goes m s (drivers.Open asking)) (sym ok) (record {
         row = ((ask.name, ask.attrs, at_open.asks, (may_create room few, refl)), refl);
-        holds = subst (λ R. Invariant (record (with_record m R) { in_hand = put_who m.in_hand (who s) (Some (record s { steps = done_of R verbs.Create (Some next) None words.Ok ∷ s.steps })) })) (sym created_is) (create_keeps room);
+        holds = subst (λ R. Invariant (record (with_record m R) { in_hand = put_who m.in_hand (who s) (Some (record s { steps = done_of R verbs.Create (Some next) None words.Ok ∷ s.steps })) })) (sym created_is) (create_keeps room few);
         nearer = λ none. subst (λ R. steps_left R (with_record m R).replicas (driver_taken (done_of R verbs.Create (Some next) None words.Ok) (drivers.Open asking)) < steps_left m.cluster m.replicas (drivers.Open asking)) (sym created_is) (create_nearer (with_record m after_it).replicas);
       })
       | inr memory ↦ subst (Goes m s (drivers.Open asking)) (sym memory.1) (record {
@@ -255,7 +259,7 @@ module _ (m : Machine) (shapes : ℕ → Shape) (inv : InvariantIn shapes m) (s 
       held_told : (t : Told) → IsEvent m s events.Open t → t ≡ record { verb = verbs.Open; ckpt = Some e.identity; node = None; reply = words.Refused; end = Some (Refused TryAgain (Holder by)); details = beside.Nothing }
       held_told t event =
           let refusal : event_refusal m.cluster events.Open (driver_of s) ≡ Some (Refused TryAgain (Holder by)) = answered ∙ ap (λ c. refusal_in (answer_by c ask.attrs (home_of ask.client m.cluster) e)) made_by in
-          let (reply, end) = subst (λ o. IsRecordAnswer o events.Open t) refusal (subst (λ o. IsEventAnswer o (event_refusal m.cluster events.Open (driver_of s)) events.Open t) (not_kept_off m t.ckpt events.Open tt) event.answer) in
+          let (reply, end) = subst (λ o. IsRecordAnswer o (event_done m s events.Open t) events.Open t) refusal (subst (λ o. IsEventAnswer o (event_refusal m.cluster events.Open (driver_of s)) (event_done m s events.Open t) events.Open t) (not_kept_off m t.ckpt events.Open tt) event.answer) in
           let ckpt : t.ckpt ≡ Some e.identity = event.ckpt ∙ ckpt_then is ∙ ap identity_in found in
           let node : t.node ≡ None = event.node ∙ node_then is in
           Told-is t (record { verb = verbs.Open; ckpt = Some e.identity; node = None; reply = words.Refused; end = Some (Refused TryAgain (Holder by)); details = beside.Nothing }) event.verb ckpt node reply end event.details
@@ -297,7 +301,7 @@ module _ (m : Machine) (shapes : ℕ → Shape) (inv : InvariantIn shapes m) (s 
         | inl ok ↦
             subst (Goes m s (drivers.Open asking)) (sym (ok ∙ (λ i. record { verb = verbs.Open; ckpt = identity_in (found i); node = None; reply = words.Ok; end = opened_end (identity_in (found i)); details = beside.Nothing }))) (record {
               row = ((ask.name, ask.attrs, at_open.asks, (may_open accepted room, refl)), refl);
-              holds = opened_keeps m shapes inv s held (ap (λ d. is_plain d s.snapshot) is) own_live e there made (has_room room);
+              holds = opened_keeps m shapes inv s held (ap (λ d. is_plain d s.snapshot) is) at_open.caller own_live e there made (has_room room);
               nearer = λ none. absurd (cc none);
             })
         | inr memory ↦

@@ -36,14 +36,16 @@ use Rattle.ckpt_machine.specs.Drivers as drivers
 use Rattle.ckpt_machine.specs.Driving.{driver_taken}
 use Rattle.ckpt_machine.specs.OpenGuards.{IsMadeBy, IsTarget}
 use Rattle.ckpt_machine.specs.GuardTerms.{IsInTime}
+use Rattle.ckpt_machine.specs.Tables.{takes_copy}
 use Rattle.ckpt_machine.specs.Entries.{WasMade, IsMakingEntry, AllStay}
 use Rattle.ckpt_machine.specs.InHand.{is_enter, attributes_asked, IsMakingIn, IsInPlace, IsOpenIn}
 use Rattle.ckpt_machine.specs.Invariant.{InvariantIn, Invariant}
 use Rattle.ckpt_machine.specs.Left.{steps_left, lacking}
-use Rattle.ckpt_machine.specs.Machine.{Machine, CallState, who}
+use Rattle.ckpt_machine.specs.Machine.{Machine, Snapshot, CallState, who}
 use Rattle.ckpt_machine.specs.After.{with_record, with_given, with_reservation, record_step, without_making}
 use Rattle.ckpt_machine.specs.Due.{Told, IsDone, IsServed, IsEvent, driver_of}
 use Rattle.ckpt_machine.specs.Shape.{Shape, IsCompleteOn}
+use Rattle.ckpt_machine.proofs.Askers.{IsCopyAsk, kept_still}
 use Rattle.ckpt_machine.proofs.Deadlines.{in_time-cases}
 use Rattle.ckpt_machine.proofs.Finished.{finish_keeps}
 use Rattle.ckpt_machine.proofs.EntryLists.{swept-all, entry_of-given, find_key-change_key, AllStay-change_key, open-stays, list_any-first}
@@ -69,9 +71,9 @@ reserve_answers None answer (inl done) = inl done
 reserve_answers None answer (inr refused) = inr (refused, refl)
 reserve_answers (Some n) answer done = inl done
 
--- the call is in hand, with one step more
-abbrev going_on : CallState → StepDone → Machine → Machine
-going_on s d m = record m { in_hand = put_who m.in_hand (who s) (Some (record s { steps = d ∷ s.steps })) }
+-- the call is in hand, with one step more, and with this in its hand
+abbrev going_on : CallState → StepDone → Option Snapshot → Machine → Machine
+going_on s d copy m = record m { in_hand = put_who m.in_hand (who s) (Some (record s { steps = d ∷ s.steps; snapshot = copy })) }
 
 module _ (m : Machine) (shapes : ℕ → Shape) (inv : InvariantIn shapes m) (s : CallState) (held : m.in_hand (who s) ≡ Some s) (call : CallId) (ask : OpenAsk) (deadline : Option ℤ) (making : Making) (is : driver_of s ≡ drivers.Open (record { call = call; ask = ask; deadline = deadline; making = Some making })) where
   -- what it keeps
@@ -157,7 +159,7 @@ module _ (m : Machine) (shapes : ℕ → Shape) (inv : InvariantIn shapes m) (s 
 
   -- its client is live
   own_live : is_live_client (client_of s.call) m.cluster ≡ true
-  own_live = let hand = inv.hands (who s) s held in client_live m.cluster s.call hand.client (hand.live (ap is_enter is))
+  own_live = client_live m.cluster s.call at_open.caller ((inv.hands (who s) s held).live (ap is_enter is))
 
   -- its client's node is up
   home_up : is_up (home_of ask.client m.cluster) m.cluster ≡ true
@@ -187,7 +189,7 @@ module _ (m : Machine) (shapes : ℕ → Shape) (inv : InvariantIn shapes m) (s 
   -- its client may be given a handle
   may_give : IsGivable finished_then s.call.actor k
   may_give = record {
-    client = (inv.hands (who s) s held).client;
+    client = at_open.caller;
     live = own_live;
     made = made_now;
     placed = subst (λ o. IfSome o (λ (e : Entry). is_collocated e.attributes ≡ true → IsCompleteOn e (home_of (client_of s.call) m.cluster))) (sym found_now) (λ collocated. subst (λ (c : ℕ). IsCompleteOn made (home_of c m.cluster)) at_open.client home_there);
@@ -270,10 +272,10 @@ module _ (m : Machine) (shapes : ℕ → Shape) (inv : InvariantIn shapes m) (s 
 
     -- ---- where the call is then
 
-    module _ (d : StepDone) (w : Making) (g : ℕ → ℕ → Option ℕ) (taken : driver_taken d (drivers.Open at_making) ≡ drivers.Open (with_making w)) (same_ckpt : w.ckpt ≡ making.ckpt) (elsewhere : (j q : ℕ) → (j == making.ckpt) ≡ false → g j q ≡ m.reserved j q) where
-      -- the call with one step more
+    module _ (d : StepDone) (copy : Option Snapshot) (w : Making) (g : ℕ → ℕ → Option ℕ) (taken : driver_taken d (drivers.Open at_making) ≡ drivers.Open (with_making w)) (same_ckpt : w.ckpt ≡ making.ckpt) (elsewhere : (j q : ℕ) → (j == making.ckpt) ≡ false → g j q ≡ m.reserved j q) where
+      -- the call with one step more, and with this in its hand
       abbrev then_state : CallState
-      then_state = record s { steps = d ∷ s.steps }
+      then_state = record s { steps = d ∷ s.steps; snapshot = copy }
 
       -- the state with these reservations
       abbrev then_machine : Machine
@@ -287,7 +289,7 @@ module _ (m : Machine) (shapes : ℕ → Shape) (inv : InvariantIn shapes m) (s 
       goes_on : IsMakingIn then_machine then_state w → InvariantIn shapes then_machine
       goes_on making_then = reserved_keeps m shapes inv s at_making making held is refl g elsewhere then_state refl refl (with_making w) driver_then w refl same_ckpt (let hand = inv.hands (who s) s held in record {
         whose = refl;
-        client = hand.client;
+        asker = hand.asker;
         number = hand.number;
         built = hand.built;
         driven = hand.driven;
@@ -362,18 +364,18 @@ module _ (m : Machine) (shapes : ℕ → Shape) (inv : InvariantIn shapes m) (s 
     ] refl
 
     -- the invariant holds after the reservation
-    reserved_holds : Invariant (going_on s reserve_done (with_reservation k r m))
+    reserved_holds : Invariant (going_on s reserve_done None (with_reservation k r m))
     reserved_holds = record {
       shapes = shapes;
-      holds = goes_on reserve_done reserved put_there refl refl (λ j q other. ap (λ b. cond (b && (q == r)) (Some (slice_index m.cluster.up r)) (m.reserved j q)) other)
+      holds = goes_on reserve_done None reserved put_there refl refl (λ j q other. ap (λ b. cond (b && (q == r)) (Some (slice_index m.cluster.up r)) (m.reserved j q)) other)
           (record { there = its.there; declares = its.declares; nodes = length-slice_set making.reserved r (slice_index m.cluster.up r) ∙ its.nodes; reserved = reserved_then; only = only_then; within = within_then; no_later = no_later_then });
     }
 
     -- and after its refusal
-    refused_holds : Invariant (going_on s memory_done m)
+    refused_holds : Invariant (going_on s memory_done s.snapshot m)
     refused_holds = record {
       shapes = shapes;
-      holds = goes_on memory_done refused m.reserved refl refl (λ j q other. refl) (record { there = its.there; declares = its.declares; nodes = its.nodes; reserved = its.reserved; only = its.only; within = its.within; no_later = its.no_later });
+      holds = goes_on memory_done s.snapshot refused m.reserved refl refl (λ j q other. refl) (record { there = its.there; declares = its.declares; nodes = its.nodes; reserved = its.reserved; only = its.only; within = its.within; no_later = its.no_later });
     }
 
     -- ---- nearer to its end
@@ -401,16 +403,23 @@ module _ (m : Machine) (shapes : ℕ → Shape) (inv : InvariantIn shapes m) (s 
         let c = one_fewer in
         subst (λ (n : ℕ). 1 < n) (sym b) (omega (arith, c))
 
+    -- it takes no room for a copy with it, so the memory may be wanting where none stands alone
+    no_copy : (is_some (m.reserved k r) && not (takes_copy (asked s.op))) ≡ is_some (m.reserved k r)
+    no_copy = ap (λ ask. is_some (m.reserved k r) && not (takes_copy ask)) at_open.asks.asks ∙ kept (is_some (m.reserved k r)) where
+      kept : (b : Bool) → (b && true) ≡ b
+      kept true = refl
+      kept false = refl
+
     -- the reservation is done, or refused memory
     reserve_goes : (t : Told) → IsServed m s r (requests.Reserve k) t → Goes m s (drivers.Open at_making) t
-    reserve_goes t served = elim (reserve_answers (m.reserved k r) served.answer served.may) [
+    reserve_goes t served = elim (reserve_answers (m.reserved k r) served.answer (subst (λ b. MayReserve b served.answer) no_copy served.may)) [
       | inl ok ↦ subst (Goes m s (drivers.Open at_making)) (sym (IsServed-told m s r (requests.Reserve k) t (drivers.Open at_making) (replies.Done answers.Nothing) served is ok)) (record {
-        row = ((ask.name, ask.attrs, at_open.asks, (up_there, by, in_time_is before, is_target, refl)), refl);
-        holds = reserved_holds;
+        row = (inl (ask.name, ask.attrs, at_open.asks, (up_there, by, in_time_is before, is_target, refl)), refl);
+        holds = subst (λ kept. Invariant (record (with_reservation k r m) { in_hand = put_who m.in_hand (who s) (Some (record s { steps = reserve_done ∷ s.steps; snapshot = None; kept = kept })) })) (sym (kept_still m s verbs.Reserve (Some k) words.Ok (λ copy. subst IsCopyAsk at_open.asks.asks copy))) reserved_holds;
         nearer = λ none. reserved_nearer;
       })
       | inr memory ↦ subst (Goes m s (drivers.Open at_making)) (sym (IsServed-told m s r (requests.Reserve k) t (drivers.Open at_making) replies.NoMemory served is memory.0)) (record {
-        row = ((ask.name, ask.attrs, at_open.asks, (up_there, by, in_time_is before, is_target, memory.1, refl)), refl);
+        row = (inl (ask.name, ask.attrs, at_open.asks, (up_there, by, in_time_is before, is_target, memory.1, refl)), refl);
         holds = refused_holds;
         nearer = λ none. refused_nearer;
       })

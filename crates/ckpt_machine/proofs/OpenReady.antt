@@ -1,5 +1,5 @@
 -- What the code relies on of an open in hand: what is due of it can be served, or done by the record; and its client has room for the handle.
-use Rattle.std.proofs.Common.{◌≡◌, ℕ, zero, suc, ◌+◌, ◌<◌, ◌≤◌, length, Option, Some, None, Bool, true, false, cond, not, ◌&&◌, ◌==◌, nat_le, nat_lt, refl, sym, ap, subst, ◌∙◌, arith}
+use Rattle.std.proofs.Common.{◌≡◌, inl, ℕ, zero, suc, ◌+◌, ◌<◌, ◌≤◌, length, Option, Some, None, Bool, true, false, cond, not, ◌&&◌, ◌==◌, nat_le, nat_lt, refl, sym, ap, subst, ◌∙◌, arith}
 use Rattle.std.specs.Prelude.{is_some, IsSome, IsSomeAnd, IfSome, slice_index}
 use Rattle.std.proofs.lemmas.Bool.{leb-false, lt-ltb, ltb-false, or_parts}
 use Rattle.ckpt_types.specs.declared.ais_error.AisError.TheVariants.{Exist, NoResources}
@@ -24,7 +24,7 @@ use Rattle.cluster_record.specs.declared.clients.LiveClient.{LiveClient}
 use Rattle.cluster_record.specs.declared.entries.Entry.{Entry}
 use Rattle.cluster_record.specs.Calls.{IsClient, client_of, number_of}
 use Rattle.cluster_record.specs.DueOpen.{OpenState, create_next, entry_by, entry_next, on_named, on_free_name, accepts, reserve_or_finish, targets_by, targets_of, on_making, by_making, making_ckpt}
-use Rattle.cluster_record.specs.Placement.{targets}
+use Rattle.cluster_record.specs.Placement.{is_collocated, targets}
 use Rattle.ckpt_types.specs.Asks.{asked}
 use Rattle.cluster_record.specs.Makings.{IsMakingOf, makings_of}
 use Rattle.cluster_record.specs.Places.{find_key}
@@ -39,13 +39,14 @@ use Rattle.ckpt_machine.specs.Driving.{driver_next}
 use Rattle.ckpt_machine.specs.Facts.{IsServable, IsReservable, IsFinishable, IsAddable, FitsOpen, HasLiveMaker, IsEventReady}
 use Rattle.ckpt_machine.specs.Entries.{IsMakingEntry}
 use Rattle.ckpt_machine.specs.InHand.{AreGoodAttributes, attributes_asked, is_enter, IsMakingIn, IsOpenIn}
-use Rattle.ckpt_machine.specs.Invariant.{IsGoodIn, IsGoodClient, IsMaker, InvariantIn}
+use Rattle.ckpt_machine.specs.Invariant.{IsGoodIn, IsGoodClient, IsMaker, IsReservedFor, InvariantIn}
 use Rattle.ckpt_machine.specs.Machine.{Machine, CallState, who}
 use Rattle.ckpt_machine.specs.Due.{due, driver_of, rooms_of}
 use Rattle.ckpt_machine.specs.Shape.{Shape}
 use Rattle.ckpt_machine.proofs.Deadlines.{in_time-either}
 use Rattle.ckpt_machine.proofs.OptionLemmas.{IsSomeAnd-from}
 use Rattle.ckpt_machine.proofs.EndedTables.{client_by_number}
+use Rattle.ckpt_machine.proofs.Lacking.{collocated_unreserved}
 use Rattle.ckpt_machine.proofs.NodeLists.{first_lacking-is, first_lacking-None, not-lacked, lacked-has, index-within}
 use Rattle.ckpt_machine.proofs.Targets.{targets-length, target-up}
 use Rattle.ckpt_machine.proofs.OwnMaking.{open_at, making_at, making_entry}
@@ -126,24 +127,24 @@ module _ (m : Machine) (shapes : ℕ → Shape) (inv : InvariantIn shapes m) (s 
 
   -- its client is live
   own_live : is_live_client (client_of s.call) m.cluster ≡ true
-  own_live = let hand = inv.hands (who s) s held in client_live m.cluster s.call hand.client (hand.live (ap is_enter is))
+  own_live = client_live m.cluster s.call at_open.caller ((inv.hands (who s) s held).live (ap is_enter is))
 
   -- a replica of one that is made can be added: nothing is reserved for it
   addable : (e : Entry) → named o.ask.name m.cluster.entries ≡ Some e → e.making ≡ None → IsAddable m o.ask.client e
   addable e found made = record {
     nodes = (subst (IsGoodIn m e.identity (shapes e.identity) e) made (inv.entries e.identity e there)).nodes;
     up = home_is_up m shapes inv o.ask.client (subst (λ (c : ℕ). is_live_client c m.cluster ≡ true) (sym at_open.client) own_live);
-    unreserved = by_reserved (m.reserved e.identity (home_of o.ask.client m.cluster)) refl;
+    unreserved = λ collocated. by_reserved collocated (m.reserved e.identity (home_of o.ask.client m.cluster)) refl;
   }
     where
       there : entry_of e.identity m.cluster.entries ≡ Some e
       there = entry_of-find _ m.cluster.entries e inv.rises found
 
-      by_reserved : (w : Option ℕ) → m.reserved e.identity (home_of o.ask.client m.cluster) ≡ w → m.reserved e.identity (home_of o.ask.client m.cluster) ≡ None
-      by_reserved None none = none
-      by_reserved (Some n) some =
-          let making : IsSome e.making = subst (λ o. IsSomeAnd o (λ (x : Entry). IsSome x.making)) there (inv.reserves e.identity (home_of o.ask.client m.cluster) n some) in
-          absurd (let w : false ≡ true = sym (ap (λ o. is_some o) made) ∙ making in cc w)
+      by_reserved : is_collocated e.attributes ≡ true → (w : Option ℕ) → m.reserved e.identity (home_of o.ask.client m.cluster) ≡ w → m.reserved e.identity (home_of o.ask.client m.cluster) ≡ None
+      by_reserved collocated None none = none
+      by_reserved collocated (Some n) some =
+          let home = home_of o.ask.client m.cluster in
+          absurd (collocated_unreserved m.cluster home n e (subst (λ o. IsSomeAnd o (IsReservedFor m.cluster home n)) there (inv.reserves e.identity home n some)) made collocated)
 
   -- the call that is making it, if one is, is live
   maker_live : (e : Entry) → named o.ask.name m.cluster.entries ≡ Some e → (maker : Option CallId) → e.making ≡ maker → IfSome maker (λ by. is_live m.cluster by ≡ true)
@@ -216,7 +217,7 @@ module _ (m : Machine) (shapes : ℕ → Shape) (inv : InvariantIn shapes m) (s 
           within,
           IsSomeAnd-from (entry_of making.ckpt m.cluster.entries) (IsReservable m.cluster r) entry.0 entry.1 (record {
             up = λ i. lt-ltb r 8 within i && not (there i);
-            making = ap is_some entry.2;
+            awaited = inl (ap is_some entry.2);
             not_complete = none_complete r;
             well_formed = entry.3.well_formed;
           }),

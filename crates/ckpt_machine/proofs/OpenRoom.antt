@@ -23,7 +23,8 @@ use Rattle.ckpt_machine.specs.Drivers.{Driver, Rooms}
 use Rattle.ckpt_machine.specs.Drivers as drivers
 use Rattle.ckpt_machine.specs.Driving.{driver_next, refusal_in}
 use Rattle.ckpt_machine.proofs.Deadlines.{in_time-either}
-use Rattle.ckpt_machine.proofs.NextOf.{OfAsked, next_of}
+use Rattle.ckpt_machine.proofs.NextOf.{OfAsked, OfCopying, next_of}
+use Rattle.ckpt_machine.proofs.OptionLemmas.{IfSome-from}
 
 -- ---- where an open gives a handle
 
@@ -118,6 +119,7 @@ place_next R room (drivers.Open o) = open_place_of R room (drivers.Open o) tt
 place_next R room (drivers.Update u) = open_place_of R room (drivers.Update u) (λ r t. tt, λ r. tt, λ r. tt, λ r. tt)
 place_next R room (drivers.Active a) = place_active room.iterations a (entry_of a.ckpt R.entries)
 place_next R room (drivers.Sync u) = open_place_of R room (drivers.Sync u) (λ r. tt, λ r. tt, λ r. tt, λ r. tt)
+place_next R room (drivers.Copy c) = open_place_of R room (drivers.Copy c) (IfSome-from c.copying (OfCopying (HasPlaceFor room.iterations) c) (λ at some. record { update = (λ r t. tt, λ r. tt, λ r. tt, λ r. tt); pulls = λ r. tt; completes = λ moment. tt }))
 
 pub iterate_room : (R : RecordState) (room : Rooms) (x : Driver) (r : ℕ) (call : CallId) (k : ℕ) (choice : Choice) → driver_next R room x ≡ Serve r (requests.Iterate call k choice) → room.iterations ≡ true
 iterate_room R room x r call k choice e = subst (HasPlaceFor room.iterations) e (place_next R room x)

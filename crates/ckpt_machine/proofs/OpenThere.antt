@@ -3,7 +3,7 @@ use Rattle.std.proofs.Common.{◌≡◌, ℕ, ◌+◌, ◌<◌, arith, length, O
 use Rattle.std.specs.Prelude.{IfSome, slice_index}
 use Rattle.std.proofs.lemmas.Bool.{eq-eqb, ltb-true, and_parts}
 use Rattle.std.proofs.lemmas.Option.{same_Some}
-use Rattle.cluster_record.specs.Calls.{client_of}
+use Rattle.cluster_record.specs.Calls.{IsClient, client_of}
 use Rattle.cluster_record.specs.Makings.{makings_of}
 use Rattle.cluster_record.proofs.MakingCounts.{makings_of-swept, makings_of-opened}
 use Rattle.ckpt_types.specs.Limits.{handles_max}
@@ -33,7 +33,7 @@ pub not_not : (b : Bool) → not b ≡ true → b ≡ false
 not_not true is = absurd (cc is)
 not_not false is = refl
 
-module _ (m : Machine) (shapes : ℕ → Shape) (inv : InvariantIn shapes m) (s : CallState) (held : m.in_hand (who s) ≡ Some s) (plain : is_plain (driver_of s) s.snapshot ≡ true) (live : is_live_client (client_of s.call) m.cluster ≡ true) (e : Entry) (there : entry_of e.identity m.cluster.entries ≡ Some e) (made : e.making ≡ None) where
+module _ (m : Machine) (shapes : ℕ → Shape) (inv : InvariantIn shapes m) (s : CallState) (held : m.in_hand (who s) ≡ Some s) (plain : is_plain (driver_of s) s.snapshot ≡ true) (client : IsClient s.call.actor) (live : is_live_client (client_of s.call) m.cluster ≡ true) (e : Entry) (there : entry_of e.identity m.cluster.entries ≡ Some e) (made : e.making ≡ None) where
   -- the client
   abbrev c : ℕ
   c = client_of s.call
@@ -83,7 +83,7 @@ module _ (m : Machine) (shapes : ℕ → Shape) (inv : InvariantIn shapes m) (s 
   -- the client may be given a handle
   may_give : IsGivable R s.call.actor e.identity
   may_give = record {
-    client = (inv.hands (who s) s held).client;
+    client = client;
     live = live;
     made = was_made;
     placed = IfSome-from (entry_of e.identity R.entries) _ (λ f found.

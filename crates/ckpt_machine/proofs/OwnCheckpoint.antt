@@ -3,7 +3,7 @@ use Rattle.cluster_record.specs.RecordState.{RecordState}
 use Rattle.cluster_record.specs.DueSync.{SyncState}
 use Rattle.cluster_record.specs.declared.calls.SyncKind.{SyncKind}
 use Rattle.cluster_record.specs.declared.calls.SyncKind.TheVariants.{Synchronize, ActiveSet}
-use Rattle.std.proofs.Common.{◌≡◌, ℕ, Option, Some, None, Bool, true, false, cond, ◌==◌, refl, sym, subst}
+use Rattle.std.proofs.Common.{◌≡◌, ℕ, Option, Some, None, Bool, true, false, cond, ◌==◌, refl, sym, ap, subst, ◌∙◌}
 use Rattle.node_msgs.specs.Requests.{ckpt_of}
 use Rattle.node_msgs.specs.Steps.{verb_of, event_verb}
 use Rattle.node_msgs.specs.declared.next.Next.{Next}
@@ -22,9 +22,10 @@ use Rattle.ckpt_types.specs.declared.identities.CallId.{CallId}
 use Rattle.ckpt_machine.specs.Drivers.{Driver, Rooms}
 use Rattle.ckpt_machine.specs.Drivers as drivers
 use Rattle.ckpt_machine.specs.Driving.{event_ckpt, driver_next}
-use Rattle.ckpt_machine.specs.InHand.{IsSyncBy, IsInPlace}
+use Rattle.ckpt_machine.specs.InHand.{IsSyncBy, IsCopyingAt, IsInPlace}
 use Rattle.ckpt_machine.specs.Shape.{Shape}
-use Rattle.ckpt_machine.proofs.NextOf.{OfAsked, NamesNone, next_of}
+use Rattle.ckpt_machine.proofs.NextOf.{OfAsked, OfCopying, NamesNone, next_of}
+use Rattle.ckpt_machine.proofs.OptionLemmas.{IfSome-at, IfSome-from}
 
 -- what is next of a driver asks so
 abbrev IsAskedOf : RecordState → Driver → Option ℕ → Next → Type 0
@@ -32,7 +33,7 @@ IsAskedOf R d own (Serve r request) = IsOnOwn (verb_of request) (Some (ckpt_of r
 IsAskedOf R d own (Event step) = IsOnOwn (event_verb step) (event_ckpt R d step) own
 IsAskedOf R d own (End o) = Unit {0}
 
--- a step of the record asks no replica, unless it sets an active
+-- a step of the record asks no replica, unless it sets an active or completes one
 no_event : (step : RecordStep) (ckpt own : Option ℕ) → NamesNone step → IsOnOwn (event_verb step) ckpt own
 no_event events.Enter ckpt own none = tt
 no_event events.Leave ckpt own none = tt
@@ -45,7 +46,7 @@ no_event events.Unlink ckpt own none = tt
 no_event events.Retain ckpt own none = tt
 no_event (events.Hold r) ckpt own none = absurd none
 no_event (events.Activate r) ckpt own none = absurd none
-no_event (events.Complete k r t) ckpt own none = tt
+no_event (events.Complete k r t) ckpt own none = absurd none
 
 -- so does the label of it
 pub own_told : (m : Machine) (s : CallState) (next : Next) (t : Told) → IsAskedOf m.cluster (driver_of s) s.kept.ckpt next → IsDone m s next t → IsOnOwn t.verb t.ckpt s.kept.ckpt
@@ -76,11 +77,19 @@ sync_kept : (m : Machine) (s : CallState) (u : SyncState) (kind : SyncKind) → 
 sync_kept m s u (Synchronize deadline) at = at.kept
 sync_kept m s u (ActiveSet local) at = at.kept
 
--- an update, a call to the active and what brings its sections to others are of the checkpoint that their call keeps
+-- an update, a call to the active, what brings its sections to others and a copying that is at a checkpoint are of the one that their call keeps
 asks_own : (m : Machine) (shapes : ℕ → Shape) (s : CallState) (d : Driver) → IsInPlace m shapes s d → OfAsked (IsAskedOf m.cluster d s.kept.ckpt) d
 asks_own m shapes s (drivers.Update u) at = (λ r t. sym at.kept, λ r. sym at.kept, λ r. sym at.kept, λ r. sym at.kept)
 asks_own m shapes s (drivers.Active a) at = λ r. subst (λ own. IsAskedOf m.cluster (drivers.Active a) own (Serve r (active_request a))) (sym at.kept) (kind_asks m.cluster (drivers.Active a) a.call a.ckpt r a.kind a.marks)
 asks_own m shapes s (drivers.Sync u) at = let kept = sync_kept m s u u.kind at in (λ r. sym kept, λ r. sym kept, λ r. sym kept, λ r. sym kept)
+asks_own m shapes s (drivers.Copy c) at = IfSome-from c.copying (OfCopying (IsAskedOf m.cluster (drivers.Copy c) s.kept.ckpt) c) (λ here some.
+    let there : IsCopyingAt m shapes s c here = IfSome-at c.copying (IsCopyingAt m shapes s c) at.at here some in
+    let staged : Some c.staging.ckpt ≡ s.kept.ckpt = ap Some there.ckpt ∙ sym there.kept in
+    record {
+      update = (λ r t. staged, λ r. staged, λ r. staged, λ r. staged);
+      pulls = λ r. sym there.kept;
+      completes = λ moment. sym there.kept;
+    })
 asks_own m shapes s (drivers.Once x) at = tt
 asks_own m shapes s (drivers.Open o) at = tt
 

@@ -27,13 +27,13 @@ use Rattle.ckpt_machine.proofs.Actors.{same_call-refl, same_call-true}
 use Rattle.ckpt_machine.specs.Whose.{same_who}
 use Rattle.ckpt_machine.proofs.Whose.{one_state, same_state, apart_states}
 use Rattle.ckpt_machine.proofs.OptionLemmas.{IsSomeAnd-at, IsSomeAnd-from}
+use Rattle.ckpt_machine.proofs.UpdateIn.{open_apart}
 
 module _ (m : Machine) (s : CallState) (o : OpenState) (held : m.in_hand (who s) ≡ Some s) (is : driver_of s ≡ drivers.Open o) where
-  -- who owns a slot is another call, since an update is no open
+  -- who owns a slot is another call, since an open does no update
   pub owner_apart : (j : ℕ) (sh : Shape) (d : CallId) (own : IsOwner m j sh d) → same_who (who own.state) (who s) ≡ false
   owner_apart j sh d own = apart_states m.in_hand own.state s own.in_hand held (λ state.
-      let apart : drivers.Update own.driver ≡ drivers.Open o = sym own.driver_is ∙ ap driver_of state ∙ is in
-      cc apart)
+      open_apart (driver_of own.state) own.driver o own.driver_is (ap driver_of state ∙ is))
 
   -- so is whose marks stand, since a weak write is no open
   pub marker_apart : (j : ℕ) (marks : Marked) (own : IsMarker m j marks) → same_who (who own.state) (who s) ≡ false
@@ -123,6 +123,7 @@ module _ (m : Machine) (shapes : ℕ → Shape) (inv : InvariantIn shapes m) (s 
   making_found (drivers.Update u) k at is = absurd (cc is)
   making_found (drivers.Active a) k at is = absurd (cc is)
   making_found (drivers.Sync u) k at is = absurd (cc is)
+  making_found (drivers.Copy c) k at is = absurd (cc is)
 
   -- what a call is making by the record is what it is making by its own steps
   pub making_is : making_of s.call m.cluster ≡ making_in (driver_of s)

@@ -9,10 +9,10 @@ use Rattle.cluster_record.specs.declared.entries.Entry.{Entry}
 use Rattle.cluster_record.specs.RecordState.{entry_of}
 use Rattle.ckpt_machine.proofs.Lives.{held_not_dead}
 use Rattle.ckpt_machine.specs.Dead.{IsDead}
-use Rattle.ckpt_machine.specs.Invariant.{IsMaker, IsGoodIn, Invariant}
+use Rattle.ckpt_machine.specs.Invariant.{IsMaker, IsGoodIn, IsReservedFor, Invariant}
 use Rattle.ckpt_machine.specs.Laws.{OfEachRun}
 use Rattle.ckpt_machine.specs.Machine.{Machine, who}
-use Rattle.ckpt_machine.specs.Owners.{IsCallInHand, HasBegunIn, WasAbandoned, OwnersInHand, OwnersInHandThroughout}
+use Rattle.ckpt_machine.specs.Owners.{IsCallInHand, HasBegunIn, WasAbandoned, IsReservedLate, OwnersInHand, OwnersInHandThroughout}
 use Rattle.ckpt_machine.specs.Runs.{last, IsRun}
 use Rattle.ckpt_machine.specs.Shape.{IsMarker, IsHolder}
 use Rattle.ckpt_machine.proofs.EndedSlots.{IsThrough, slots_begun, through_then}
@@ -53,10 +53,11 @@ module _ (log : List Label) (run : IsRun log) (inv : Invariant (last log)) (hist
       by_making None good = holder_held k e.active call (good.held call held).holder
       by_making (Some maker) good = absurd (let free = good.0.free in let w : None ≡ Some call = sym free ∙ held in cc w)
 
-  reserves : (k r n : ℕ) → m.reserved k r ≡ Some n → IsSomeAnd (entry_of k m.cluster.entries) (λ e. IsSomeAnd e.making (IsCallInHand m))
+  -- what is reserved is for a call that makes the checkpoint, or for a node that lacks it
+  reserves : (k r n : ℕ) → m.reserved k r ≡ Some n → IsSomeAnd (entry_of k m.cluster.entries) (λ e. IsSomeAnd e.making (IsCallInHand m) ⊎ IsReservedLate m.cluster r n e)
   reserves k r n is =
-      let (e, found, making) = IsSomeAnd-at (entry_of k m.cluster.entries) (λ e. IsSome e.making) (inv.holds.reserves k r n is) in
-      IsSomeAnd-from (entry_of k m.cluster.entries) (λ e. IsSomeAnd e.making (IsCallInHand m)) e found (by_making e found e.making refl making)
+      let (e, found, for) = IsSomeAnd-at (entry_of k m.cluster.entries) (IsReservedFor m.cluster r n) (inv.holds.reserves k r n is) in
+      IsSomeAnd-from (entry_of k m.cluster.entries) (λ e. IsSomeAnd e.making (IsCallInHand m) ⊎ IsReservedLate m.cluster r n e) e found (elim for [ inl making ↦ inl (by_making e found e.making refl making) | inr late ↦ inr late ])
     where
       by_making : (e : Entry) → entry_of k m.cluster.entries ≡ Some e → (o : Option CallId) → e.making ≡ o → IsSome o → IsSomeAnd o (IsCallInHand m)
       by_making e found None making none = absurd (cc none)

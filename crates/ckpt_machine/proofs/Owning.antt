@@ -10,9 +10,9 @@ use Rattle.cluster_record.specs.declared.entries.Entry.{Entry}
 use Rattle.cluster_record.specs.DueUpdate.{UpdateState}
 use Rattle.cluster_record.specs.RecordState.{entry_of, first_complete, is_live}
 use Rattle.cluster_record.specs.StepDone.{has, lacks}
-use Rattle.ckpt_machine.specs.Dead.{IsDead, is_enter}
-use Rattle.ckpt_machine.specs.Drivers as drivers
-use Rattle.ckpt_machine.specs.InHand.{IsInPlace, IsUpdateIn}
+use Rattle.ckpt_machine.specs.Dead.{IsDead}
+use Rattle.ckpt_machine.specs.Drivers.{update_in}
+use Rattle.ckpt_machine.specs.InHand.{IsUpdateIn}
 use Rattle.ckpt_machine.specs.Invariant.{InvariantIn, IsGoodIn}
 use Rattle.ckpt_machine.specs.Machine.{Machine, ReplicaState, CallState, who}
 use Rattle.cluster_record.specs.Placement.{is_all}
@@ -21,6 +21,7 @@ use Rattle.ckpt_machine.specs.Due.{driver_of}
 use Rattle.ckpt_machine.proofs.Actors.{same_call-true, same_call-refl, same_call-false}
 use Rattle.ckpt_machine.proofs.OptionLemmas.{IsSomeAnd-at, IsSomeAnd-from}
 use Rattle.ckpt_machine.proofs.NodeLists.{not-lacked, trichotomy}
+use Rattle.ckpt_machine.proofs.UpdateIn.{no_enter}
 use Rattle.ckpt_machine.proofs.Whose.{one_state}
 
 -- ---- calls
@@ -37,14 +38,10 @@ is_owner-here c o is = ap (is_owner c) is ∙ same_call-refl c
 pub is_owner-not : (c d : CallId) → d ≢ c → is_owner c (Some d) ≡ false
 is_owner-not c d other = same_call-false d c other
 
-module _ (m : Machine) (shapes : ℕ → Shape) (inv : InvariantIn shapes m) (s : CallState) (u : UpdateState) (held : m.in_hand (who s) ≡ Some s) (is : driver_of s ≡ drivers.Update u) where
-  -- where its steps have led it
-  pub at : IsUpdateIn m shapes s u
-  at = subst (IsInPlace m shapes s) is (inv.hands (who s) s held).here
-
+module _ (m : Machine) (shapes : ℕ → Shape) (inv : InvariantIn shapes m) (s : CallState) (u : UpdateState) (held : m.in_hand (who s) ≡ Some s) (is : update_in (driver_of s) ≡ Some u) (at : IsUpdateIn m shapes s u) where
   -- it is live
   pub live_own : is_live m.cluster s.call ≡ true
-  live_own = (inv.hands (who s) s held).live (ap is_enter is)
+  live_own = (inv.hands (who s) s held).live (no_enter (driver_of s) u is)
 
   -- its checkpoint is made, where it is there
   pub made : (e : Entry) → entry_of u.ckpt m.cluster.entries ≡ Some e → e.making ≡ None
@@ -109,8 +106,7 @@ module _ (m : Machine) (shapes : ℕ → Shape) (inv : InvariantIn shapes m) (s 
     own_phase own =
         let names : who own.state ≡ who s = inv.calls.one_name (who own.state) (who s) own.state s own.in_hand held own.call_is in
         let state : own.state ≡ s = one_state m.in_hand (who own.state) (who s) own.state s own.in_hand held names in
-        let drivers_same : drivers.Update own.driver ≡ drivers.Update u = sym own.driver_is ∙ ap driver_of state ∙ is in
-        let driver : own.driver ≡ u = cc drivers_same in
+        let driver : own.driver ≡ u = same_Some own.driver u (sym own.driver_is ∙ ap (λ y. update_in (driver_of y)) state ∙ is) in
         subst (λ v. PhaseFits m z s v v.phase) driver (subst (λ y. PhaseFits m z y own.driver own.driver.phase) state own.phase)
 
     -- one that owns a slot is no dead call
@@ -148,4 +144,4 @@ module _ (m : Machine) (shapes : ℕ → Shape) (inv : InvariantIn shapes m) (s 
       ]
         where
           live_apart : d ≡ c → ⊥
-          live_apart same = live_not_dead c d (ap (is_live m.cluster) (sym own.call_is) ∙ (inv.hands (who own.state) own.state own.in_hand).live (ap is_enter own.driver_is)) dead same
+          live_apart same = live_not_dead c d (ap (is_live m.cluster) (sym own.call_is) ∙ (inv.hands (who own.state) own.state own.in_hand).live (no_enter (driver_of own.state) own.driver own.driver_is)) dead same

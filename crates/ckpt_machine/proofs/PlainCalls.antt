@@ -14,16 +14,18 @@ use Rattle.client_handles.specs.declared.handle_view.HandleView.{HandleView}
 use Rattle.cluster_record.specs.declared.calls.SyncKind.{SyncKind}
 use Rattle.cluster_record.specs.declared.calls.SyncKind.TheVariants.{Synchronize, ActiveSet}
 use Rattle.cluster_record.specs.declared.calls.Making.{Making}
+use Rattle.cluster_record.specs.declared.copying.Copying.{Copying}
 use Rattle.cluster_record.specs.declared.entries.Entry.{Entry}
+use Rattle.cluster_record.specs.DueUpdate.{UpdateState}
 use Rattle.cluster_record.specs.DueOpen.{making_ckpt}
-use Rattle.cluster_record.specs.Calls.{number_of, client_of}
+use Rattle.cluster_record.specs.Calls.{IsClient, number_of, client_of}
 use Rattle.cluster_record.specs.Identities.{IdentitiesRise, AllUpTo}
 use Rattle.cluster_record.specs.Makings.{making_of}
 use Rattle.cluster_record.specs.Placement.{is_collocated}
 use Rattle.cluster_record.specs.Places.{find_key, change_key}
 use Rattle.cluster_record.specs.RecordState.{RecordState, entry_of, identity_of, client_key, is_live, no_nodes, stays, swept}
 use Rattle.cluster_record.proofs.IdentityLaws.{KeepsIdentity, IdentitiesRise-filter, AllUpTo-filter, IdentitiesRise-change_key, AllUpTo-change_key}
-use Rattle.ckpt_machine.specs.Drivers.{Driver}
+use Rattle.ckpt_machine.specs.Drivers.{Driver, staging_at, update_in}
 use Rattle.ckpt_machine.specs.Drivers as drivers
 use Rattle.ckpt_machine.specs.Driving.{making_in}
 use Rattle.ckpt_machine.specs.Machine.{Machine, Snapshot, CallState, who}
@@ -55,13 +57,28 @@ abbrev pub is_plain_sync : SyncKind → Option Snapshot → Bool
 is_plain_sync (Synchronize deadline) copy = true
 is_plain_sync (ActiveSet local) copy = not (is_some copy)
 
--- neither an update on all replicas, nor a weak write that has marks, nor an open that is making a checkpoint, nor the setting of an active that has something in its hand
+-- neither an update on all replicas, nor a weak write that has marks, nor an open that is making a checkpoint, nor the setting of an active that has
+-- something in its hand, nor a copying that is at a checkpoint
 abbrev pub is_plain : Driver → Option Snapshot → Bool
 is_plain (drivers.Once x) copy = true
 is_plain (drivers.Open o) copy = not (is_some o.making)
 is_plain (drivers.Update u) copy = false
 is_plain (drivers.Active a) copy = not (is_some a.marks)
 is_plain (drivers.Sync u) copy = is_plain_sync u.kind copy
+is_plain (drivers.Copy c) copy = not (is_some c.copying)
+
+-- what does an update is not plain
+pub does_not_plain : (d : Driver) (u : UpdateState) (copy : Option Snapshot) → update_in d ≡ Some u → is_plain d copy ≡ false
+does_not_plain (drivers.Update v) u copy is = refl
+does_not_plain (drivers.Copy c) u copy is = by_copying c.copying is
+  where
+    by_copying : (o : Option Copying) → staging_at o c.staging ≡ Some u → not (is_some o) ≡ false
+    by_copying None none = absurd (cc none)
+    by_copying (Some at) some = refl
+does_not_plain (drivers.Once x) u copy is = absurd (cc is)
+does_not_plain (drivers.Open o) u copy is = absurd (cc is)
+does_not_plain (drivers.Active a) u copy is = absurd (cc is)
+does_not_plain (drivers.Sync v) u copy is = absurd (cc is)
 
 -- one that is none of these makes nothing
 makes_none : (d : Driver) (copy : Option Snapshot) → is_plain d copy ≡ true → making_in d ≡ None
@@ -73,6 +90,7 @@ makes_none (drivers.Open o) copy plain = by_making o.making plain where
 makes_none (drivers.Update u) copy plain = refl
 makes_none (drivers.Active a) copy plain = refl
 makes_none (drivers.Sync u) copy plain = refl
+makes_none (drivers.Copy c) copy plain = refl
 
 -- the call is in hand no more
 abbrev pub ending : CallState → Machine → Machine
@@ -142,7 +160,7 @@ module _ (m : Machine) (shapes : ℕ → Shape) (inv : InvariantIn shapes m) (s 
           absurd (let w : true ≡ false = sym plain ∙ ap (λ (x : CallState). is_plain (driver_of x) x.snapshot) state ∙ not_plain in cc w)
 
   pub owner_apart : (k : ℕ) (sh : Shape) (d : CallId) (own : IsOwner m k sh d) → same_who (who own.state) (who s) ≡ false
-  owner_apart k sh d own = apart_from (who own.state) own.state own.in_hand (ap (λ d. is_plain d own.state.snapshot) own.driver_is)
+  owner_apart k sh d own = apart_from (who own.state) own.state own.in_hand (does_not_plain (driver_of own.state) own.driver own.state.snapshot own.driver_is)
 
   pub marker_apart : (k : ℕ) (marks : Marked) (own : IsMarker m k marks) → same_who (who own.state) (who s) ≡ false
   marker_apart k marks own = apart_from (who own.state) own.state own.in_hand (ap (λ d. is_plain d own.state.snapshot) own.driver_is ∙ ap (λ w. not (is_some w)) own.made_is)
@@ -164,9 +182,10 @@ module _ (m : Machine) (shapes : ℕ → Shape) (inv : InvariantIn shapes m) (s 
     none_live = inv.none_live;
     rises = inv.rises;
     up_to = inv.up_to;
+    few = inv.few;
     swept = inv.swept;
     entries = λ k e found. IsGoodIn-apart m shapes m.next m.pending (put_who m.in_hand (who s) o) lives
-        (λ k sh d own. put_who-other m.in_hand (who s) o (who own.state) (owner_apart k sh d own)) (λ k sh marks stand own. put_who-other m.in_hand (who s) o (who own.state) (marker_apart k marks own)) (λ k active d own. put_who-other m.in_hand (who s) o (who own.state) (holder_apart k active d own)) (λ k d own. put_who-other m.in_hand (who s) o (who own.state) (maker_apart k d own))
+        (λ k sh r d owns own. put_who-other m.in_hand (who s) o (who own.state) (owner_apart k sh d own)) (λ k sh marks stand own. put_who-other m.in_hand (who s) o (who own.state) (marker_apart k marks own)) (λ k active d own. put_who-other m.in_hand (who s) o (who own.state) (holder_apart k active d own)) (λ k d own. put_who-other m.in_hand (who s) o (who own.state) (maker_apart k d own))
         k (shapes k) e e.making (inv.entries k e found);
     replicas = inv.replicas;
     reserves = inv.reserves;
@@ -184,7 +203,7 @@ module _ (m : Machine) (shapes : ℕ → Shape) (inv : InvariantIn shapes m) (s 
       hands_then : (a : Who) (z : CallState) → put_who m.in_hand (who s) o a ≡ Some z → IsInHand (record m { in_hand = put_who m.in_hand (who s) o }) shapes a z
       hands_then a z left = elim (put_who-cases m.in_hand (who s) o a z left) [
         | inl here ↦ subst (λ b. IsInHand (record m { in_hand = put_who m.in_hand (who s) o }) shapes b z) (sym here.0) (own z here.1)
-        | inr other ↦ (let was = inv.hands a z other.1 in record { whose = was.whose; client = was.client; number = was.number; built = was.built; driven = was.driven; live = was.live; home = was.home; here = IsIn-apart m shapes m.next m.pending (put_who m.in_hand (who s) o) dead z (driver_of z) was.here })
+        | inr other ↦ (let was = inv.hands a z other.1 in record { whose = was.whose; asker = was.asker; number = was.number; built = was.built; driven = was.driven; live = was.live; home = was.home; here = IsIn-apart m shapes m.next m.pending (put_who m.in_hand (who s) o) dead z was.asker (driver_of z) was.here })
       ]
 
       lives : LivesOn m (record m { in_hand = put_who m.in_hand (who s) o })
@@ -203,7 +222,7 @@ module _ (m : Machine) (shapes : ℕ → Shape) (inv : InvariantIn shapes m) (s 
   module _ (R : RecordState) (rises : IdentitiesRise R.entries) (up_to : AllUpTo m.cluster.last_identity R.entries) (up : R.up ≡ m.cluster.up) (incarnations : R.last_incarnations ≡ m.cluster.last_incarnations) (first_calls : R.first_calls ≡ m.cluster.first_calls) (last : R.last_identity ≡ m.cluster.last_identity) (later : ComesOf (IsLaterEntry m.cluster.up) m.cluster.entries R.entries)
       (none_live : m.cluster.up ≡ no_nodes → R.clients ≡ []) (clients : (c : ℕ) → IfSome (find_key client_key c R.clients) (IsGoodClient m.next R c)) (dead : (d : CallId) → IsDead m d → is_live R d ≡ false)
       (live : (a : Who) (z : CallState) → same_who a (who s) ≡ false → m.in_hand a ≡ Some z → is_live m.cluster z.call ≡ true → is_live R z.call ≡ true)
-      (lives : (a : Who) (z : CallState) → same_who a (who s) ≡ false → m.in_hand a ≡ Some z → find_key client_key (client_of z.call) R.clients ≡ find_key client_key (client_of z.call) m.cluster.clients)
+      (lives : (a : Who) (z : CallState) → same_who a (who s) ≡ false → m.in_hand a ≡ Some z → IsClient z.call.actor → find_key client_key (client_of z.call) R.clients ≡ find_key client_key (client_of z.call) m.cluster.clients)
       (makes : (a : Who) (z : CallState) (k : ℕ) (e : Entry) → same_who a (who s) ≡ false → m.in_hand a ≡ Some z → entry_of k m.cluster.entries ≡ Some e → e.making ≡ Some z.call → IsSome (entry_of k R.entries))
       (homes : (a : ActorName) (h : HandleView) → Contains (m.tables a).handles h → find_key client_key (number_of a) R.clients ≡ find_key client_key (number_of a) m.cluster.clients) where
     swept_later : IsLaterRecord m (swept R) (put_who m.in_hand (who s) None)
@@ -238,4 +257,4 @@ module _ (m : Machine) (shapes : ℕ → Shape) (inv : InvariantIn shapes m) (s 
   changed_keeps k f keeps later = swept_keeps (record m.cluster { entries = change_key identity_of k f m.cluster.entries })
       (IdentitiesRise-change_key f keeps k m.cluster.entries inv.rises) (AllUpTo-change_key f keeps m.cluster.last_identity k m.cluster.entries inv.up_to) refl refl refl refl
       (ComesOf-change_found (IsLaterEntry m.cluster.up) (IsLaterEntry-refl m.cluster.up) f keeps k m.cluster.entries later) inv.none_live inv.clients (λ d dead. dead.gone)
-      (λ a z other at live. live) (λ a z other at. refl) (λ a z j e other at was by. there_still f keeps k j m.cluster.entries e was) (λ a h among. refl)
+      (λ a z other at live. live) (λ a z other at client. refl) (λ a z j e other at was by. there_still f keeps k j m.cluster.entries e was) (λ a h among. refl)

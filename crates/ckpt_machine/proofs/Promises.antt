@@ -7,6 +7,7 @@ use Rattle.ckpt_machine.proofs.BrokenCorrupt.{only_broken_corrupt}
 use Rattle.ckpt_machine.proofs.Callbacks.{callbacks_are_told}
 use Rattle.ckpt_machine.proofs.CallsEnd.{calls_end}
 use Rattle.ckpt_machine.proofs.Causes.{ends_allowed}
+use Rattle.ckpt_machine.proofs.CopiesTold.{copies_tell}
 use Rattle.ckpt_machine.proofs.EffectsTell.{effects_tell}
 use Rattle.ckpt_machine.proofs.InOrder.{effects_keep_order}
 use Rattle.ckpt_machine.proofs.OnlyAsked.{only_asked}
@@ -26,6 +27,7 @@ promises_kept log run = record {
   synchronized = synchronisations_tell log run;
   asked = only_asked log run;
   owners = owners_in_hand log run;
+  copies = copies_tell log run;
   actives = actives_are_set log run;
   ends = calls_end log run;
   causes = ends_allowed log run;

@@ -24,7 +24,8 @@ use Rattle.ckpt_machine.proofs.OptionLemmas.{IsSomeAnd-at, IsSomeAnd-from}
 use Rattle.ckpt_machine.specs.InHand.{IsInHand}
 use Rattle.ckpt_types.specs.declared.identities.Who.{Who}
 use Rattle.ckpt_machine.proofs.Lives.{LivesOn, lives_on-fewer, enters-fewer, dead_on}
-use Rattle.ckpt_machine.proofs.OtherCalls.{LooksAlike, LooksLater-refl, IsHolder-alike, making_still, IsInHand-alike, owned_alike, owner_before, IsMarker-alike, IsMaker-alike}
+use Rattle.ckpt_machine.proofs.LaterIncarnations.{incarnations_stay}
+use Rattle.ckpt_machine.proofs.OtherCalls.{LooksAlike, LooksLater-refl, LiesUnder-refl, IsHolder-alike, making_still, IsInHand-alike, owned_alike, owner_before, IsMarker-alike, IsMaker-alike}
 use Rattle.ckpt_types.proofs.Lists.{slice_index-replicate}
 
 -- ---- what they are about
@@ -101,6 +102,7 @@ module _ (m : Machine) (shapes : ℕ → Shape) (inv : InvariantIn shapes m) (f 
   -- a checkpoint is as it was
   IsGoodIn-then : LivesOn m then_machine → (j : ℕ) (e : Entry) → entry_of j m.cluster.entries ≡ Some e → (maker : Option CallId) → IsGoodIn m j (shapes j) e maker → IsGoodIn then_machine j (shapes j) e maker
   IsGoodIn-then lives j e found None good = record {
+    well_formed = good.well_formed;
     nodes = good.nodes;
     some = good.some;
     up = good.up;
@@ -127,14 +129,18 @@ module _ (m : Machine) (shapes : ℕ → Shape) (inv : InvariantIn shapes m) (f 
   looks_then : (z : CallState) → LooksAlike m then_machine shapes shapes z
   looks_then z = record {
     up = λ r up. up;
-    lives = refl;
+    incarnations = incarnations_stay m.cluster m.cluster refl refl;
+    lives = λ client. refl;
+    node = λ r own. refl;
     home = refl;
     handle = λ there. there;
     making = λ o at. making_still m then_machine z o (λ w at. record { there = at.there; declares = at.declares; nodes = at.nodes; reserved = at.reserved; only = at.only; within = at.within; no_later = at.no_later }) at;
     made = λ k was. was;
-    later = λ k was e found. (e, found, LooksLater-refl z (shapes k).marks e);
+    later = λ k was e found. (e, found, LooksLater-refl m.cluster.up z (shapes k) e);
+    reserved = λ k r was own f found free. refl;
     owners = λ k was r. refl;
     marks = λ k was. refl;
+    under = λ k was e found all. LiesUnder-refl (shapes k);
     dead = λ k f was found. dead_on m then_machine (λ d. refl) refl (enters-fewer m then_machine (λ a z held. held));
     done = λ k was done. done;
   }
@@ -148,6 +154,7 @@ module _ (m : Machine) (shapes : ℕ → Shape) (inv : InvariantIn shapes m) (f 
     none_live = inv.none_live;
     rises = inv.rises;
     up_to = inv.up_to;
+    few = inv.few;
     swept = inv.swept;
     entries = λ j e found. IsGoodIn-then lives j e found e.making (inv.entries j e found);
     replicas = complete;

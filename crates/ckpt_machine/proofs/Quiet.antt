@@ -3,7 +3,7 @@ use Rattle.std.proofs.Common.{◌≡◌, ℕ, Some, None, true, false, sym, ap, 
 use Rattle.ckpt_types.specs.declared.identities.Who.{Who}
 use Rattle.run_labels.specs.declared.labels.Label.{Label}
 use Rattle.run_labels.specs.declared.labels.Label.TheVariants as labels
-use Rattle.cluster_record.specs.Calls.{client_of}
+use Rattle.cluster_record.specs.Calls.{IsClient, client_of}
 use Rattle.cluster_record.specs.Places.{find_key}
 use Rattle.cluster_record.specs.RecordState.{client_key}
 use Rattle.ckpt_machine.specs.Failing.{failed_at}
@@ -21,18 +21,18 @@ IsQuiet (labels.Began call op end details) = ⊥
 IsQuiet (labels.Stepped call op verb k r reply end details) = ⊥
 IsQuiet l = Unit {0}
 
--- the calls in hand were in hand, of clients that are as they were, and the same numbers come next
+-- the calls in hand were in hand, those of clients of such as are as they were, and the same numbers come next
 pub record LeavesCalls (m n : Machine) : Type 0 where
   pub held : (w : Who) (s : CallState) → n.in_hand w ≡ Some s → m.in_hand w ≡ Some s
   pub next : n.next ≡ m.next
-  pub client : (w : Who) (s : CallState) → n.in_hand w ≡ Some s → find_key client_key (client_of s.call) n.cluster.clients ≡ find_key client_key (client_of s.call) m.cluster.clients
+  pub client : (w : Who) (s : CallState) → n.in_hand w ≡ Some s → IsClient s.call.actor → find_key client_key (client_of s.call) n.cluster.clients ≡ find_key client_key (client_of s.call) m.cluster.clients
 
 -- so they are where none of it changes
 leaves_same : (m n : Machine) → n.in_hand ≡ m.in_hand → n.next ≡ m.next → n.cluster.clients ≡ m.cluster.clients → LeavesCalls m n
 leaves_same m n in_hand next clients = record {
   held = λ w s is. ap (λ f. f w) (sym in_hand) ∙ is;
   next = next;
-  client = λ w s is. ap (find_key client_key (client_of s.call)) clients;
+  client = λ w s is of. ap (find_key client_key (client_of s.call)) clients;
 }
 
 -- behind the failure of a node some are left
@@ -40,9 +40,8 @@ failed_leaves : (m : Machine) → Invariant m → (r : ℕ) → LeavesCalls m (f
 failed_leaves m inv r = record {
   held = λ w s left. (left_is m inv.shapes inv.holds r w s left).0;
   next = refl;
-  client = λ w s left.
+  client = λ w s left client.
       let (held, stays) = left_is m inv.shapes inv.holds r w s left in
-      let client = (inv.holds.hands w s held).client in
       found_staying (λ k q. count_in (m.replicas k q)) r m.cluster (client_of s.call) (sym (of_node_client m.cluster r s.call.actor client) ∙ left_stays m inv.shapes inv.holds r s stays);
 }
 

@@ -82,4 +82,5 @@ record_ready m s (drivers.Once (once.Unlink name)) events.Unlink granted identit
 record_ready m s (drivers.Once (once.Retain k duration)) events.Retain granted identity few ready = ready
 record_ready m s (drivers.Sync u) (events.Hold r) granted identity few ready = tt
 record_ready m s (drivers.Sync u) (events.Activate r) granted identity few ready = tt
+record_ready m s (drivers.Copy c) (events.Complete k r moment) granted identity few ready = tt
 record_ready m s x step granted identity few ready = absurd ready

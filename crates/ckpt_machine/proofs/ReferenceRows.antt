@@ -1,11 +1,12 @@
 -- Whatever step is allowed leaves as many handles as references.
-use Rattle.std.proofs.Common.{◌≡◌, ℕ, Option, Some, None, refl, sym, ap, ◌∙◌}
+use Rattle.std.proofs.Common.{◌≡◌, ℕ, Option, Some, None, refl, sym, ap, subst, ◌∙◌}
+use Rattle.std.specs.Prelude.{slice_index}
 use Rattle.ckpt_types.specs.declared.answers.Answer.{Answer}
 use Rattle.ckpt_types.specs.declared.answers.Answer.TheVariants as answers
 use Rattle.ckpt_types.specs.declared.answers.Outcome.{Outcome}
 use Rattle.ckpt_types.specs.declared.answers.Outcome.TheVariants.{Done}
 use Rattle.ckpt_types.specs.declared.identities.ActorName.TheVariants.{Client}
-use Rattle.ckpt_types.specs.Asks.{Ask, asked}
+use Rattle.ckpt_types.specs.Asks.{Ask, MayAsk, asked}
 use Rattle.ckpt_types.specs.Asks as asks
 use Rattle.node_msgs.specs.declared.details.Details.{Details}
 use Rattle.node_msgs.specs.declared.steps.StepReply.{StepReply}
@@ -13,9 +14,12 @@ use Rattle.node_msgs.specs.declared.steps.StepReply.TheVariants as words
 use Rattle.node_msgs.specs.declared.steps.Verb.{Verb}
 use Rattle.node_msgs.specs.declared.steps.Verb.TheVariants as verbs
 use Rattle.cluster_record.specs.Calls.{IsClient, client_of}
+use Rattle.cluster_record.specs.declared.entries.Entry.{Entry}
+use Rattle.cluster_record.specs.Joining.{completed, completed_on}
 use Rattle.cluster_record.specs.RecordState.{entry_of, named, entered, home_of, made_with, opened_with, unnamed, with_hold, with_active, active_set}
 use Rattle.cluster_record.proofs.IdentityLaws.{entry_of-find}
-use Rattle.ckpt_machine.specs.After.{change_replica, changed, chosen_at, given_at, on_ok, at_some, record_step, with_closed}
+use Rattle.cluster_record.proofs.JoinLaws.{rest_stays}
+use Rattle.ckpt_machine.specs.After.{change_replica, changed, chosen_at, given_at, on_ok, at_some, record_step, staged_moment, with_closed, with_replica_copied}
 use Rattle.ckpt_machine.specs.Due.{Told, ids_asked}
 use Rattle.ckpt_machine.specs.Guards.{Row}
 use Rattle.ckpt_machine.specs.Invariant.{InvariantIn}
@@ -25,6 +29,7 @@ use Rattle.ckpt_machine.specs.OpenGuards.{IsOpenable, MayOpen}
 use Rattle.ckpt_machine.specs.Seen.{seen_at}
 use Rattle.ckpt_machine.specs.Shape.{Shape}
 use Rattle.ckpt_machine.specs.Tables.{closing, registering, started, gone_on}
+use Rattle.ckpt_machine.proofs.Askers.{IsCopyAsk, asker_client}
 use Rattle.ckpt_machine.proofs.EndedTables.{started-handles, gone_on-handles}
 use Rattle.ckpt_machine.proofs.HandleNumbers.{registering-same}
 use Rattle.ckpt_machine.proofs.HeldIdentity.{with_hold-identity, with_active-identity}
@@ -42,8 +47,9 @@ module _ (m : Machine) (shapes : ℕ → Shape) (inv : InvariantIn shapes m) (ha
   here : Leaves m
   here = as_it_was m shapes inv has Gone gone
 
-  client : IsClient s.call.actor
-  client = (inv.hands (who s) s held).client
+  -- what is asked for by no node is asked for by a client
+  client : (ask : Ask) → asked s.op ≡ ask → (IsCopyAsk ask → ⊥) → IsClient s.call.actor
+  client ask is other = asker_client s.call.actor ask (subst (MayAsk s.call.actor) is (inv.hands (who s) s held).asker) other
 
   abbrev c : ℕ
   c = client_of s.call
@@ -67,6 +73,12 @@ module _ (m : Machine) (shapes : ℕ → Shape) (inv : InvariantIn shapes m) (ha
   at_one : (j q : Option ℕ) (reply : StepReply) (change : ℕ → ℕ → ReplicaState → ReplicaState) → Leaves (on_ok reply m (at_some j m (λ k. at_some q m (λ r. change_replica m k r (m.replicas k r) (change k r)))))
   at_one j q reply change = where_ok reply _ (where_both j q _ (λ k r. at_replica m k r (m.replicas k r) (change k r) here))
 
+  -- a node is complete, and has a replica
+  completed_leaves : (k r : ℕ) → Leaves (with_replica_copied s k r (staged_moment m k) (record_step (completed k r) m))
+  completed_leaves k r =
+      let n = slice_index m.cluster.up r in
+      entry_leaves m shapes inv has Gone gone k (completed_on r n) (λ e. ap (λ (e : Entry). e.identity) (rest_stays r n e)) (λ e. alike e (completed_on r n e) (ap (λ (e : Entry). e.references) (rest_stays r n e)))
+
   module _ (end : Option Outcome) (details : Details) where
     -- the parts of the step
     abbrev told : Verb → Option ℕ → Option ℕ → StepReply → Told
@@ -76,8 +88,9 @@ module _ (m : Machine) (shapes : ℕ → Shape) (inv : InvariantIn shapes m) (ha
     finished_leaves k None row =
         let asks_to = row.0.2 in
         let (e, found, making) = IsSomeAnd-at (entry_of k m.cluster.entries) (λ e. e.making ≡ Some s.call) (making_there m.cluster inv.rises s.call k row.0.3.0) in
-        opening_leaves m shapes inv has Gone gone s client asks_to.place row.0.0 asks_to.flags asks_to.timeout row.0.1 asks_to.asks k (made_with (home_of c m.cluster) m.cluster.up c) e (λ e. refl) found
-        (made_more (home_of c m.cluster) m.cluster.up c e (within m shapes inv has Gone gone s client k e found))
+        let is_client = client (asks.Open asks_to.place row.0.0 asks_to.flags asks_to.timeout row.0.1) asks_to.asks (λ copy. copy) in
+        opening_leaves m shapes inv has Gone gone s is_client asks_to.place row.0.0 asks_to.flags asks_to.timeout row.0.1 asks_to.asks k (made_with (home_of c m.cluster) m.cluster.up c) e (λ e. refl) found
+        (made_more (home_of c m.cluster) m.cluster.up c e (within m shapes inv has Gone gone s is_client k e found))
     finished_leaves k (Some q) row = absurd row.0
 
     opened_leaves : (k : ℕ) (q : Option ℕ) → Row m s verbs.Open (told verbs.Open (Some k) q words.Ok) → Leaves (changed m s verbs.Open (Some k) q words.Ok)
@@ -86,14 +99,15 @@ module _ (m : Machine) (shapes : ℕ → Shape) (inv : InvariantIn shapes m) (ha
         let may : MayOpen m s row.0.0 row.0.1 k = row.0.3.0 in
         let (e, named_so, openable) = IsSomeAnd-at (named row.0.0 m.cluster.entries) (IsOpenable row.0.1 k) may.there in
         let found : entry_of k m.cluster.entries ≡ Some e = ap (λ j. entry_of j m.cluster.entries) (sym openable.identity) ∙ entry_of-find _ m.cluster.entries e inv.rises named_so in
-        opening_leaves m shapes inv has Gone gone s client asks_to.place row.0.0 asks_to.flags asks_to.timeout row.0.1 asks_to.asks k (opened_with (home_of c m.cluster) m.cluster.up c) e (opened_with-identity (home_of c m.cluster) m.cluster.up c) found
-        (opened_more (home_of c m.cluster) m.cluster.up c e (within m shapes inv has Gone gone s client k e found))
+        let is_client = client (asks.Open asks_to.place row.0.0 asks_to.flags asks_to.timeout row.0.1) asks_to.asks (λ copy. copy) in
+        opening_leaves m shapes inv has Gone gone s is_client asks_to.place row.0.0 asks_to.flags asks_to.timeout row.0.1 asks_to.asks k (opened_with (home_of c m.cluster) m.cluster.up c) e (opened_with-identity (home_of c m.cluster) m.cluster.up c) found
+        (opened_more (home_of c m.cluster) m.cluster.up c e (within m shapes inv has Gone gone s is_client k e found))
     opened_leaves k (Some q) row = absurd row.0
 
     closed_leaves : (k : ℕ) (q : Option ℕ) → Row m s verbs.Close (told verbs.Close (Some k) q words.Ok) → Leaves (changed m s verbs.Close (Some k) q words.Ok)
     closed_leaves k None row =
         let (e, found) = what_is (entry_of k m.cluster.entries) row.0.2.1 in
-        closing_leaves m shapes inv has Gone gone s client held row.0.0 row.0.1 k row.0.2.0 e found
+        closing_leaves m shapes inv has Gone gone s (client (asks.Close row.0.0) row.0.1 (λ copy. copy)) held row.0.0 row.0.1 k row.0.2.0 e found
     closed_leaves k (Some q) row = absurd row.0
 
     undone_then : (k : ℕ) (q : Option ℕ) → Row m s verbs.Undo (told verbs.Undo (Some k) q words.Ok) → Leaves (changed m s verbs.Undo (Some k) q words.Ok)
@@ -104,7 +118,7 @@ module _ (m : Machine) (shapes : ℕ → Shape) (inv : InvariantIn shapes m) (ha
     done_leaves : (ask : Ask) → asked s.op ≡ ask → (answer : Answer) → LookDone m s ask answer → Leaves (with_closed s m)
     done_leaves (asks.Close place) is answers.Nothing row =
         let (k, kept, none) = IsSomeAnd-at s.kept.ckpt (λ k. entry_of k m.cluster.entries ≡ None) row in
-        gone_leaves m shapes inv has Gone gone s client held place is k kept none
+        gone_leaves m shapes inv has Gone gone s (client (asks.Close place) is (λ copy. copy)) held place is k kept none
     done_leaves (asks.Close place) is answer row = absurd row
     done_leaves ask is answer row = tables_leave m shapes inv has Gone gone s.call.actor (closing (asked s.op)) (ap (λ x. (closing x (m.tables s.call.actor)).handles) is)
 
@@ -119,7 +133,8 @@ module _ (m : Machine) (shapes : ℕ → Shape) (inv : InvariantIn shapes m) (ha
     -- WHATEVER THE VERB IS
     pub changed_leaves : (verb : Verb) (j q : Option ℕ) (reply : StepReply) → Row m s verb (told verb j q reply) → Leaves (changed m s verb j q reply)
     changed_leaves verbs.Enter j q reply row = where_ok reply _ (where_some q _ (λ r. swept_as_it_was m shapes inv has Gone gone (entered c r s.call.number m.cluster) _ (λ d. put_handles m.tables s.call.actor (registering (asked s.op) (m.tables s.call.actor)) (registering-same (asked s.op) (m.tables s.call.actor)).handles (Client d)) refl))
-    changed_leaves verbs.Leave j q reply row = where_ok reply _ (leaving_leaves m shapes inv has Gone gone s client)
+    changed_leaves verbs.Leave None None reply row = where_ok reply _ (leaving_leaves m shapes inv has Gone gone s (client asks.Leave row.0.0 (λ copy. copy)))
+    changed_leaves verbs.Leave j q reply row = absurd row.0
     changed_leaves verbs.Create j q reply row = where_ok reply _ (making_leaves m shapes inv has Gone gone s.call (asked s.op))
     changed_leaves verbs.Reserve j q reply row = where_ok reply _ (where_both j q _ (λ k r. here))
     changed_leaves verbs.Finish (Some k) q words.Ok row = finished_leaves k q row
@@ -149,6 +164,7 @@ module _ (m : Machine) (shapes : ℕ → Shape) (inv : InvariantIn shapes m) (ha
     changed_leaves verbs.Next j q reply row = where_ok reply _ (where_both j q _ (λ k r. tables_leave m shapes inv has Gone gone s.call.actor (gone_on (asked s.op) (given_at (ids_asked m s) m.cluster.moment (seen_at m k r))) (gone_on-handles (asked s.op) (given_at (ids_asked m s) m.cluster.moment (seen_at m k r)) (m.tables s.call.actor))))
     changed_leaves verbs.Hold j q reply row = where_ok reply _ (where_some j _ (λ k. entry_leaves m shapes inv has Gone gone k (with_hold s.call) (with_hold-identity s.call) (held_alike s.call)))
     changed_leaves verbs.Activate j q reply row = where_ok reply _ (where_both j q _ (λ k r. at_replica (record_step (active_set k r) m) k r ((record_step (active_set k r) m).replicas k r) _ (entry_leaves m shapes inv has Gone gone k (with_active r) (with_active-identity r) (led_alike r))))
+    changed_leaves verbs.Complete j q reply row = where_ok reply _ (where_both j q _ (λ k r. completed_leaves k r))
     changed_leaves verbs.Look j q words.Done row = looked_leaves row.2
     changed_leaves verbs.Look j q words.Refused row = without_making_leaves m shapes inv has Gone gone s.call
     changed_leaves verbs.Look j q reply row = here

@@ -1,11 +1,13 @@
 -- A call that ends with a refusal has nothing after it, and leaves all else as it was.
 use Rattle.node_msgs.specs.declared.details.Details.{Details}
-use Rattle.std.proofs.Common.{◌≡◌, ◌≢◌, ◌⊎◌, ℕ, inl, inr, List, [], ◌∷◌, ◌++◌, ◌<◌, Option, Some, None, true, false, cond, not, ◌==◌, refl, sym, ap, subst, ◌∙◌, append_assoc, arith}
+use Rattle.std.proofs.Common.{◌≡◌, ◌≢◌, ◌⊎◌, ℕ, inl, inr, List, [], ◌∷◌, ◌++◌, ◌<◌, Option, Some, None, Bool, true, false, cond, not, ◌==◌, refl, sym, ap, subst, ◌∙◌, append_assoc, arith}
 use Rattle.std.specs.Prelude.{IsSomeAnd, slice_index}
+use Rattle.std.proofs.lemmas.List.{append-nil}
 use Rattle.std.proofs.lemmas.Option.{same_Some}
 use Rattle.ckpt_types.specs.declared.answers.Outcome.{Outcome}
 use Rattle.ckpt_types.specs.declared.identities.CallId.{CallId}
 use Rattle.ckpt_types.specs.declared.operation.Op.{Op}
+use Rattle.ckpt_types.specs.declared.operation.Op.TheVariants as ops
 use Rattle.ckpt_types.specs.declared.update.Update.{Update}
 use Rattle.node_msgs.specs.declared.steps.Verb.TheVariants as verbs
 use Rattle.node_msgs.specs.declared.steps.StepReply.{StepReply}
@@ -17,27 +19,31 @@ use Rattle.cluster_record.specs.RecordState.{RecordState, identity_of, entry_of,
 use Rattle.cluster_record.specs.Places.{put}
 use Rattle.std.proofs.lemmas.Bool.{eqb-true}
 use Rattle.cluster_record.specs.Makings.{making_of}
-use Rattle.cluster_record.specs.Calls.{IsClient}
 use Rattle.cluster_record.specs.DueOnce.{OneStep}
 use Rattle.node_msgs.specs.declared.steps.Verb.{Verb}
 use Rattle.ckpt_machine.specs.Driving.{making_in}
-use Rattle.ckpt_machine.specs.Drivers.{Driver}
+use Rattle.ckpt_machine.specs.Drivers.{Driver, update_in}
 use Rattle.ckpt_machine.specs.Drivers as drivers
-use Rattle.ckpt_machine.proofs.EndedTables.{live_alike}
+use Rattle.ckpt_machine.proofs.EndedTables.{live_as}
 use Rattle.ckpt_machine.proofs.Lives.{held_not_dead}
-use Rattle.ckpt_machine.specs.InHand.{IsInHand}
+use Rattle.ckpt_machine.specs.InHand.{IsCopyIn, IsInHand, IsInPlace}
 use Rattle.ckpt_machine.specs.Dead.{IsDead, is_enter}
 use Rattle.ckpt_machine.specs.Guards.{Row, Allowed}
 use Rattle.ckpt_machine.specs.OpenGuards.{IsMadeBy}
 use Rattle.ckpt_machine.specs.UpdateGuards.{CommitRow}
 use Rattle.ckpt_machine.specs.Invariant.{IsGoodIn, Invariant}
-use Rattle.ckpt_machine.specs.Machine.{Machine, ReplicaState, Snapshot, CallState, who, Staged}
-use Rattle.ckpt_machine.specs.Owned.{OwnsNothing, HasNoEffect, HasNothing}
-use Rattle.ckpt_machine.specs.Refusals.{IsRefused, IsRefusal, LeavesAll, UndoesOwn, LeavesBy, end_kept, unmade, unmade_swept, Refuses, call_told, EachRefusalLeaves}
-use Rattle.ckpt_machine.specs.Runs.{last}
+use Rattle.ckpt_machine.specs.Acknowledged.{IsUpdateWord, HasBegun}
+use Rattle.ckpt_machine.specs.Machine.{Machine, Effect, Applied, Broken, ReplicaState, Snapshot, CallState, who, Staged}
+use Rattle.ckpt_machine.specs.Owned.{OwnsNothing, HasEffect, HasNoEffect, HasNothing}
+use Rattle.ckpt_machine.specs.Refusals.{IsRefused, IsRefusal, LeavesAll, UndoesOwn, LeavesBy, end_kept, unmade, unmade_swept, ChangeNothing, HasNothingBy, Refuses, call_told, word_told, EachRefusalLeaves}
+use Rattle.ckpt_machine.specs.Runs.{last, IsRun}
+use Rattle.ckpt_machine.specs.WasAsked.{WasAskedFor, EachWasAsked}
 use Rattle.ckpt_machine.specs.Shape.{IsCompleteOn, IsSpread}
 use Rattle.ckpt_machine.specs.After.{after_beginning, call_begun, changed, kept_behind, step_of, after, replica_under, replicas_under, reservation_under, snapshot_under, opened_state}
 use Rattle.ckpt_machine.specs.Due.{Told, IsDone, IsDue, due, driver_of}
+use Rattle.ckpt_machine.proofs.Askers.{IsCopyAsk, copy_ask, copy_op, copy_word}
+use Rattle.ckpt_machine.proofs.BegunBefore.{begun_longer, all_began}
+use Rattle.ckpt_machine.proofs.BegunOnce.{begins_once}
 use Rattle.ckpt_machine.proofs.Copying.{IsSource}
 use Rattle.ckpt_machine.proofs.EachReplica.{run_copies}
 use Rattle.ckpt_machine.proofs.OwnMaking.{making_there, making_is}
@@ -46,17 +52,22 @@ use Rattle.ckpt_machine.proofs.Owning.{never_unled}
 use Rattle.ckpt_machine.proofs.Histories.{HasHistory, commits_by, commit, gone, unled, nothing_left, Commits, Applies, slot_calls, marks_owned, making_incomplete, follows, had, keeps_history, run_history, IsUpdater}
 use Rattle.ckpt_machine.proofs.Lawful.{lawful}
 use Rattle.ckpt_machine.proofs.EntryLists.{find_key-without, AllStay-filter, swept-all}
-use Rattle.ckpt_machine.proofs.Refusing.{at_node, commit_ends, left_none, none_begun, refusal_leaves}
+use Rattle.ckpt_machine.proofs.OnlyAsked.{only_asked}
+use Rattle.ckpt_machine.proofs.Refusing.{at_node, by_update, commit_ends, left_none, none_begun, refusal_leaves}
 use Rattle.ckpt_machine.specs.Laws.{OfEachRun}
 use Rattle.ckpt_machine.proofs.Runs.{last-push, run_before, run_front}
 use Rattle.call_dispatch.specs.PendingCalls.{PendingCalls}
 use Rattle.ckpt_types.specs.declared.identities.ActorName.{ActorName}
 use Rattle.ckpt_types.specs.declared.identities.Who.{Who}
 use Rattle.ckpt_types.specs.declared.words.OpWord.{OpWord}
+use Rattle.ckpt_types.specs.declared.words.OpWord.TheVariants as opwords
+use Rattle.ckpt_types.specs.Asks.{Ask, MayAsk, asked}
 use Rattle.ckpt_types.specs.OpWord.{word_of_op, stepped_as}
 use Rattle.ckpt_machine.specs.Whose.{put_who}
 use Rattle.ckpt_machine.proofs.Dropped.{held_as, ended_none}
 use Rattle.ckpt_machine.proofs.Starting.{first_kept}
+use Rattle.ckpt_machine.proofs.StepHistory.{taken_hand}
+use Rattle.ckpt_machine.proofs.UpdateIn.{once_apart}
 use Rattle.ckpt_machine.proofs.Whose.{put_who-cases, one_call}
 use Rattle.ckpt_machine.proofs.OptionLemmas.{IsSomeAnd-at, IsSomeAnd-more}
 
@@ -100,27 +111,31 @@ module _ (m : Machine) (inv : Invariant m) (bare : IsBare m) (call : CallId) (no
 
 -- ---- a commit refuses nothing
 
-commit_row : (m : Machine) (call : CallId) (update : Update) (k r : ℕ) (reply : StepReply) (end : Option Outcome) (details : Details) → CommitRow m call update k r reply end details → IsRefused end → ⊥
-commit_row m call update k r words.Ok end details row refused = commit_ends m call update k r end details row refused
-commit_row m call update k r reply end details row refused = absurd row
+commit_row : (m : Machine) (call : CallId) (update : Update) (ends : Bool → Bool) (k r : ℕ) (reply : StepReply) (end : Option Outcome) (details : Details) → CommitRow m call update ends k r reply end details → IsRefused end → ⊥
+commit_row m call update ends k r words.Ok end details row refused = commit_ends m call update ends k r end details row refused
+commit_row m call update ends k r reply end details row refused = absurd row
 
 no_commit : (m : Machine) (s : CallState) (t : Told) → t.verb ≡ verbs.Commit → Row m s t.verb t → IsRefused t.end → ⊥
-no_commit m s t verb row refused = at_node t.ckpt t.node _ (subst (λ verb. Row m s verb t) verb row) (λ k r p. commit_row m s.call p.1 k r t.reply t.end t.details p.3 refused)
+no_commit m s t verb row refused = at_node t.ckpt t.node _ (subst (λ verb. Row m s verb t) verb row) (λ k r p. by_update m s (λ update ends. CommitRow m s.call update ends k r t.reply t.end t.details) p (λ update ends row. commit_row m s.call update ends k r t.reply t.end t.details row refused))
 
 -- ---- a step that refuses
 
-module _ (m : Machine) (inv : Invariant m) (history : HasHistory m) (s : CallState) (held : m.in_hand (who s) ≡ Some s) (t : Told) (row : Row m s t.verb t) (done : IsDone m s (due m s) t) (refused : IsRefused t.end) where
-  -- its call had no effect
+module _ (m : Machine) (inv : Invariant m) (history : HasHistory m) (s : CallState) (held : m.in_hand (who s) ≡ Some s) (t : Told) (row : Row m s t.verb t) (done : IsDone m s (due m s) t) (refused : IsRefused t.end) (other : IsCopyAsk (asked s.op) → ⊥) where
+  -- its call, which is no copying, had no effect
   had_none : (k r : ℕ) → Has m k r s.call → ⊥
   had_none k r has =
-      let at = history.commits k r s held has in
-      elim (commits_by m s at.update t at.driver_is at.phase done) [
-        | commit is ↦ no_commit m s t is row refused
-        | gone none ends ↦ (
-            let (e, found, there) = IsSomeAnd-at (entry_of k m.cluster.entries) (λ e. IsCompleteOn e r) (history.bare.complete k r has.replica has.there) in
-            let w : None ≡ Some e = sym none ∙ ap (λ k. entry_of k m.cluster.entries) at.ckpt ∙ found in cc w)
-        | unled e found none ends ↦ absurd (never_unled m inv.shapes inv.holds s at.update held at.driver_is e found none)
-        | nothing_left answer ends ↦ subst IsRefused ends refused
+      elim (history.commits k r s held has) [
+        | inl at ↦ (elim (commits_by m s at.update t at.driver_is at.phase done) [
+          | commit is ↦ no_commit m s t is row refused
+          | gone none ends ↦ (
+              let (e, found, there) = IsSomeAnd-at (entry_of k m.cluster.entries) (λ e. IsCompleteOn e r) (history.bare.complete k r has.replica has.there) in
+              let w : None ≡ Some e = sym none ∙ ap (λ k. entry_of k m.cluster.entries) at.ckpt ∙ found in cc w)
+          | unled e found none ends ↦ absurd (never_unled m inv.shapes inv.holds s at.update held (ap update_in at.driver_is) (subst (IsInPlace m inv.shapes s) at.driver_is (inv.holds.hands (who s) s held).here) e found none)
+          | nothing_left answer ends ↦ subst IsRefused ends refused
+        ])
+        | inr brought ↦ (
+            let here : IsCopyIn m inv.shapes s brought.copy = subst (IsInPlace m inv.shapes s) brought.driver_is (inv.holds.hands (who s) s held).here in
+            other (subst IsCopyAsk (sym here.asks) tt))
       ]
 
   -- and has none
@@ -128,7 +143,7 @@ module _ (m : Machine) (inv : Invariant m) (history : HasHistory m) (s : CallSta
   has_none k r x there has = elim (had m inv history s held t row k r s.call (record { replica = x; there = there; effect = has })) [
     | inl was ↦ had_none k r was
     | inr (inl new) ↦ none_new new.by
-    | inr (inr (inl pulled)) ↦ absurd (history.ended_pulled s held pulled)
+    | inr (inr (inl taken)) ↦ absurd (history.ended_pulled s held (taken_hand m inv history s held t row k s.call taken) other)
     | inr (inr (inr dead)) ↦ absurd (held_not_dead m inv.shapes inv.holds s held dead)
   ]
     where
@@ -182,12 +197,12 @@ kept_replicas : (call : CallId) (word : OpWord) (end : Option Outcome) (m : Mach
 kept_replicas call word None m j q = refl
 kept_replicas call word (Some end) m j q = refl
 
--- a client's call is as live behind a refusal as before it
-leaves_live : (m n : Machine) (call d : CallId) (op : OpWord) (verb : Verb) (k r : Option ℕ) (reply : StepReply) (end : Option Outcome) (details : Details) → IsClient d.actor → LeavesBy unmade_swept (labels.Stepped call op verb k r reply end details) m n → is_live n.cluster d ≡ is_live m.cluster d
-leaves_live m n call d op verbs.Look k r reply end details client (inl all) = ap (λ (R : RecordState). is_live R d) (all.cluster ∙ kept_record call op end m)
-leaves_live m n call d op verbs.Look k r reply end details client (inr own) = ap (λ (R : RecordState). is_live R d) (own.rest.cluster ∙ kept_record call op end (unmade_swept own.ckpt m)) ∙ live_alike m.cluster (swept (undone own.ckpt m.cluster)) d client refl
-leaves_live m n call d op verbs.Undo k r reply end details client own = ap (λ (R : RecordState). is_live R d) (own.rest.cluster ∙ kept_record call op end (unmade_swept own.ckpt m)) ∙ live_alike m.cluster (swept (undone own.ckpt m.cluster)) d client refl
-leaves_live m n call d op verb k r reply end details client all = ap (λ (R : RecordState). is_live R d) (all.cluster ∙ kept_record call op end m)
+-- a call is as live behind a refusal as before it
+leaves_live : (m n : Machine) (call d : CallId) (ask : Ask) (op : OpWord) (verb : Verb) (k r : Option ℕ) (reply : StepReply) (end : Option Outcome) (details : Details) → MayAsk d.actor ask → LeavesBy unmade_swept (labels.Stepped call op verb k r reply end details) m n → is_live n.cluster d ≡ is_live m.cluster d
+leaves_live m n call d ask op verbs.Look k r reply end details may (inl all) = ap (λ (R : RecordState). is_live R d) (all.cluster ∙ kept_record call op end m)
+leaves_live m n call d ask op verbs.Look k r reply end details may (inr own) = ap (λ (R : RecordState). is_live R d) (own.rest.cluster ∙ kept_record call op end (unmade_swept own.ckpt m)) ∙ live_as m.cluster (swept (undone own.ckpt m.cluster)) d ask may (λ client. refl) refl refl
+leaves_live m n call d ask op verbs.Undo k r reply end details may own = ap (λ (R : RecordState). is_live R d) (own.rest.cluster ∙ kept_record call op end (unmade_swept own.ckpt m)) ∙ live_as m.cluster (swept (undone own.ckpt m.cluster)) d ask may (λ client. refl) refl refl
+leaves_live m n call d ask op verb k r reply end details may all = ap (λ (R : RecordState). is_live R d) (all.cluster ∙ kept_record call op end m)
 
 -- one that makes nothing leaves the replicas
 leaves_replicas : (m n : Machine) (call : CallId) (op : OpWord) (verb : Verb) (k r : Option ℕ) (reply : StepReply) (end : Option Outcome) (details : Details) → making_of call m.cluster ≡ None → LeavesBy unmade_swept (labels.Stepped call op verb k r reply end details) m n → (j q : ℕ) → n.replicas j q ≡ m.replicas j q
@@ -197,7 +212,7 @@ leaves_replicas m n call op verbs.Undo k r reply end details none own j q = absu
 leaves_replicas m n call op verb k r reply end details none all j q = all.replicas j q ∙ kept_replicas call op end m j q
 
 -- no slot is of a call that is refused at a step, nor is what is staged its own
-step_apart : (m n : Machine) (inv : Invariant m) (history : HasHistory m) (s : CallState) (held : m.in_hand (who s) ≡ Some s) → ((d : CallId) → IsClient d.actor → is_live n.cluster d ≡ is_live m.cluster d) → (making_of s.call m.cluster ≡ None → (j q : ℕ) → n.replicas j q ≡ m.replicas j q)
+step_apart : (m n : Machine) (inv : Invariant m) (history : HasHistory m) (s : CallState) (held : m.in_hand (who s) ≡ Some s) → ((d : CallId) (ask : Ask) → MayAsk d.actor ask → is_live n.cluster d ≡ is_live m.cluster d) → (making_of s.call m.cluster ≡ None → (j q : ℕ) → n.replicas j q ≡ m.replicas j q)
     → (k r : ℕ) (y : ReplicaState) (slot : Staged) (d : CallId) → n.replicas k r ≡ Some y → y.slot ≡ Some slot → (slot.owner ≡ d) ⊎ (slot.origin ≡ d) → IsDead n d → d ≢ s.call
 step_apart m n inv history s held live replicas k r y slot d there staged of dead same = by_driver (driver_of s) refl
   where
@@ -205,13 +220,13 @@ step_apart m n inv history s held live replicas k r y slot d there staged of dea
     hand = inv.holds.hands (who s) s held
 
     by_live : is_enter (driver_of s) ≡ false → ⊥
-    by_live other = let w : true ≡ false = sym (hand.live other) ∙ sym (live s.call hand.client) ∙ ap (is_live n.cluster) (sym same) ∙ dead.gone in cc w
+    by_live other = let w : true ≡ false = sym (hand.live other) ∙ sym (live s.call (asked s.op) hand.asker) ∙ ap (is_live n.cluster) (sym same) ∙ dead.gone in cc w
 
     -- an Initialize is no update, and is not dead
     no_update : (x : OneStep) → driver_of s ≡ drivers.Once x → IsUpdater m d ⊎ IsDead m d → ⊥
     no_update x is (inl by) =
         let state : by.state ≡ s = one_call m.in_hand m.pending m.next inv.holds.calls (who by.state) (who s) by.state s by.in_hand held (by.call_is ∙ same) in
-        let w : drivers.Once x ≡ drivers.Update by.driver = sym is ∙ ap driver_of (sym state) ∙ by.driver_is in cc w
+        once_apart (driver_of by.state) by.driver x by.driver_is (ap driver_of state ∙ is)
     no_update x is (inr dead) = held_not_dead m inv.shapes inv.holds s held (subst (IsDead m) same dead)
 
     by_driver : (x : Driver) → driver_of s ≡ x → ⊥
@@ -223,34 +238,80 @@ step_apart m n inv history s held live replicas k r y slot d there staged of dea
     by_driver (drivers.Update u) is = by_live (ap is_enter is)
     by_driver (drivers.Active a) is = by_live (ap is_enter is)
     by_driver (drivers.Sync u) is = by_live (ap is_enter is)
+    by_driver (drivers.Copy c) is = by_live (ap is_enter is)
 
--- what is refused has nothing
-pub refused_has_nothing : (m : Machine) (l : Label) → Invariant m → HasHistory m → Allowed m l → IsDue m l → IsRefusal l → IsSomeAnd (call_told l) (HasNothing (after m l))
-refused_has_nothing m (labels.Began call op end details) inv history allowed is refused = record {
-  owns = owns_nothing (after_beginning m call op end) (lawful m (labels.Began call op end details) inv is).1 (keeps_history m (labels.Began call op end details) inv history allowed is).bare call (begun_nowhere m inv call op end is.number refused)
-      (λ k r x slot d there staged of dead. begun_apart m inv history call is.number k r x slot d there staged of);
-  effects = begun_none m history call op end is.number;
-}
-refused_has_nothing m (labels.Stepped call op verb k r reply end details) inv history allowed step refused =
-    let s = step.state in
-    let t : Told = record { verb = verb; ckpt = k; node = r; reply = reply; end = end; details = details } in
-    let held : m.in_hand (who s) ≡ Some s = held_as m call op s step.in_hand step.call_is step.word in
-    let same : allowed.state ≡ s = same_Some allowed.state s (sym allowed.in_hand ∙ step.in_hand) in
-    let row = subst (λ z. Row m z verb t) same allowed.row in
-    let n = step_of m (Some s) verb k r reply end in
-    let leaves = refusal_leaves m (labels.Stepped call op verb k r reply end details) allowed refused in
-    let nowhere : IsNotInHand n call = subst (IsNotInHand n) step.call_is (ended_nowhere m inv history s held t row refused) in
-    let none : HasNoEffect n s.call = has_none m inv history s held t row step.done refused in
-    record {
-      owns = owns_nothing (after m (labels.Stepped call op verb k r reply end details)) (lawful m (labels.Stepped call op verb k r reply end details) inv step).1 (keeps_history m (labels.Stepped call op verb k r reply end details) inv history allowed step).bare call
-          (subst (λ o. IsNotInHand (step_of m o verb k r reply end) call) (sym step.in_hand) nowhere)
-          (λ j q x slot d there staged of dead. subst (λ c. d ≢ c) step.call_is (step_apart m (after m (labels.Stepped call op verb k r reply end details)) inv history s held
-          (λ d client. leaves_live m (after m (labels.Stepped call op verb k r reply end details)) call d op verb k r reply end details client leaves)
-          (λ none. leaves_replicas m (after m (labels.Stepped call op verb k r reply end details)) call op verb k r reply end details (ap (λ c. making_of c m.cluster) (sym step.call_is) ∙ none) leaves)
-          j q x slot d there staged of dead));
-      effects = subst (λ o. HasNoEffect (step_of m o verb k r reply end) call) (sym step.in_hand) (subst (HasNoEffect n) step.call_is none);
-    }
-refused_has_nothing m l inv history allowed is refused = absurd refused
+-- ---- what a refused copying has done
+
+-- no effect of a call that has none is of it
+none_change : (call : CallId) (xs : List Effect) → (HasEffect call xs → ⊥) → ChangeNothing call xs
+none_change call [] none = tt
+none_change call (x ∷ xs) none = (λ of. absurd (none (inl of)), none_change call xs (λ has. none (inr has)))
+
+-- so one that has nothing has it by any word
+nothing_by : (word : OpWord) (m : Machine) (call : CallId) → HasNothing m call → HasNothingBy word m call
+nothing_by opwords.Copy m call has = record { owns = has.owns; effects = λ k r x there. none_change call x.effects (has.effects k r x there) }
+nothing_by word m call has = has
+
+-- what is said of a copying, and of any other call, is so by its word
+by_word : (word : OpWord) (m : Machine) (call : CallId) → OwnsNothing m call → (word ≡ opwords.Copy → (k r : ℕ) (x : ReplicaState) → m.replicas k r ≡ Some x → ChangeNothing call x.effects) → ((word ≡ opwords.Copy → ⊥) → HasNoEffect m call) → HasNothingBy word m call
+by_word opwords.Copy m call owns copy other = record { owns = owns; effects = copy refl }
+by_word word m call owns copy other = record { owns = owns; effects = other (λ is. cc is) }
+
+module _ (log : List Label) (run : IsRun log) (call : CallId) (k : ℕ) (of : Option ℕ) (begun : HasBegun log call ops.Copy of) where
+  -- it was asked for nothing but to copy
+  not_asked : (d : CallId) (update : Update) → d ≡ call → WasAskedFor log k d update → ⊥
+  not_asked d update same asked =
+      let op : asked.op ≡ ops.Copy = (begins_once log run call ops.Copy asked.op of (Some k) begun (subst (λ c. HasBegun log c asked.op (Some k)) same asked.begun)).0 in
+      subst IsUpdateWord (ap word_of_op op) asked.asks
+
+  -- so whatever it has done changes nothing
+  copying_changes : (xs : List Effect) → EachWasAsked log k xs → ChangeNothing call xs
+  copying_changes [] all = tt
+  copying_changes (Applied d update moment ∷ xs) all = (λ same. (same, elim all.0 [ inl asked ↦ absurd (not_asked d update same asked) | inr copying ↦ copying.update_is ]), copying_changes xs all.1)
+  copying_changes (Broken d update moment done ∷ xs) all = (λ same. absurd (not_asked d update same all.0), copying_changes xs all.1)
+
+-- ---- what is refused has nothing
+
+module _ (log : List Label) (before : IsRun log) (inv : Invariant (last log)) (history : HasHistory (last log)) where
+  abbrev m : Machine
+  m = last log
+
+  -- nor has it changed anything
+  refused_has_nothing : (l : Label) → Allowed m l → IsDue m l → IsRun (log ++ l ∷ []) → IsRefusal l → IsSomeAnd (call_told l) (λ call. IsSomeAnd (word_told l) (λ word. HasNothingBy word (after m l) call))
+  refused_has_nothing (labels.Began call op end details) allowed is run refused = nothing_by (word_of_op op) (after_beginning m call op end) call (record {
+    owns = owns_nothing (after_beginning m call op end) (lawful m (labels.Began call op end details) inv is).1 (keeps_history m (labels.Began call op end details) inv history allowed is).bare call (begun_nowhere m inv call op end is.number refused)
+        (λ k r x slot d there staged of dead. begun_apart m inv history call is.number k r x slot d there staged of);
+    effects = begun_none m history call op end is.number;
+  })
+  refused_has_nothing (labels.Stepped call op verb k r reply end details) allowed step run refused =
+      let l : Label = labels.Stepped call op verb k r reply end details in
+      let s = step.state in
+      let t : Told = record { verb = verb; ckpt = k; node = r; reply = reply; end = end; details = details } in
+      let held : m.in_hand (who s) ≡ Some s = held_as m call op s step.in_hand step.call_is step.word in
+      let same : allowed.state ≡ s = same_Some allowed.state s (sym allowed.in_hand ∙ step.in_hand) in
+      let row = subst (λ z. Row m z verb t) same allowed.row in
+      let n = step_of m (Some s) verb k r reply end in
+      let leaves = refusal_leaves m l allowed refused in
+      let nowhere : IsNotInHand n call = subst (IsNotInHand n) step.call_is (ended_nowhere m inv history s held t row refused) in
+      let owns : OwnsNothing (after m l) call = owns_nothing (after m l) (lawful m l inv step).1 (keeps_history m l inv history allowed step).bare call
+      (subst (λ o. IsNotInHand (step_of m o verb k r reply end) call) (sym step.in_hand) nowhere)
+      (λ j q x slot d there staged of dead. subst (λ c. d ≢ c) step.call_is (step_apart m (after m l) inv history s held
+      (λ d ask may. leaves_live m (after m l) call d ask op verb k r reply end details may leaves)
+      (λ none. leaves_replicas m (after m l) call op verb k r reply end details (ap (λ c. making_of c m.cluster) (sym step.call_is) ∙ none) leaves)
+      j q x slot d there staged of dead)) in
+      by_word op (after m l) call owns
+      -- a copying
+      (λ copies j q x there.
+      let asks_is : s.op ≡ ops.Copy = copy_word s.op (step.word ∙ copies) in
+      let began : (of : Option ℕ) → HasBegun log s.call s.op of → HasBegun (log ++ l ∷ []) call ops.Copy of = λ of begun. begun_longer log l call ops.Copy of (subst (λ o. HasBegun log call o of) asks_is (subst (λ d. HasBegun log d s.op of) step.call_is begun)) in
+      copying_changes (log ++ l ∷ []) run call j _ (began _ (all_began log before s held)) x.effects
+      (((only_asked (log ++ l ∷ []) run (log ++ l ∷ []) [] (sym (append-nil (log ++ l ∷ [])))).replicas j q x (subst (λ (n : Machine). n.replicas j q ≡ Some x) (sym (last-push log l)) there)).effects))
+      -- any other call
+      (λ other.
+      let no_copying : IsCopyAsk (asked s.op) → ⊥ = λ copies. other (sym step.word ∙ ap word_of_op (copy_op s.op (copy_ask (asked s.op) copies))) in
+      let none : HasNoEffect n s.call = has_none m inv history s held t row step.done refused no_copying in
+      subst (λ o. HasNoEffect (step_of m o verb k r reply end) call) (sym step.in_hand) (subst (HasNoEffect n) step.call_is none))
+  refused_has_nothing l allowed is run refused = absurd refused
 
 -- ---- a making that is undone
 
@@ -391,5 +452,5 @@ run_leaves log run front back l is refused =
     let sources : HaveSources (last front) = λ k s is. IsSomeAnd-more (entry_of k (last front).cluster.entries) _ IsSource (λ e is_so. is_so.0.source) (copies.snapshot k s is) in
     subst (Refuses l (last front)) (sym (last-push front l)) (record {
       leaves = leaves_alone (last front) (after (last front) l) l inv history.bare sources (refusal_leaves (last front) l allowed refused);
-      nothing = refused_has_nothing (last front) l inv history allowed due refused;
+      nothing = refused_has_nothing front before inv history l allowed due (run_front log (front ++ l ∷ []) back (front_with log front back l is) run) refused;
     })

@@ -4,7 +4,7 @@ use Rattle.ckpt_types.specs.Reads.{NextGiven, given}
 use Rattle.cluster_record.specs.Calls.{left}
 use Rattle.ckpt_machine.specs.Driving.{Kept, refused_cause}
 use Rattle.cluster_record.specs.Makings.{making_of}
-use Rattle.std.proofs.Common.{◌≡◌, ◌⊎◌, inl, inr, ℕ, List, length, Option, Some, None, Bool, true, false, cond, refl, sym, ap, subst, ◌∙◌, IsSomeAnd}
+use Rattle.std.proofs.Common.{◌≡◌, ◌⊎◌, inl, inr, ℕ, List, length, Option, Some, None, Bool, true, false, cond, ◌&&◌, refl, sym, ap, subst, ◌∙◌, IsSomeAnd}
 use Rattle.ckpt_types.specs.declared.ais_error.AisError.{AisError}
 use Rattle.ckpt_types.specs.declared.ais_error.AisError.TheVariants.{TryAgain}
 use Rattle.ckpt_types.specs.declared.answers.Answer.{Answer}
@@ -15,6 +15,7 @@ use Rattle.ckpt_types.specs.declared.answers.Outcome.{Outcome}
 use Rattle.ckpt_types.specs.declared.answers.Outcome.TheVariants.{Done, Refused, NoMemory}
 use Rattle.ckpt_types.specs.declared.attributes.CreationAttributes.{CreationAttributes}
 use Rattle.ckpt_types.specs.declared.update.Update.{Update}
+use Rattle.ckpt_types.specs.declared.update.Update.TheVariants as updates
 use Rattle.node_msgs.specs.declared.steps.Verb.{Verb}
 use Rattle.node_msgs.specs.declared.steps.Verb.TheVariants as verbs
 use Rattle.node_msgs.specs.declared.steps.StepReply.{StepReply}
@@ -26,8 +27,10 @@ use Rattle.run_labels.specs.declared.labels.Label.{Label}
 use Rattle.run_labels.specs.declared.labels.Label.TheVariants as labels
 use Rattle.client_handles.specs.ClientState.{ClientState}
 use Rattle.cluster_record.specs.declared.entries.Entry.{Entry}
-use Rattle.cluster_record.specs.RecordState.{entry_of}
+use Rattle.cluster_record.specs.Joining.{completed}
+use Rattle.cluster_record.specs.RecordState.{RecordState, entry_of, swept}
 use Rattle.ckpt_types.specs.Asks.{Ask, asked}
+use Rattle.ckpt_types.specs.Asks as asks
 use Rattle.node_core.specs.Serving.{update_answer}
 use Rattle.ckpt_machine.specs.Machine.{Machine, ReplicaState, CallState, who}
 use Rattle.ckpt_machine.specs.After.{changed, call_begun, pending_begun, handle_opened, with_pending, stepped, step_of, after, without_making, kept_behind}
@@ -37,11 +40,12 @@ use Rattle.ckpt_machine.specs.Complete.{complete_replicas}
 use Rattle.ckpt_machine.specs.Options.{is_weak, is_by_element}
 use Rattle.cluster_record.specs.Placement.{is_all}
 use Rattle.cluster_record.specs.StepDone.{StepDone}
-use Rattle.ckpt_machine.specs.Guards.{AtCkpt, AtNode, AtNodeAlone, AtNone, Row, Allowed, AsksToOpen}
+use Rattle.ckpt_machine.specs.CopyGuards.{CompleteOk, CopyReserveRow, completion_end, copies_to, lacks_none}
+use Rattle.ckpt_machine.specs.Guards.{AtCkpt, AtNode, AtNodeAlone, AtNone, Row, Allowed, AsksOpen, AsksToOpen, AsksUpdate}
 use Rattle.ckpt_machine.specs.LookGuards.{LookRow}
-use Rattle.ckpt_machine.specs.OpenGuards.{UndoRow}
+use Rattle.ckpt_machine.specs.OpenGuards.{ReserveRow, UndoRow}
 use Rattle.ckpt_machine.specs.ActiveGuards.{HoldOk, ActivateOk, ActiveRefused, ActiveHeld, BeginsOnActive, ApplyOk, MarkOk, IterOk, NextOk, NextAnswer, InstallOk, steps_with, all_served, unless_unserved}
-use Rattle.ckpt_machine.specs.UpdateGuards.{ClaimOk, CommitOk, WithdrawOk, ends_update}
+use Rattle.ckpt_machine.specs.UpdateGuards.{StageRow, ClaimOk, ClaimRow, CommitOk, CommitRow, WithdrawOk, WithdrawRow, ends_update}
 use Rattle.ckpt_machine.specs.GuardTerms.{OnReplica, OnAll, OnActive}
 use Rattle.ckpt_machine.specs.Refusals.{IsRefused, IsRefusal, LeavesAll, UndoesOwn, LeavesBy, end_kept, unmade_swept}
 use Rattle.std.specs.Prelude.{if◌then◌else◌}
@@ -94,6 +98,11 @@ begins_on_active m s update by_element k r t Ahead words.Refused row ahead refus
 begins_on_active m s update by_element k r t Ahead (words.Held by) row ahead refused = on_active_replica m update by_element k r (λ e x. ActiveHeld m s.call by t x) row (λ e x (held : ActiveHeld m s.call by t x). refused TryAgain (Holder by) held.answer)
 begins_on_active m s update by_element k r t Ahead reply row ahead refused = absurd row
 
+-- an update that is asked for, or the one of a copying
+pub by_update : {C : Type 0} (m : Machine) (s : CallState) (P : Update → (Bool → Bool) → Type 0) → AsksUpdate m s P → ((update : Update) (ends : Bool → Bool) → P update ends → C) → C
+by_update m s P (inl p) what = what p.1 (λ last. last) p.3
+by_update m s P (inr p) what = what updates.Nothing (λ last. last && lacks_none m.cluster (copies_to s)) p.1
+
 -- ---- an end that is no refusal
 
 no_refusal_done : (end : Option Outcome) (answer : Answer) → end ≡ Some (Done answer) → IsRefused end → ⊥
@@ -110,9 +119,14 @@ no_refusal_committed false answer end is refused = no_refusal_yet end is refused
 pub no_refusal_unserved : (steps : List StepDone) (complete : List ℕ) (count : ℕ) (end : Option Outcome) → end ≡ unless_unserved steps complete count → IsRefused end → ⊥
 no_refusal_unserved steps complete count end is refused = no_refusal_committed (all_served steps 0 complete) (answers.Pulled count) end is refused
 
+-- a completion refuses nothing
+pub no_refusal_completed : (R : RecordState) (r : ℕ) (all : Bool) (end : Option Outcome) → end ≡ completion_end R r all → IsRefused end → ⊥
+no_refusal_completed R r true end is refused = no_refusal_yet end is refused
+no_refusal_completed R r false end is refused = no_refusal_committed (lacks_none R r) answers.Nothing end is refused
+
 -- no commit refuses
-pub commit_ends : (m : Machine) (call : CallId) (update : Update) (k r : ℕ) (end : Option Outcome) (details : Details) → OnAll m k r (λ e x. CommitOk m call update k r end details x) → IsRefused end → ⊥
-commit_ends m call update k r end details row refused = on_all m k r (λ e x. CommitOk m call update k r end details x) row (λ e x (ok : CommitOk m call update k r end details x). no_refusal_committed (ends_update call r ok.slot (complete_replicas m k)) (update_answer update) end ok.answer refused)
+pub commit_ends : (m : Machine) (call : CallId) (update : Update) (ends : Bool → Bool) (k r : ℕ) (end : Option Outcome) (details : Details) → OnAll m k r (λ e x. CommitOk m call update ends k r end details x) → IsRefused end → ⊥
+commit_ends m call update ends k r end details row refused = on_all m k r (λ e x. CommitOk m call update ends k r end details x) row (λ e x (ok : CommitOk m call update ends k r end details x). no_refusal_committed (ends (ends_update call r ok.slot (complete_replicas m k))) (update_answer update) end ok.answer refused)
 
 -- nor does an update that is applied, or makes its marks
 apply_ends : (m : Machine) (update : Update) (k r : ℕ) (t : Told) → OnActive m update false k r (ApplyOk m update t) → IsRefused t.end → ⊥
@@ -147,18 +161,21 @@ changed_same m s verbs.Open k r words.Ok end details row refused looks = absurd 
 changed_same m s verbs.Open k r reply end details row refused looks = refl
 changed_same m s verbs.Create k r words.Ok end details row refused looks = absurd (row_at_ckpt k r _ row.0 (λ k p. no_refusal_yet end p.3.1 refused))
 changed_same m s verbs.Create k r reply end details row refused looks = refl
-changed_same m s verbs.Reserve k r words.Ok end details row refused looks = absurd (at_node k r _ row.0 (λ k r p. no_refusal_yet end p.3.4 refused))
+changed_same m s verbs.Reserve k r words.Ok end details row refused looks = absurd (at_node k r _ row.0 (λ k r p. reserved p)) where
+  reserved : {k r : ℕ} → AsksOpen s (λ name a. ReserveRow m s k r words.Ok end) ⊎ ((asked s.op ≡ asks.Copy) × CopyReserveRow m s k r words.Ok end) → ⊥
+  reserved (inl p) = no_refusal_yet end p.3.4 refused
+  reserved (inr p) = no_refusal_yet end p.1.1 refused
 changed_same m s verbs.Reserve k r reply end details row refused looks = refl
 changed_same m s verbs.Finish k r words.Ok end details row refused looks = absurd (row_at_ckpt k r _ row.0 (λ k p. no_refusal_done end (answers.Opened k) p.3.3 refused))
 changed_same m s verbs.Finish k r reply end details row refused looks = refl
 changed_same m s verbs.Undo k r reply end details row refused looks = absurd looks
-changed_same m s verbs.Stage k r words.Ok end details row refused looks = absurd (at_node k r _ row.0 (λ k r p. no_refusal_yet end p.3.1 refused))
+changed_same m s verbs.Stage k r words.Ok end details row refused looks = absurd (at_node k r _ row.0 (λ k r p. by_update m s (λ update ends. StageRow m s update k r words.Ok end) p (λ update ends row. no_refusal_yet end row.1 refused)))
 changed_same m s verbs.Stage k r reply end details row refused looks = refl
-changed_same m s verbs.Claim k r words.Ok end details row refused looks = absurd (at_node k r _ row.0 (λ k r p. on_all m k r (λ e x. ClaimOk m s.call end x) p.3 (λ e x (ok : ClaimOk m s.call end x). no_refusal_yet end ok.answer refused)))
+changed_same m s verbs.Claim k r words.Ok end details row refused looks = absurd (at_node k r _ row.0 (λ k r p. by_update m s (λ update ends. ClaimRow m s k r words.Ok end) p (λ update ends row. on_all m k r (λ e x. ClaimOk m s.call end x) row (λ e x (ok : ClaimOk m s.call end x). no_refusal_yet end ok.answer refused))))
 changed_same m s verbs.Claim k r reply end details row refused looks = refl
-changed_same m s verbs.Withdraw k r words.Ok end details row refused looks = absurd (at_node k r _ row.0 (λ k r p. on_all m k r (λ e x. WithdrawOk m s.call k end x) p.3 (λ e x (ok : WithdrawOk m s.call k end x). no_refusal_yet end ok.answer refused)))
+changed_same m s verbs.Withdraw k r words.Ok end details row refused looks = absurd (at_node k r _ row.0 (λ k r p. by_update m s (λ update ends. WithdrawRow m s k r words.Ok end) p (λ update ends row. on_all m k r (λ e x. WithdrawOk m s.call k end x) row (λ e x (ok : WithdrawOk m s.call k end x). no_refusal_yet end ok.answer refused))))
 changed_same m s verbs.Withdraw k r reply end details row refused looks = refl
-changed_same m s verbs.Commit k r words.Ok end details row refused looks = absurd (at_node k r _ row (λ k r p. commit_ends m s.call p.1 k r end details p.3 refused))
+changed_same m s verbs.Commit k r words.Ok end details row refused looks = absurd (at_node k r _ row (λ k r p. by_update m s (λ update ends. CommitRow m s.call update ends k r words.Ok end details) p (λ update ends row. commit_ends m s.call update ends k r end details row refused)))
 changed_same m s verbs.Commit k r reply end details row refused looks = refl
 changed_same m s verbs.Apply k r words.Ok end details row refused looks =
     let t : Told = record { verb = verbs.Apply; ckpt = k; node = r; reply = words.Ok; end = end; details = details } in
@@ -197,8 +214,9 @@ changed_same m s verbs.Unlink k r words.Ok end details row refused looks = absur
 changed_same m s verbs.Unlink k r reply end details row refused looks = refl
 changed_same m s verbs.Retain k r words.Ok end details row refused looks = absurd (row_at_ckpt k r _ row.0 (λ k p. no_refusal_done end answers.Nothing p.3.2 refused))
 changed_same m s verbs.Retain k r reply end details row refused looks = refl
+changed_same m s verbs.Complete k r words.Ok end details row refused looks = absurd (at_node k r _ row.0 (λ k r p. none_of_some (entry_of k m.cluster.entries) (CompleteOk m s k r end) p.1.2 (λ e (ok : CompleteOk m s k r end e). no_refusal_completed (swept (completed k r m.cluster)) r (is_all e.attributes) end ok.answer refused)))
+changed_same m s verbs.Complete k r reply end details row refused looks = refl
 changed_same m s verbs.Look k r reply end details row refused looks = absurd looks
-changed_same m s verb k r reply end details row refused looks = absurd row
 
 -- ---- what is left
 

@@ -28,6 +28,7 @@ use Rattle.ckpt_machine.specs.Replays.{each_done, effect_done, effects_done, rep
 use Rattle.ckpt_machine.specs.Runs.{last, IsRun}
 use Rattle.ckpt_machine.specs.Shape.{IsShapedBy}
 use Rattle.ckpt_machine.specs.After.{opened_state, having_taken, committed_slot, with_marks, next_element_written, marks_ended, with_lead}
+use Rattle.ckpt_machine.proofs.EachKept.{having_copied}
 use Rattle.ckpt_machine.proofs.EachReplica.{IsKept, run_each}
 use Rattle.ckpt_machine.proofs.ElementsDone.{each_done-next, each_done-write}
 use Rattle.ckpt_machine.proofs.Follows.{IsBare}
@@ -179,10 +180,11 @@ kept_replay : (log : List Label) → IsKept (λ o r x. IsReplayedIn o x) IsRepla
 kept_replay log = record {
   opened = λ e r f found. subst (λ f. IsReplayed f (opened_state e)) (same_Some e f found) (record { replays = refl; marked = tt });
   stays = λ e f r x identity stays made was g found. subst (λ g. IsReplayed g x) (same_Some f g found) (replay_kept e f stays x (was e refl));
-  stays_copied = λ e f s identity stays source was. copy_kept e f s stays was;
+  stays_copied = λ e f s identity stays made was. copy_kept e f s stays was;
   led = λ e f r o x identity goes made free none copied was g found. subst (λ g. IsReplayed g (with_lead o f.generation x)) (same_Some f g found) (led_replay e f goes o x none copied (was e refl));
-  pulled = λ e r x source active none was. replay_there e x none (was e refl);
+  pulled = λ e r x none was. replay_there e x none (was e refl);
   put = λ e r s x present free none copied was f found. subst (λ f. IsReplayed f (replica_from s x)) (same_Some e f found) (replayed e (replica_from s x) none copied);
+  completed = λ e f r call t s identity goes made copied like g found. subst (λ g. IsReplayed g (having_copied call t f s (is_all f.attributes))) (same_Some f g found) (replayed f (having_copied call t f s (is_all f.attributes)) refl (copy_kept e f s goes copied));
   staged = λ m s k r x step was e found. (let it = was e found in record { replays = it.replays; marked = it.marked });
   claimed = λ m s k r x step was e found. (let it = was e found in record { replays = it.replays; marked = it.marked });
   withdrawn = λ m s k r x step was e found. (let it = was e found in record { replays = it.replays; marked = it.marked });

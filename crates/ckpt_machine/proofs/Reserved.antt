@@ -1,7 +1,7 @@
 -- A step that changes the reservations of the checkpoint that a call is making, and how far this call is: what holds of every other call and of every checkpoint stays.
 use Rattle.std.proofs.Common.{◌≡◌, ◌≢◌, ℕ, inl, inr, Option, Some, None, Bool, true, false, ◌==◌, refl, sym, ap, subst, ◌∙◌}
 use Rattle.std.proofs.lemmas.Option.{same_Some}
-use Rattle.std.specs.Prelude.{is_some, IsSome, IsSomeAnd}
+use Rattle.std.specs.Prelude.{is_some, IsSomeAnd}
 use Rattle.std.proofs.lemmas.Bool.{eqb-true}
 use Rattle.ckpt_types.specs.declared.identities.CallId.{CallId}
 use Rattle.ckpt_types.specs.declared.identities.Who.{Who}
@@ -16,13 +16,15 @@ use Rattle.ckpt_machine.specs.Due.{IsDriven, driver_of}
 use Rattle.ckpt_machine.specs.Shape.{Shape, IsOwner, IsMarker, IsHolder}
 use Rattle.ckpt_machine.specs.Dead.{IsDead}
 use Rattle.ckpt_machine.specs.InHand.{IsMakingIn, IsInHand}
-use Rattle.ckpt_machine.specs.Invariant.{IsMaker, IsGoodIn, InvariantIn}
+use Rattle.ckpt_machine.specs.Entries.{WasMade}
+use Rattle.ckpt_machine.specs.Invariant.{IsMaker, IsGoodIn, IsReservedFor, InvariantIn}
 use Rattle.ckpt_types.specs.OpWord.{word_of_op, stepped_as}
 use Rattle.ckpt_machine.proofs.CallsKept.{apart_from, same_call-Some, calls_left}
 use Rattle.ckpt_machine.proofs.Lives.{LivesOn, lives_on-one, enters-one, dead_on}
-use Rattle.ckpt_machine.proofs.OtherCalls.{making_still, LooksAlike, LooksLater-refl, IsHolder-alike, IsInHand-alike, owned_alike, owner_before, IsMarker-alike, IsMaker-alike}
+use Rattle.ckpt_machine.proofs.LaterIncarnations.{incarnations_stay}
+use Rattle.ckpt_machine.proofs.OtherCalls.{making_still, LooksAlike, LooksLater-refl, LiesUnder-refl, IsHolder-alike, IsInHand-alike, owned_alike, owner_before, IsMarker-alike, IsMaker-alike}
 use Rattle.ckpt_machine.proofs.OwnMaking.{making_at, owner_apart, marker_apart, holder_apart, maker_same, not_own}
-use Rattle.ckpt_machine.proofs.OptionLemmas.{IsSomeAnd-at, IsSomeAnd-from}
+use Rattle.ckpt_machine.proofs.OptionLemmas.{IsSomeAnd-at, IsSomeAnd-from, IfSome-at}
 use Rattle.ckpt_machine.specs.Whose.{put_who, same_who}
 use Rattle.ckpt_machine.proofs.Whose.{same_who-true, one_state, put_who-cases, put_who-other, put_who-here}
 
@@ -74,6 +76,7 @@ module _ (m : Machine) (shapes : ℕ → Shape) (inv : InvariantIn shapes m) (s 
   -- a checkpoint is as it was
   IsGoodIn-then : LivesOn m then_machine → (j : ℕ) (sh : Shape) (e : Entry) (maker : Option CallId) → IsGoodIn m j sh e maker → IsGoodIn then_machine j sh e maker
   IsGoodIn-then lives j sh e None good = record {
+    well_formed = good.well_formed;
     nodes = good.nodes;
     some = good.some;
     up = good.up;
@@ -97,18 +100,33 @@ module _ (m : Machine) (shapes : ℕ → Shape) (inv : InvariantIn shapes m) (s 
   making_then : (z : CallState) → z.call ≢ s.call → (x : Making) → IsMakingIn m z x → IsMakingIn then_machine z x
   making_then z other x at = record { there = at.there; declares = at.declares; nodes = at.nodes; reserved = λ r had. elsewhere x.ckpt r (not_own m shapes inv s o making held is makes z other x at) ∙ at.reserved r had; only = λ r none. elsewhere x.ckpt r (not_own m shapes inv s o making held is makes z other x at) ∙ at.only r none; within = λ r some. at.within r (ap is_some (sym (elsewhere x.ckpt r (not_own m shapes inv s o making held is makes z other x at))) ∙ some); no_later = at.no_later }
 
+  -- what was made is another checkpoint
+  not_made : (k : ℕ) → WasMade m.cluster k → (k == making.ckpt) ≡ false
+  not_made k was = by_test (k == making.ckpt) refl
+    where
+      by_test : (b : Bool) → (k == making.ckpt) ≡ b → (k == making.ckpt) ≡ false
+      by_test false other = other
+      by_test true same =
+          let (e, found, by) = IsSomeAnd-at (entry_of making.ckpt m.cluster.entries) (λ e. e.making ≡ Some s.call) (making_at m shapes inv s o making held is makes).there in
+          let made : e.making ≡ None = IfSome-at (entry_of k m.cluster.entries) (λ (e : Entry). e.making ≡ None) was.made e (ap (λ i. entry_of i m.cluster.entries) (eqb-true k making.ckpt same) ∙ found) in
+          absurd (let w : None ≡ Some s.call = sym made ∙ by in cc w)
+
   -- so it sees what it saw
   looks_then : ((d : CallId) → IsDead m d → IsDead then_machine d) → (z : CallState) → z.call ≢ s.call → LooksAlike m then_machine shapes shapes z
   looks_then dead z other = record {
     up = λ r up. up;
-    lives = refl;
+    incarnations = incarnations_stay m.cluster m.cluster refl refl;
+    lives = λ client. refl;
+    node = λ r own. refl;
     home = refl;
     handle = λ there. there;
     making = λ o at. making_still m then_machine z o (making_then z other) at;
     made = λ k was. was;
-    later = λ k was e found. (e, found, LooksLater-refl z (shapes k).marks e);
+    later = λ k was e found. (e, found, LooksLater-refl m.cluster.up z (shapes k) e);
+    reserved = λ k r was own f found free. elsewhere k r (not_made k was);
     owners = λ k was r. refl;
     marks = λ k was. refl;
+    under = λ k was e found all. LiesUnder-refl (shapes k);
     dead = λ k f was found. dead;
     done = λ k was done. done;
   }
@@ -116,14 +134,14 @@ module _ (m : Machine) (shapes : ℕ → Shape) (inv : InvariantIn shapes m) (s 
   -- ---- the whole
 
   -- what is reserved then is for a checkpoint that is in the making: this one, or one for which it was
-  there_then : (j q n : ℕ) → g j q ≡ Some n → IsSomeAnd (entry_of j m.cluster.entries) (λ e. IsSome e.making)
+  there_then : (j q n : ℕ) → g j q ≡ Some n → IsSomeAnd (entry_of j m.cluster.entries) (IsReservedFor m.cluster q n)
   there_then j q n reserved = by_test (j == making.ckpt) refl
     where
-      by_test : (b : Bool) → (j == making.ckpt) ≡ b → IsSomeAnd (entry_of j m.cluster.entries) (λ e. IsSome e.making)
+      by_test : (b : Bool) → (j == making.ckpt) ≡ b → IsSomeAnd (entry_of j m.cluster.entries) (IsReservedFor m.cluster q n)
       by_test false other = inv.reserves j q n (sym (elsewhere j q other) ∙ reserved)
       by_test true same =
           let (e, found, by) = IsSomeAnd-at (entry_of making.ckpt m.cluster.entries) (λ e. e.making ≡ Some s.call) (making_at m shapes inv s o making held is makes).there in
-          IsSomeAnd-from (entry_of j m.cluster.entries) (λ e. IsSome e.making) e (ap (λ k. entry_of k m.cluster.entries) (eqb-true j making.ckpt same) ∙ found) (ap (λ o. is_some o) by)
+          IsSomeAnd-from (entry_of j m.cluster.entries) (IsReservedFor m.cluster q n) e (ap (λ k. entry_of k m.cluster.entries) (eqb-true j making.ckpt same) ∙ found) (inl (ap (λ o. is_some o) by))
 
   -- the invariant holds after it, where it holds of the call
   pub reserved_keeps : IsInHand then_machine shapes (who s) w → InvariantIn shapes then_machine
@@ -134,6 +152,7 @@ module _ (m : Machine) (shapes : ℕ → Shape) (inv : InvariantIn shapes m) (s 
     none_live = inv.none_live;
     rises = inv.rises;
     up_to = inv.up_to;
+    few = inv.few;
     swept = inv.swept;
     entries = λ j e found. IsGoodIn-then lives j (shapes j) e e.making (inv.entries j e found);
     replicas = inv.replicas;

@@ -39,7 +39,7 @@ use Rattle.client_handles.specs.declared.handle_view.HandleView.{HandleView}
 use Rattle.cluster_record.specs.declared.entries.Entry.{Entry}
 use Rattle.cluster_record.specs.DueOnce.{Leave}
 use Rattle.cluster_record.specs.StepDone.{StepDone}
-use Rattle.cluster_record.specs.RecordState.{empty_record, named}
+use Rattle.cluster_record.specs.RecordState.{RecordState, empty_record, named}
 use Rattle.replica.specs.Replicas.{Replica, opened_replica}
 use Rattle.ckpt_machine.specs.Drivers.{Driver, Once}
 use Rattle.ckpt_machine.specs.Driving.{Kept, driver_start, driver_end, event_refusal}
@@ -53,6 +53,8 @@ use Rattle.node_core.specs.Serving.{reply_at, details_at, replica_after}
 use Rattle.ckpt_machine.specs.After.{after, with_tables}
 use Rattle.ckpt_machine.specs.Due.{Told, IsDue, driver_of, due, kept_at_beginning, asked_handle}
 use Rattle.ckpt_machine.specs.Seen.{seen_at}
+use Rattle.ckpt_machine.specs.UpdateGuards.{CommitRow, StageRow}
+use Rattle.ckpt_machine.proofs.Refusing.{by_update}
 use Rattle.std.proofs.lemmas.Option.{same_Some}
 
 -- ---- the words of the examples
@@ -124,7 +126,7 @@ abbrev begun_state : CallId → Op → Kept → CallState
 begun_state call op kept = record { call = call; op = op; kept = kept; begun = driver_or (driver_start call (asked op) kept); steps = []; created = None; snapshot = None }
 
 abbrev example_begun : Machine → ℕ → Op → CallState
-example_begun m n op = begun_state (c0 n) op (kept_at_beginning m.cluster 0 (asked_handle m (Client 0) op))
+example_begun m n op = begun_state (c0 n) op (kept_at_beginning m.cluster (Client 0) (asked_handle m (Client 0) op))
 
 abbrev example_started : Machine
 example_started = last (comes_up ∷ begins 1 starts ∷ [])
@@ -155,16 +157,16 @@ five_labels_are_a_run = (
   ),
 ) where
   first_begins : IsDue (last (comes_up ∷ [])) (begins 1 starts)
-  first_begins = record { client = omega arith; built = omega arith; number = refl; none_in_hand = refl; may = (refl, refl); answer = inl refl; told = refl }
+  first_begins = record { asker = omega arith; built = omega arith; number = refl; none_in_hand = refl; may = (refl, refl); answer = inl refl; told = refl }
 
   first_may_begin : Allowed (last (comes_up ∷ [])) (begins 1 starts)
-  first_may_begin = record { client = omega arith; built = omega arith; number = refl; none_in_hand = refl; may = (refl, refl); row = (record { version = refl; handle = refl; callback = refl; flags = refl; arguments = refl; access = refl; operation = refl }, refl); told = refl }
+  first_may_begin = record { asker = omega arith; built = omega arith; number = refl; none_in_hand = refl; may = (refl, refl); row = (record { version = refl; handle = refl; callback = refl; flags = refl; arguments = refl; access = refl; operation = refl }, refl); told = refl }
 
   then_begins : IsDue (last (comes_up ∷ begins 1 starts ∷ example_enters ∷ [])) (begins 2 (ops.Unlink ck))
-  then_begins = record { client = omega arith; built = tt; number = refl; none_in_hand = refl; may = tt; answer = inl refl; told = refl }
+  then_begins = record { asker = omega arith; built = tt; number = refl; none_in_hand = refl; may = tt; answer = inl refl; told = refl }
 
   then_may_begin : Allowed (last (comes_up ∷ begins 1 starts ∷ example_enters ∷ [])) (begins 2 (ops.Unlink ck))
-  then_may_begin = record { client = omega arith; built = tt; number = refl; none_in_hand = refl; may = tt; row = (record { version = refl; handle = refl; callback = refl; flags = refl; arguments = refl; access = refl; operation = refl }, refl); told = refl }
+  then_may_begin = record { asker = omega arith; built = tt; number = refl; none_in_hand = refl; may = tt; row = (record { version = refl; handle = refl; callback = refl; flags = refl; arguments = refl; access = refl; operation = refl }, refl); told = refl }
 
 -- with its step in front of its beginning
 pub a_step_before_its_call_is_no_run : IsRun (comes_up ∷ example_enters ∷ begins 1 starts ∷ begins 2 (ops.Unlink ck) ∷ example_refused ∷ []) → ⊥
@@ -235,15 +237,16 @@ its_row m s word t here allowed = subst (λ s. Row m s t.verb t) (sym (same_Some
 -- a commit before its stage: there is no slot
 pub a_commit_before_its_stage_is_not_allowed : Allowed before_stage (ends 3 (writes 0 (codes "abc")) verbs.Commit (Some 1) (Some 0) (Done answers.Nothing)) → ⊥
 a_commit_before_its_stage_is_not_allowed allowed =
-    let row = its_row before_stage writing (word_of_op writing.op) (told verbs.Commit) refl allowed in
-    let none : None ≡ Some row.3.1.slot = row.3.1.staged in
-    cc none
+    by_update before_stage writing (λ update ends. CommitRow before_stage (c0 3) update ends 1 0 words.Ok (Some (Done answers.Nothing)) beside.Nothing)
+    (its_row before_stage writing (word_of_op writing.op) (told verbs.Commit) refl allowed)
+    (λ update ends row. let none : None ≡ Some row.1.slot = row.1.staged in cc none)
 
 -- an answer with its stage
 pub an_answer_with_its_stage_is_not_allowed : Allowed before_stage (ends 3 (writes 0 (codes "abc")) verbs.Stage (Some 1) (Some 0) (Done answers.Nothing)) → ⊥
 an_answer_with_its_stage_is_not_allowed allowed =
-    let none : Some (Done answers.Nothing) ≡ None = (its_row before_stage writing (word_of_op writing.op) (told verbs.Stage) refl allowed).0.3.1 in
-    cc none
+    by_update before_stage writing (λ update ends. StageRow before_stage writing update 1 0 words.Ok (Some (Done answers.Nothing)))
+    (its_row before_stage writing (word_of_op writing.op) (told verbs.Stage) refl allowed).0
+    (λ update ends row. let none : Some (Done answers.Nothing) ≡ None = row.1 in cc none)
 
 -- ---- a status after a write and a setting of the retention: `retain c0 h0 5`, `status c0 h0`
 
@@ -360,8 +363,8 @@ the_replica_refuses_with_the_index = refl
 pub it_stays_as_it_was : replica_after (requests.Stage (c0 3) 1 (pos 0)) (update_alone (update_of three)) (record_seen example_opened.cluster 1 0) a_and_b ≡ a_and_b
 it_stays_as_it_was = refl
 
-pub the_call_tells_the_index : (d : StepDone) (x : Driver) → driver_end three d (replies.Refused errors.NotExist 2) x ≡ Some (Refused errors.NotExist (Index 2))
-the_call_tells_the_index d x = refl
+pub the_call_tells_the_index : (R : RecordState) (d : StepDone) (x : Driver) → driver_end R three d (replies.Refused errors.NotExist 2) x ≡ Some (Refused errors.NotExist (Index 2))
+the_call_tells_the_index R d x = refl
 
 -- ---- two calls in hand: c0 makes 'ck for 3 nanoseconds at most, and c1 opens it
 
@@ -379,7 +382,7 @@ in_the_making = last log_making
 
 -- c1's call, begun then or later
 abbrev c1_begins : Machine → Op → CallState
-c1_begins m op = begun_state (c1 2) op (kept_at_beginning m.cluster 1 (asked_handle m (Client 1) op))
+c1_begins m op = begun_state (c1 2) op (kept_at_beginning m.cluster (Client 1) (asked_handle m (Client 1) op))
 
 pub of_what_is_in_the_making_the_record_is_asked : due in_the_making (c1_begins in_the_making (opens 0 ck)) ≡ Event events.Open
 of_what_is_in_the_making_the_record_is_asked = refl
@@ -487,7 +490,7 @@ pub its_client_waits_for_nothing : goes_alone.in_hand (Actor (Client 0)) ≡ Non
 its_client_waits_for_nothing = refl
 
 pub another_call_may_begin : IsDue goes_alone (begins 3 (ops.Unlink ck))
-another_call_may_begin = record { client = omega arith; built = tt; number = refl; none_in_hand = refl; may = tt; answer = inl refl; told = refl }
+another_call_may_begin = record { asker = omega arith; built = tt; number = refl; none_in_hand = refl; may = tt; answer = inl refl; told = refl }
 
 -- once it has ended
 abbrev log_ended : List Label
@@ -510,7 +513,7 @@ abbrev dispatches : Label
 dispatches = labels.Began (c0 3) (ops.Dispatch dispatch_one) (Some (Done (answers.Dispatched (record { given = 1; left = 0 })))) (beside.Callbacks (record { kind = kinds.Open 0; invocation = 7; outcome = Done (answers.Opened 1) } ∷ []))
 
 pub a_dispatch_gives_it : IsDue ended_alone dispatches
-a_dispatch_gives_it = record { client = omega arith; built = tt; number = refl; none_in_hand = refl; may = tt; answer = inl refl; told = refl }
+a_dispatch_gives_it = record { asker = omega arith; built = tt; number = refl; none_in_hand = refl; may = tt; answer = inl refl; told = refl }
 
 pub then_its_place_stands_for_the_handle : asked_handle (after ended_alone dispatches) (Client 0) (ops.Close 0) ≡ Some a_handle
 then_its_place_stands_for_the_handle = refl

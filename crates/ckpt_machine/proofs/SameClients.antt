@@ -1,5 +1,5 @@
 -- A step leaves each client as it was that waits for a call in hand, which neither enters nor leaves: it does so by no other call meanwhile.
-use Rattle.std.proofs.Common.{◌≡◌, ℕ, Option, Some, None, Bool, true, false, cond, ◌==◌, refl, sym, ap, ◌∙◌}
+use Rattle.std.proofs.Common.{◌≡◌, ℕ, Option, Some, None, Bool, true, false, cond, ◌==◌, refl, sym, ap, subst, ◌∙◌}
 use Rattle.std.proofs.lemmas.Bool.{eqb-true}
 use Rattle.ckpt_types.specs.declared.answers.Outcome.{Outcome}
 use Rattle.ckpt_types.specs.declared.identities.ActorName.TheVariants.{Client}
@@ -7,7 +7,7 @@ use Rattle.ckpt_types.specs.declared.identities.Who.TheVariants.{Actor}
 use Rattle.ckpt_types.specs.declared.calls.CallbackSet.{CallbackSet}
 use Rattle.ckpt_types.specs.declared.calls.Version.{Version}
 use Rattle.ckpt_types.specs.declared.update.Update.{Update}
-use Rattle.ckpt_types.specs.Asks.{Ask, asked, is_async_ask}
+use Rattle.ckpt_types.specs.Asks.{Ask, MayAsk, asked, is_async_ask}
 use Rattle.ckpt_types.specs.Asks as asks
 use Rattle.node_msgs.specs.declared.details.Details.{Details}
 use Rattle.node_msgs.specs.declared.steps.StepReply.{StepReply}
@@ -15,7 +15,7 @@ use Rattle.node_msgs.specs.declared.steps.StepReply.TheVariants as words
 use Rattle.node_msgs.specs.declared.steps.Verb.{Verb}
 use Rattle.node_msgs.specs.declared.steps.Verb.TheVariants as verbs
 use Rattle.cluster_record.specs.declared.clients.LiveClient.{LiveClient}
-use Rattle.cluster_record.specs.Calls.{client_of}
+use Rattle.cluster_record.specs.Calls.{IsClient, client_of}
 use Rattle.cluster_record.specs.Makings.{making_of}
 use Rattle.cluster_record.specs.Places.{find_key}
 use Rattle.cluster_record.specs.RecordState.{client_key}
@@ -24,6 +24,7 @@ use Rattle.ckpt_machine.specs.Invariant.{Invariant}
 use Rattle.ckpt_machine.specs.Machine.{Machine, ReplicaState, CallState, who}
 use Rattle.ckpt_machine.specs.After.{created_for, retained_for, without_making, change_replica, changed, on_ok, on_look, at_some}
 use Rattle.ckpt_machine.specs.Due.{Told}
+use Rattle.ckpt_machine.proofs.Askers.{IsCopyAsk, asker_client}
 use Rattle.ckpt_machine.proofs.AsyncNames.{own_name}
 use Rattle.ckpt_machine.proofs.EndedTables.{client_by_number}
 use Rattle.ckpt_machine.proofs.EntryLists.{find_key-push, find_key-without}
@@ -41,12 +42,13 @@ pub record IsAwaited (ask : Ask) : Type 0 where
   pub plain : is_async_ask ask ≡ false
   pub stays : (version : Version) (callbacks : CallbackSet) (r : ℕ) → ask ≡ asks.Enter r version callbacks → ⊥
   pub remains : ask ≡ asks.Leave → ⊥
+  pub of_client : IsCopyAsk ask → ⊥
 
 pub awaits_setting : (place : ℕ) → IsAwaited (asks.SetActive place)
-awaits_setting place = record { plain = refl; stays = λ version callbacks r same. cc same; remains = λ same. cc same }
+awaits_setting place = record { plain = refl; stays = λ version callbacks r same. cc same; remains = λ same. cc same; of_client = λ copies. copies }
 
 pub awaits_change : (place : ℕ) (update : Update) → IsAwaited (asks.Change place update)
-awaits_change place update = record { plain = refl; stays = λ version callbacks r same. cc same; remains = λ same. cc same }
+awaits_change place update = record { plain = refl; stays = λ version callbacks r same. cc same; remains = λ same. cc same; of_client = λ copies. copies }
 
 module _ (m : Machine) (inv : Invariant m) (s : CallState) (held : m.in_hand (who s) ≡ Some s) (z : CallState) (at : m.in_hand (who z) ≡ Some z) (ask : Ask) (asks_is : asked z.op ≡ ask) (awaited : IsAwaited ask) where
   -- its client
@@ -54,13 +56,15 @@ module _ (m : Machine) (inv : Invariant m) (s : CallState) (held : m.in_hand (wh
   c = client_of z.call
 
   -- a call of the same client for which this waits is the same one
-  apart : (other : Ask) → asked s.op ≡ other → is_async_ask other ≡ false → (ask ≡ other → ⊥) → (c == client_of s.call) ≡ false
-  apart its is plain other = by_test (c == client_of s.call) refl
+  apart : (other : Ask) → asked s.op ≡ other → is_async_ask other ≡ false → (IsCopyAsk other → ⊥) → (ask ≡ other → ⊥) → (c == client_of s.call) ≡ false
+  apart its is plain client other = by_test (c == client_of s.call) refl
     where
       by_test : (b : Bool) → (c == client_of s.call) ≡ b → (c == client_of s.call) ≡ false
       by_test false no_other = no_other
       by_test true same =
-          let actor = client_by_number z.call.actor (inv.holds.hands (who z) z at).client ∙ ap Client (eqb-true c (client_of s.call) same) ∙ sym (client_by_number s.call.actor (inv.holds.hands (who s) s held).client) in
+          let own : IsClient z.call.actor = asker_client z.call.actor ask (subst (MayAsk z.call.actor) asks_is (inv.holds.hands (who z) z at).asker) awaited.of_client in
+          let others : IsClient s.call.actor = asker_client s.call.actor its (subst (MayAsk s.call.actor) is (inv.holds.hands (who s) s held).asker) client in
+          let actor = client_by_number z.call.actor own ∙ ap Client (eqb-true c (client_of s.call) same) ∙ sym (client_by_number s.call.actor others) in
           let name : who z ≡ who s = own_name z (ap is_async_ask asks_is ∙ awaited.plain) ∙ ap Actor actor ∙ sym (own_name s (ap is_async_ask is ∙ plain)) in
           let state : z ≡ s = one_state m.in_hand (who z) (who s) z s at held name in
           absurd (other (sym asks_is ∙ ap (λ (z : CallState). asked z.op) state ∙ is))
@@ -116,13 +120,13 @@ module _ (m : Machine) (inv : Invariant m) (s : CallState) (held : m.in_hand (wh
         let (version, callbacks, is, enters) = row.0 in
         let new : LiveClient = record { client = client_of s.call; node = r; incarnation = _; initialize = s.call.number } in
         find_key-push client_key c m.cluster.clients new (none_of (find_key client_key (client_of s.call) m.cluster.clients) enters.0.not_live)
-        ∙ ap (λ b. cond b (Some new) (find_key client_key c m.cluster.clients)) (apart (asks.Enter r version callbacks) is refl (λ same. awaited.stays version callbacks r same))
+        ∙ ap (λ b. cond b (Some new) (find_key client_key c m.cluster.clients)) (apart (asks.Enter r version callbacks) is refl (λ copies. copies) (λ same. awaited.stays version callbacks r same))
 
     -- or leaves
     left_stays : (j q : Option ℕ) → Row m s verbs.Leave (t_of verbs.Leave j q words.Ok) → Stays (changed m s verbs.Leave j q words.Ok)
     left_stays j q row =
         find_key-without client_key (client_of s.call) c m.cluster.clients
-        ∙ ap (λ b. cond b None (find_key client_key c m.cluster.clients)) (apart asks.Leave (said_alone j q _ row.0).0 refl awaited.remains)
+        ∙ ap (λ b. cond b None (find_key client_key c m.cluster.clients)) (apart asks.Leave (said_alone j q _ row.0).0 refl (λ copies. copies) awaited.remains)
 
     -- behind any step that is allowed
     pub client_stays : (verb : Verb) (j q : Option ℕ) (reply : StepReply) → Row m s verb (t_of verb j q reply) → Stays (changed m s verb j q reply)
@@ -153,5 +157,6 @@ module _ (m : Machine) (inv : Invariant m) (s : CallState) (held : m.in_hand (wh
     client_stays verbs.Next j q reply row = ok_stays reply _ (both_stay j q _ (λ k r. refl))
     client_stays verbs.Hold j q reply row = ok_stays reply _ (one_stays j _ (λ k. refl))
     client_stays verbs.Activate j q reply row = ok_stays reply _ (both_stay j q _ (λ k r. replica_stays _ refl k r _ _))
+    client_stays verbs.Complete j q reply row = ok_stays reply _ (both_stay j q _ (λ k r. refl))
     client_stays verbs.Look j q reply row = look_stays reply _ _ refl (making_stays (making_of s.call m.cluster))
     client_stays verb j q reply row = refl

@@ -35,7 +35,7 @@ use Rattle.ckpt_machine.specs.Machine.{Machine, ReplicaState, Snapshot, CallStat
 use Rattle.ckpt_machine.specs.Propagation.{on_node, copied}
 use Rattle.ckpt_machine.specs.Shape.{Shape, IsCompleteOn, marks_at, IsApart, IsShapedBy, IsActiveBy, IsHolder, IsSpread}
 use Rattle.ckpt_machine.specs.After.{with_record, record_step, with_lead, change_replica, led_from, kept_behind, left_in_hand}
-use Rattle.ckpt_machine.specs.Due.{Told, IsDone, IsEvent, IsEventAnswer, marks_on, kept_off, driver_of, counted_at}
+use Rattle.ckpt_machine.specs.Due.{event_done, Told, IsDone, IsEvent, IsEventAnswer, marks_on, kept_off, driver_of, counted_at}
 use Rattle.ckpt_machine.proofs.ActiveBy.{active_by-complete}
 use Rattle.ckpt_machine.proofs.Actors.{same_call-true, same_call-refl, same_call-false}
 use Rattle.ckpt_machine.proofs.CallsKept.{same_call-None, same_call-Some, apart_from}
@@ -48,7 +48,7 @@ use Rattle.ckpt_machine.proofs.MarksAt.{marks_here, none_marked}
 use Rattle.ckpt_machine.proofs.OnComplete.{present_generation}
 use Rattle.ckpt_machine.proofs.OnTheActive.{marker_live}
 use Rattle.ckpt_machine.proofs.OptionLemmas.{IsSomeAnd-at, IsSomeAnd-from, IfSome-at}
-use Rattle.ckpt_machine.proofs.OtherCalls.{LooksLater, IsMarker-alike}
+use Rattle.ckpt_machine.proofs.OtherCalls.{LooksLater, IsMarker-alike, home_stays}
 use Rattle.ckpt_machine.proofs.PlainCalls.{is_plain_sync, is_plain, holder_apart, look_ends, look_goes, plain_ends}
 use Rattle.ckpt_machine.proofs.StepLabels.{Told-is, unhindered-told, IsEvent-told}
 use Rattle.ckpt_machine.specs.Whose.{put_who}
@@ -195,6 +195,7 @@ module _ (m : Machine) (shapes : ℕ → Shape) (inv : InvariantIn shapes m) (s 
 
         spread_then : IsSpread held_machine k (shapes k) held_entry
         spread_then = record {
+          well_formed = spread.well_formed;
           nodes = spread.nodes;
           some = spread.some;
           up = spread.up;
@@ -211,10 +212,11 @@ module _ (m : Machine) (shapes : ℕ → Shape) (inv : InvariantIn shapes m) (s 
           held = λ d holds. record { collocated = collocated; unmarked = unmarked; holder = subst (IsHolder held_machine k e.active) (same_Some s.call d holds) holder_then };
         }
 
-        looks_then : (z : CallState) → z.call ≢ s.call → LooksLater z (shapes k).marks e held_entry
+        looks_then : (z : CallState) → z.call ≢ s.call → LooksLater m.cluster.up z (shapes k) e held_entry
         looks_then z apart = record {
-          complete = λ all. refl;
+          complete = λ all q there. inl refl;
           grows = λ q there. there;
+          lacks = λ apart q own lacks. lacks;
           attributes = refl;
           rises = omega arith;
           generation = λ own. refl;
@@ -243,12 +245,12 @@ module _ (m : Machine) (shapes : ℕ → Shape) (inv : InvariantIn shapes m) (s 
             (λ j q x there. generation_then j q x there (j == k) refl)
             (λ z same. subst (IsInHand held_machine shapes (who s)) (same_Some (then_state (hold_set k s.call m.cluster)) z same) (let hand = inv.hands (who s) s held in record {
               whose = refl;
-              client = hand.client;
+              asker = hand.asker;
               number = hand.number;
               built = hand.built;
               driven = hand.driven;
               live = λ others. hand.live (ap is_enter is);
-              home = λ others. hand.home (ap is_enter is);
+              home = λ others. hand.home (ap is_enter is) ∙ sym (home_stays s.call.actor m.cluster (hold_set k s.call m.cluster) refl);
               here = subst (IsInPlace held_machine shapes (then_state (hold_set k s.call m.cluster))) (sym (ap (driver_taken (hold_done (hold_set k s.call m.cluster))) is)) (subst (IsSyncBy held_machine (then_state (hold_set k s.call m.cluster)) u) (sym kind) here_then);
             }))
           where
@@ -285,7 +287,7 @@ module _ (m : Machine) (shapes : ℕ → Shape) (inv : InvariantIn shapes m) (s 
       -- the marks of another call keep it off
       kept_goes : (marks : Marked) → (shapes k).marks ≡ Some marks → (t : Told) → IsEvent m s (events.Hold r) t → kept_off m t.ckpt (events.Hold r) ≡ Some marks.call → Goes m s (driver_of s) t
       kept_goes marks stand t event keeps =
-          let answer = subst (λ o. IsEventAnswer o (event_refusal m.cluster (events.Hold r) (driver_of s)) (events.Hold r) t) keeps event.answer in
+          let answer = subst (λ o. IsEventAnswer o (event_refusal m.cluster (events.Hold r) (driver_of s)) (event_done m s (events.Hold r) t) (events.Hold r) t) keeps event.answer in
           let marker = spread.marked marks stand in
           subst (Goes m s (driver_of s)) (sym (Told-is t (record { verb = verbs.Hold; ckpt = Some k; node = Some r; reply = words.Held marks.call; end = Some (Refused TryAgain (Holder marks.call)); details = beside.Nothing }) event.verb (ckpt_then event) (node_then event) answer.0 answer.1 event.details)) (record {
             row = (
@@ -412,6 +414,7 @@ module _ (m : Machine) (shapes : ℕ → Shape) (inv : InvariantIn shapes m) (s 
 
       led_spread : IsSpread led_machine k (shapes k) led_entry
       led_spread = record {
+        well_formed = spread.well_formed;
         nodes = spread.nodes;
         some = spread.some;
         up = spread.up;
@@ -429,10 +432,11 @@ module _ (m : Machine) (shapes : ℕ → Shape) (inv : InvariantIn shapes m) (s 
       }
 
       -- to another call it looks as it did
-      led_looks : (z : CallState) → z.call ≢ s.call → LooksLater z (shapes k).marks e led_entry
+      led_looks : (z : CallState) → z.call ≢ s.call → LooksLater m.cluster.up z (shapes k) e led_entry
       led_looks z apart = record {
-        complete = λ all. refl;
+        complete = λ all q there. inl refl;
         grows = λ q there. there;
+        lacks = λ apart q own lacks. lacks;
         attributes = refl;
         rises = generation_under-rises local e;
         generation = λ marked. by_calm calm marked;

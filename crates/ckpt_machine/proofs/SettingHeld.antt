@@ -6,7 +6,7 @@ use Rattle.ckpt_types.specs.declared.answers.Outcome.{Outcome}
 use Rattle.ckpt_types.specs.declared.identities.CallId.{CallId}
 use Rattle.ckpt_types.specs.declared.operation.Op.{Op}
 use Rattle.ckpt_types.specs.declared.words.OpWord.{OpWord}
-use Rattle.ckpt_types.specs.Asks.{asked}
+use Rattle.ckpt_types.specs.Asks.{Ask, MayAsk, asked}
 use Rattle.ckpt_types.specs.Asks as asks
 use Rattle.ckpt_types.specs.OpWord.{stepped_as, word_of_op}
 use Rattle.node_msgs.specs.declared.details.Details.{Details}
@@ -16,7 +16,7 @@ use Rattle.node_msgs.specs.declared.steps.Verb.{Verb}
 use Rattle.node_msgs.specs.declared.steps.Verb.TheVariants as verbs
 use Rattle.run_labels.specs.declared.labels.Label.{Label}
 use Rattle.run_labels.specs.declared.labels.Label.TheVariants as labels
-use Rattle.cluster_record.specs.Calls.{client_of, left}
+use Rattle.cluster_record.specs.Calls.{IsClient, client_of, left}
 use Rattle.cluster_record.specs.Places.{find_key}
 use Rattle.cluster_record.specs.RecordState.{RecordState, entry_of, client_key, home_of, node_of_client}
 use Rattle.ckpt_machine.specs.ActivesSet.{IsHoldOf, WasActiveWith, HasHeld}
@@ -27,9 +27,10 @@ use Rattle.ckpt_machine.specs.Invariant.{Invariant}
 use Rattle.ckpt_machine.specs.Machine.{Machine, Effect, Snapshot, CallState, who}
 use Rattle.ckpt_machine.specs.Propagation.{copied}
 use Rattle.ckpt_machine.specs.Runs.{last, IsRun}
-use Rattle.ckpt_machine.specs.After.{call_begun, changed, pulled_by, kept_behind, step_of, after}
+use Rattle.ckpt_machine.specs.After.{call_begun, changed, kept_by, pulled_by, kept_behind, step_of, after}
 use Rattle.ckpt_machine.specs.Due.{Told, IsDue}
 use Rattle.ckpt_machine.specs.Whose.{same_who}
+use Rattle.ckpt_machine.proofs.Askers.{IsCopyAsk, asker_client, client_home, kept_still}
 use Rattle.ckpt_machine.proofs.BegunOnce.{step_below}
 use Rattle.ckpt_machine.proofs.Quiet.{quiet}
 use Rattle.ckpt_machine.proofs.Dropped.{held_as}
@@ -95,11 +96,13 @@ hold_of d word verbs.Hold (Some j) (Some q) words.Ok end details call k r of = o
 hold_of d word verb j q reply end details call k r of = absurd of
 
 -- one that begins has held nothing
-begins_setting : (log : List Label) → IsRun log → (call : CallId) (op : Op) (end : Option Outcome) (details : Details) (z : CallState) → call.number ≡ (last log).next call.actor → call_begun end call op (first_kept (last log) call op) ≡ Some z → IsSettingOf (log ++ labels.Began call op end details ∷ []) (last log).cluster z.call z.kept z.snapshot
-begins_setting log run call op end details z number is =
+begins_setting : (log : List Label) → IsRun log → (call : CallId) (op : Op) (end : Option Outcome) (details : Details) (z : CallState) → call.number ≡ (last log).next call.actor → MayAsk call.actor (asked op) → call_begun end call op (first_kept (last log) call op) ≡ Some z → (place : ℕ) → asked z.op ≡ asks.SetActive place → IsSettingOf (log ++ labels.Began call op end details ∷ []) (last log).cluster z.call z.kept z.snapshot
+begins_setting log run call op end details z number asker is place asks_is =
     let (d, driven, same) = begun_as end call op (first_kept (last log) call op) z is in
+    let its : asked op ≡ asks.SetActive place = ap (λ (z : CallState). asked z.op) same ∙ asks_is in
+    let client : IsClient call.actor = asker_client call.actor (asked op) asker (subst IsCopyAsk its) in
     subst (λ (z : CallState). IsSettingOf (log ++ labels.Began call op end details ∷ []) (last log).cluster z.call z.kept z.snapshot) same (record {
-      home = refl;
+      home = client_home (last log).cluster call.actor client;
       all = λ before behind hold k r is of. elim (last_or log (labels.Began call op end details) before hold behind is) [
         | inl here ↦ absurd (subst (λ (l : Label). IsHoldOf l call k r) (sym here.1) of)
         | inr there ↦ (let below = hold_below log run before there.0 hold call k r there.1 of in absurd (omega (arith, below, number)))
@@ -154,9 +157,14 @@ module _ (log : List Label) (inv : Invariant (last log)) (s : CallState) (held :
             (record { before = log; behind = []; hold = l_of verbs.Hold (Some j) (Some q) words.Ok; node = q; log_is = refl; hold_is = (sym call_is, refl, refl); held = active }));
       }
 
+  -- it asks for nothing else
+  no_ask : (ask : Ask) → asked s.op ≡ ask → (asks.SetActive place ≡ ask → ⊥) → ⊥
+  no_ask ask is other = other (sym asks_is ∙ is)
+
   sets_by : (verb : Verb) (j q : Option ℕ) (reply : StepReply) → IsOnOwn verb j s.kept.ckpt → Row m s verb (t_of verb j q reply) → SetsBy verb j q reply
   sets_by verbs.Hold (Some j) (Some q) words.Ok own row = holds_by j q own row
-  sets_by verbs.Pull j q reply own row = absurd (at_node j q _ row.0 (λ k r p. let w = sym asks_is ∙ p.2 in cc w))
+  sets_by verbs.Pull j q reply own row = absurd (at_node j q _ row.0 (λ k r p. elim p [ inl sync ↦ no_ask _ sync.2 (λ w. cc w) | inr copy ↦ no_ask _ copy.0 (λ w. cc w) ]))
+  sets_by verbs.Reserve j q reply own row = absurd (at_node j q _ row.0 (λ k r p. elim p [ inl making ↦ no_ask _ making.2.asks (λ w. cc w) | inr copy ↦ no_ask _ copy.0 (λ w. cc w) ]))
   sets_by verb j q reply own row = stays_by verb j q reply row (λ k r of. of) refl
 
 -- ---- in every state of a run
@@ -169,7 +177,7 @@ module _ (log : List Label) (run : IsRun log) (all : AllSetting log (last log)) 
   after_setting : (l : Label) → Allowed (last log) l → IsDue (last log) l → AllSetting (log ++ l ∷ []) (after (last log) l)
   after_setting (labels.Began call op end details) allowed due z held place is =
       elim (put_who-cases (last log).in_hand (stepped_as call (word_of_op op)) (call_begun end call op (first_kept (last log) call op)) (who z) z held) [
-        | inl own ↦ begins_setting log run call op end details z due.number own.1
+        | inl own ↦ begins_setting log run call op end details z due.number due.asker own.1 place is
         | inr other ↦ other_setting (labels.Began call op end details) (last log).cluster z other.1 place is refl (λ k r of. of)
       ]
   after_setting (labels.Stepped call op verb j q reply end details) allowed due z in_hand place is =
@@ -188,7 +196,10 @@ module _ (log : List Label) (run : IsRun log) (all : AllSetting log (last log)) 
         | inl here ↦ (
             let it : behind ≡ z = left_is end behind z here.1 in
             let asks_own : asked s.op ≡ asks.SetActive place = ap (λ (z : CallState). asked z.op) it ∙ is in
-            subst (λ (z : CallState). IsSettingOf (log ++ l ∷ []) n.cluster z.call z.kept z.snapshot) it (sets_by log inv s held place asks_own (all s held place asks_own) call due.call_is op end details verb j q reply own row))
+            let kept_is : kept_by (last log) s verb j reply ≡ s.kept = kept_still (last log) s verb j reply (subst IsCopyAsk asks_own) in
+            subst (λ (z : CallState). IsSettingOf (log ++ l ∷ []) n.cluster z.call z.kept z.snapshot) it
+            (subst (λ kept. IsSettingOf (log ++ l ∷ []) n.cluster s.call kept (pulled_by (last log) s verb j q reply)) (sym kept_is)
+            (sets_by log inv s held place asks_own (all s held place asks_own) call due.call_is op end details verb j q reply own row)))
         | inr other ↦ (
             let was : (last log).in_hand (who z) ≡ Some z = (follows (last log) inv history s held t row).in_hand (who z) z other.1 in
             let no_hold : (k r : ℕ) → IsHoldOf l z.call k r → ⊥ = λ k r of.
@@ -198,8 +209,11 @@ module _ (log : List Label) (run : IsRun log) (all : AllSetting log (last log)) 
             longer log l (last log).cluster n.cluster z.call z.kept z.snapshot no_hold (client_stays (last log) inv s held z was (asks.SetActive place) is (awaits_setting place) end details verb j q reply row) (all z was place is))
       ])
   after_setting l allowed due z held place is =
-      let still = quiet (last log) (run_history log run).0 l tt due in
-      other_setting l (after (last log) l).cluster z (still.held (who z) z held) place is (still.client (who z) z held) (λ k r of. of)
+      let inv = (run_history log run).0 in
+      let still = quiet (last log) inv l tt due in
+      let was : (last log).in_hand (who z) ≡ Some z = still.held (who z) z held in
+      let client : IsClient z.call.actor = asker_client z.call.actor (asked z.op) (inv.holds.hands (who z) z was).asker (subst IsCopyAsk is) in
+      other_setting l (after (last log) l).cluster z was place is (still.client (who z) z held client) (λ k r of. of)
 
 -- so in a run
 pub all_setting : (log : List Label) → IsRun log → AllSetting log (last log)

@@ -12,7 +12,7 @@ use Rattle.cluster_record.specs.declared.calls.UpdatePhase.TheVariants.{Staging,
 use Rattle.cluster_record.specs.DueUpdate.{UpdateState}
 use Rattle.ckpt_machine.specs.Due.{driver_of}
 use Rattle.ckpt_machine.specs.Dead.{IsDead}
-use Rattle.ckpt_machine.specs.Drivers as drivers
+use Rattle.ckpt_machine.specs.Drivers.{update_in}
 use Rattle.ckpt_machine.specs.Invariant.{IsGoodIn, InvariantIn, Invariant}
 use Rattle.ckpt_machine.specs.Machine.{Machine, Staged, ReplicaState, who, CallState}
 use Rattle.ckpt_machine.specs.Shape.{Shape, IsCompleteOn, IsShapedBy, IsOwner, IsMarker, IsSpread, slot_by, marks_at, IsLeft, PhaseFits}
@@ -20,13 +20,13 @@ use Rattle.ckpt_machine.proofs.Follows.{IsBare, IsIncomplete}
 use Rattle.ckpt_machine.proofs.OptionLemmas.{IsSomeAnd-at}
 use Rattle.ckpt_types.proofs.Lists.{slice_index-replicate}
 
--- the call is in hand, an update on all replicas
+-- the call is in hand, and does an update on all replicas
 pub record IsUpdater (m : Machine) (call : CallId) : Type 0 where
   pub state : CallState
   pub in_hand : m.in_hand (who state) ≡ Some state
   pub call_is : state.call ≡ call
   pub driver : UpdateState
-  pub driver_is : driver_of state ≡ drivers.Update driver
+  pub driver_is : update_in (driver_of state) ≡ Some driver
 
 -- on no node is complete what is in the making
 pub maker_incomplete : (m : Machine) → Invariant m → (call : CallId) (k r : ℕ) (e : Entry) → entry_of k m.cluster.entries ≡ Some e → e.making ≡ Some call → IsIncomplete e r

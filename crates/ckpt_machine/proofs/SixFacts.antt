@@ -14,11 +14,11 @@ use Rattle.cluster_record.specs.Placement.{is_all}
 use Rattle.cluster_record.specs.RecordState.{entry_of, is_live}
 use Rattle.cluster_record.specs.StepDone.{has}
 use Rattle.ckpt_machine.specs.After.{effect_of}
-use Rattle.ckpt_machine.specs.Dead.{IsDead, is_enter}
-use Rattle.ckpt_machine.specs.Drivers as drivers
+use Rattle.ckpt_machine.specs.Dead.{IsDead}
+use Rattle.ckpt_machine.specs.Drivers.{update_in}
 use Rattle.ckpt_machine.specs.Due.{driver_of}
 use Rattle.ckpt_machine.specs.GuardTerms.{owns_slot}
-use Rattle.ckpt_machine.specs.InHand.{IsInPlace, IsUpdateIn, IsDoneIn, PhaseKeeps}
+use Rattle.ckpt_machine.specs.InHand.{IsUpdateIn, IsDoneIn, PhaseKeeps}
 use Rattle.ckpt_machine.specs.Invariant.{InvariantIn, Invariant, IsGoodIn}
 use Rattle.ckpt_machine.specs.Machine.{Machine, Applied, Staged, ReplicaState, CallState, who}
 use Rattle.ckpt_machine.specs.Owned.{HasUpdate}
@@ -28,6 +28,7 @@ use Rattle.ckpt_machine.proofs.AllOrNone.{all_or_none}
 use Rattle.ckpt_machine.proofs.NodeLists.{trichotomy}
 use Rattle.ckpt_machine.proofs.OptionLemmas.{IsSomeAnd-at}
 use Rattle.ckpt_machine.proofs.Owning.{is_owner-here}
+use Rattle.ckpt_machine.proofs.UpdateIn.{no_enter, update_there}
 use Rattle.ckpt_machine.proofs.Stage.{effects-undone}
 
 module _ (m : Machine) (invariant : Invariant m) (k : ℕ) (e : Entry) (found : entry_of k m.cluster.entries ≡ Some e) (made : e.making ≡ None) (all : is_all e.attributes ≡ true) where
@@ -90,13 +91,13 @@ module _ (m : Machine) (invariant : Invariant m) (k : ℕ) (e : Entry) (found : 
     own_name = ap m.in_hand (inv.hands here.name s here.in_hand).whose ∙ here.in_hand
 
     live : is_live m.cluster s.call ≡ true
-    live = (inv.hands here.name s here.in_hand).live (ap is_enter here.driver)
-
-    at : IsUpdateIn m shapes s u
-    at = subst (IsInPlace m shapes s) here.driver (inv.hands here.name s here.in_hand).here
+    live = (inv.hands here.name s here.in_hand).live (no_enter (driver_of s) u here.driver)
 
     found_at : entry_of u.ckpt m.cluster.entries ≡ Some e
     found_at = ap (λ j. entry_of j m.cluster.entries) here.ckpt ∙ found
+
+    at : IsUpdateIn m shapes s u
+    at = update_there m shapes s (driver_of s) u (inv.hands here.name s here.in_hand).here here.driver e found_at all
 
     mine : (r : ℕ) (x : ReplicaState) → Has m k e r x → owns_slot s.call x.slot ≡ has (slice_index e.complete r) (slice_index u.owned r)
     mine r x there = owns_is s.call r x there ∙ sym (at.owns e found_at r there.complete ∙ ap (λ j. is_owner s.call ((shapes j).owners r)) here.ckpt)
@@ -106,8 +107,7 @@ module _ (m : Machine) (invariant : Invariant m) (k : ℕ) (e : Entry) (found : 
     fits r owns = elim (was.owned r s.call owns) [
       | inl own ↦ (
           let state : own.state ≡ s = same_Some own.state s (sym own.in_hand ∙ ap m.in_hand (inv.calls.one_name (who own.state) (who s) own.state s own.in_hand own_name own.call_is) ∙ own_name) in
-          let drivers_same : drivers.Update own.driver ≡ drivers.Update u = sym own.driver_is ∙ ap driver_of state ∙ here.driver in
-          let driver : own.driver ≡ u = cc drivers_same in
+          let driver : own.driver ≡ u = same_Some own.driver u (sym own.driver_is ∙ ap (λ y. update_in (driver_of y)) state ∙ here.driver) in
           subst (λ v. PhaseFits m z s v v.phase) driver (subst (λ y. PhaseFits m z y own.driver own.driver.phase) state own.phase))
       | inr dead ↦ absurd (let w : true ≡ false = sym live ∙ dead.0.gone in cc w)
     ]

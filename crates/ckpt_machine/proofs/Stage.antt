@@ -1,5 +1,5 @@
 -- A stage at the lowest complete node that the call lacks, where no slot stands.
-use Rattle.std.proofs.Common.{◌≡◌, ◌≢◌, ◌⊎◌, ℕ, ◌<◌, inl, inr, List, [], ◌∷◌, ◌++◌, length, Option, Some, None, is_some, true, false, cond, ◌==◌, ◌&&◌, Ok, ℤ, refl, sym, ap, subst, ◌∙◌, arith}
+use Rattle.std.proofs.Common.{◌≡◌, ◌≢◌, ◌⊎◌, ℕ, ◌<◌, ◌≤◌, inl, inr, List, [], ◌∷◌, ◌++◌, length, Option, Some, None, is_some, true, false, cond, ◌==◌, ◌&&◌, Ok, ℤ, refl, sym, ap, subst, ◌∙◌, arith}
 use Rattle.std.specs.Prelude.{IsSomeAnd, slice_index, slice_set, is_ok}
 use Rattle.std.proofs.lemmas.Bool.{eqb-true, eq-eqb}
 use Rattle.std.proofs.lemmas.Option.{same_Some}
@@ -16,11 +16,10 @@ use Rattle.cluster_record.specs.StepDone.{StepDone, done_of, has, lacks, last_ha
 use Rattle.node_msgs.specs.declared.steps.Verb.TheVariants as verbs
 use Rattle.node_msgs.specs.declared.steps.StepReply.TheVariants as words
 use Rattle.ckpt_machine.specs.Dead.{is_enter}
-use Rattle.ckpt_machine.specs.Drivers as drivers
-use Rattle.ckpt_machine.specs.Driving.{driver_taken}
+use Rattle.ckpt_machine.specs.Drivers.{update_in}
 use Rattle.ckpt_machine.specs.GuardTerms.{IfSlot}
 use Rattle.ckpt_machine.specs.UpdateGuards.{StageOk}
-use Rattle.ckpt_machine.specs.InHand.{IsInPlace, IsDoneIn, IsInHand}
+use Rattle.ckpt_machine.specs.InHand.{IsDoneIn, IsToCommit, IsUpdateIn, IsInHand}
 use Rattle.ckpt_machine.specs.Invariant.{InvariantIn, Invariant}
 use Rattle.ckpt_machine.specs.Machine.{Machine, Applied, ReplicaState, CallState, who}
 use Rattle.ckpt_machine.specs.Owned.{HasUpdate}
@@ -29,13 +28,14 @@ use Rattle.ckpt_machine.specs.Due.{driver_of}
 use Rattle.ckpt_machine.specs.After.{with_slot, staged_moment}
 use Rattle.ckpt_machine.specs.Whose.{put_who}
 use Rattle.ckpt_machine.proofs.Actors.{same_call-refl}
-use Rattle.ckpt_machine.proofs.CallsKept.{IsSameCall, same_call-Some}
+use Rattle.ckpt_machine.proofs.BehindStep.{IsBehind, IsPlacedBehind, does_then, same_then, plain_then, set_within, set_no_later, update_then, hand_then}
+use Rattle.ckpt_machine.proofs.CallsKept.{IsSameCall}
 use Rattle.ckpt_machine.proofs.NodeLists.{index-set, index-other, length-slice_set, index-within, has-itself, had-there, not-lacked}
 use Rattle.ckpt_machine.proofs.Whose.{put_who-here}
-use Rattle.ckpt_machine.proofs.Frame.{IsMarker-still, step_keeps}
+use Rattle.ckpt_machine.proofs.Frame.{OwnsAll, LiesSame, IsMarker-still, step_keeps}
 use Rattle.ckpt_machine.proofs.OnComplete.{IfSome-more, on_complete}
 use Rattle.ckpt_machine.proofs.OnComplete.{put_complete}
-use Rattle.ckpt_machine.proofs.Owning.{at, spread, made, is_owner-not, owns_had, own_phase, own_owner, all_is, never_held}
+use Rattle.ckpt_machine.proofs.Owning.{spread, made, is_owner-not, owns_had, own_phase, own_owner, all_is, never_held}
 use Rattle.ckpt_machine.proofs.StagedMoment.{none_owned, moment_first, moment_later}
 
 -- the shape is of the call's own update, which has an outcome, and which no replica has
@@ -62,17 +62,17 @@ pub IsShaped-owners : (z : Shape) (f : ℕ → Option CallId) (o : Option CallId
 IsShaped-owners z f None x is = record { slot = is.slot; sections = is.sections; effects = is.effects; unmarked = is.unmarked }
 IsShaped-owners z f (Some d) x is = record { slot = is.slot; sections = is.sections; effects = is.effects; unmarked = is.unmarked }
 
-module _ (m : Machine) (shapes : ℕ → Shape) (inv : InvariantIn shapes m) (s : CallState) (u : UpdateState) (held : m.in_hand (who s) ≡ Some s) (is : driver_of s ≡ drivers.Update u)
+module _ (m : Machine) (shapes : ℕ → Shape) (inv : InvariantIn shapes m) (s : CallState) (u : UpdateState) (held : m.in_hand (who s) ≡ Some s) (is : update_in (driver_of s) ≡ Some u) (at : IsUpdateIn m shapes s u)
     (e : Entry) (found : entry_of u.ckpt m.cluster.entries ≡ Some e) (r : ℕ) (full_r : IsCompleteOn e r) (before : (q : ℕ) → q < r → lacks (slice_index e.complete q) (slice_index u.owned q) ≡ false) (free : (shapes u.ckpt).owners r ≡ None) where
   abbrev z : Shape
   z = shapes u.ckpt
 
   abbrev was : IsSpread m u.ckpt z e
-  was = spread m shapes inv s u held is e found
+  was = spread m shapes inv s u held is at e found
 
   -- below it all is its own
   own_under : (q : ℕ) → q < r → IsCompleteOn e q → z.owners q ≡ Some s.call
-  own_under q below there = owns_had m shapes inv s u held is e found q there (not-lacked (slice_index e.complete q) (slice_index u.owned q) there (before q below))
+  own_under q below there = owns_had m shapes inv s u held is at e found q there (not-lacked (slice_index e.complete q) (slice_index u.owned q) there (before q below))
 
   module _ (w : Shape) (t : ℤ) (stages : Stages w z s t e) (mom : staged_moment m u.ckpt ≡ t) (moment_is : kept_moment (last_having 0 e.complete u.owned) m.cluster.moment u.moment ≡ t)
       (shaped_w : (q : ℕ) → IsCompleteOn e q → IsSomeAnd (m.replicas u.ckpt q) (IsShaped w (z.owners q))) (under_w : (y : CallState) → HasUpdate y.call (update_of y.op) (effects_by z None) → HasUpdate y.call (update_of y.op) w.effects)
@@ -120,17 +120,28 @@ module _ (m : Machine) (shapes : ℕ → Shape) (inv : InvariantIn shapes m) (s 
     abbrev pub n : Machine
     n = record m { replicas = then_replicas; in_hand = put_who m.in_hand (who s) (Some then_state) }
 
-    driver_then : driver_of then_state ≡ drivers.Update then_driver
-    driver_then =
-        ap (driver_taken stage_done) is
-        ∙ ap (λ o. drivers.Update (record u { owned = slice_set u.owned r (slice_index (complete_of o) r); moment = kept_moment (last_having 0 (complete_of o) u.owned) m.cluster.moment u.moment; phase = Staging })) found
-        ∙ ap (λ i. drivers.Update (record u { owned = slice_set u.owned r (slice_index e.complete r); moment = i; phase = Staging })) moment_is
+    then_is : IsBehind s u then_state then_driver
+    then_is = record {
+      step = stage_done;
+      of = tt;
+      call = refl;
+      op = refl;
+      kept = refl;
+      begun = refl;
+      steps = refl;
+      update =
+          ap (λ o. record u { owned = slice_set u.owned r (slice_index (complete_of o) r); moment = kept_moment (last_having 0 (complete_of o) u.owned) m.cluster.moment u.moment; phase = Staging }) found
+          ∙ ap (λ i. record u { owned = slice_set u.owned r (slice_index e.complete r); moment = i; phase = Staging }) moment_is;
+    }
 
-    abbrev same_then : IsSameCall s (Some then_state)
-    same_then = same_call-Some s then_state refl refl
+    driver_then : update_in (driver_of then_state) ≡ Some then_driver
+    driver_then = does_then m shapes s u is then_state then_driver then_is
 
-    plain_then : (y : CallState) → Some then_state ≡ Some y → is_enter (driver_of y) ≡ false
-    plain_then y it = ap (λ (c : CallState). is_enter (driver_of c)) (sym (same_Some then_state y it)) ∙ ap is_enter driver_then
+    same_state : IsSameCall s (Some then_state)
+    same_state = same_then m shapes s u is then_state then_driver then_is
+
+    plain : (y : CallState) → Some then_state ≡ Some y → is_enter (driver_of y) ≡ false
+    plain = plain_then m shapes s u is then_state then_driver then_is
 
     owner_cases : (q : ℕ) (c : CallId) → staged.owners q ≡ Some c → ((q ≡ r) ⊎ (((q == r) ≡ false) × (z.owners q ≡ Some c))) × (c ≡ s.call)
     owner_cases q c has_it = elim (q == r) as (λ b. (q == r) ≡ b → cond b (Some s.call) (z.owners q) ≡ Some c → ((q ≡ r) ⊎ ((b ≡ false) × (z.owners q ≡ Some c))) × (c ≡ s.call)) [
@@ -182,13 +193,14 @@ module _ (m : Machine) (shapes : ℕ → Shape) (inv : InvariantIn shapes m) (s 
 
     spread_then : IsSpread n u.ckpt staged e
     spread_then = record {
+      well_formed = was.well_formed;
       nodes = was.nodes;
       some = was.some;
       up = was.up;
       active = was.active;
-      replicas = λ q full. subst (λ b. IsSomeAnd (then_replicas u.ckpt q) (IsShapedBy b staged e.active q)) (sym (all_is m shapes inv s u held is e found)) (shaped_then q full);
+      replicas = λ q full. subst (λ b. IsSomeAnd (then_replicas u.ckpt q) (IsShapedBy b staged e.active q)) (sym (all_is m shapes inv s u held is at e found)) (shaped_then q full);
       fits = λ q c has_it. (λ i. outcome e.attributes (stages.update i) (stages.moment i) w.sections) ∙ stages.gives;
-      all = λ q c has_it. all_is m shapes inv s u held is e found;
+      all = λ q c has_it. all_is m shapes inv s u held is at e found;
       complete = λ q c has_it. elim (owner_cases q c has_it).0 [
         | inl here ↦ subst (IsCompleteOn e) (sym here) full_r
         | inr it ↦ was.complete q c it.1
@@ -197,8 +209,8 @@ module _ (m : Machine) (shapes : ℕ → Shape) (inv : InvariantIn shapes m) (s 
       first = λ q p c below full has_it own. own_below q p c below full has_it ∙ ap Some (sym (owner_cases p c has_it).1);
       owned = λ q c has_it. inl (subst (IsOwner n u.ckpt staged) (sym (owner_cases q c has_it).1) owner_then);
       led = λ marks it. was.led marks (sym stages.marks ∙ it);
-      marked = λ marks it. IsMarker-still m shapes inv s u held is then_replicas (Some then_state) same_then plain_then u.ckpt marks (was.marked marks (sym stages.marks ∙ it));
-      held = λ c it. absurd (never_held m shapes inv s u held is e found c it);
+      marked = λ marks it. IsMarker-still m shapes inv s u held is then_replicas (Some then_state) same_state plain u.ckpt marks (was.marked marks (sym stages.marks ∙ it));
+      held = λ c it. absurd (never_held m shapes inv s u held is at e found c it);
     }
 
     stays : (j q : ℕ) → (j == u.ckpt) ≡ false → then_replicas j q ≡ m.replicas j q
@@ -222,46 +234,35 @@ module _ (m : Machine) (shapes : ℕ → Shape) (inv : InvariantIn shapes m) (s 
     owns_then : (q : ℕ) → IsCompleteOn e q → has (slice_index e.complete q) (slice_index (slice_set u.owned r (slice_index e.complete r)) q) ≡ is_owner s.call (staged.owners q)
     owns_then q full = elim (q == r) as (λ b. (q == r) ≡ b → has (slice_index e.complete q) (slice_index (slice_set u.owned r (slice_index e.complete r)) q) ≡ is_owner s.call (cond b (Some s.call) (z.owners q))) [
       | true ↦ λ same.
-          let within : r < length u.owned = subst (λ (i : ℕ). r < i) (was.nodes ∙ sym (at m shapes inv s u held is).nodes) (index-within e.complete r full_r) in
+          let within : r < length u.owned = subst (λ (i : ℕ). r < i) (was.nodes ∙ sym at.nodes) (index-within e.complete r full_r) in
           subst (λ (p : ℕ). has (slice_index e.complete p) (slice_index (slice_set u.owned r (slice_index e.complete r)) p) ≡ is_owner s.call (Some s.call)) (sym (eqb-true q r same))
           (ap (has (slice_index e.complete r)) (index-set u.owned r (slice_index e.complete r) within) ∙ has-itself (slice_index e.complete r) full_r ∙ sym (same_call-refl s.call))
-      | false ↦ λ other. ap (has (slice_index e.complete q)) (index-other u.owned r q (slice_index e.complete r) other) ∙ (at m shapes inv s u held is).owns e found q full
+      | false ↦ λ other. ap (has (slice_index e.complete q)) (index-other u.owned r q (slice_index e.complete r) other) ∙ at.owns e found q full
     ] refl
 
-    hand_then : IsInHand n then_shapes (who s) then_state
-    hand_then =
-        let hand = inv.hands (who s) s held in
-        let it = at m shapes inv s u held is in
-        record {
-          whose = refl;
-          client = hand.client;
-          number = hand.number;
-          built = hand.built;
-          driven = hand.driven;
-          live = λ other. hand.live (ap is_enter is);
-          home = λ other. hand.home (ap is_enter is);
-          here = subst (IsInPlace n then_shapes then_state) (sym driver_then) (record {
-            call = it.call;
-            place = it.place;
-            update = it.update;
-            asks = it.asks;
-            kept = it.kept;
-            made = it.made;
-            all = it.all;
-            nodes = length-slice_set u.owned r (slice_index e.complete r) ∙ it.nodes;
-            owns = λ f f_found q full. subst (λ b. has (slice_index f.complete q) (slice_index (slice_set u.owned r (slice_index e.complete r)) q) ≡ is_owner s.call ((cond b staged (shapes u.ckpt)).owners q)) (sym (eq-eqb u.ckpt u.ckpt refl))
-                (subst (λ (g : Entry). IsCompleteOn g q → has (slice_index g.complete q) (slice_index (slice_set u.owned r (slice_index e.complete r)) q) ≡ is_owner s.call (staged.owners q)) (same_Some e f (sym found ∙ f_found)) (owns_then q) full);
-            keeps = λ f f_found. tt;
-          });
-        }
+    within_r : r < length u.owned
+    within_r = subst (λ (i : ℕ). r < i) (was.nodes ∙ sym at.nodes) (index-within e.complete r full_r)
+
+    -- no other call owns the slot of each complete node, since that of this one is free
+    none_under : (c : CallId) → is_live m.cluster c ≡ true → c ≢ s.call → (f : Entry) → entry_of u.ckpt m.cluster.entries ≡ Some f → OwnsAll z f c → LiesSame staged z
+    none_under c live other f f_found owns = absurd (let w : None ≡ Some c = sym free ∙ owns r (subst (λ (g : Entry). IsCompleteOn g r) (same_Some e f (sym found ∙ f_found)) full_r) in cc w)
+
+    own_then : IsPlacedBehind m shapes s u → (IsToCommit z s.call e u.phase → ⊥) → IsInHand n then_shapes (who s) then_state
+    own_then placed apart = hand_then m shapes s u is then_state then_driver then_is at then_replicas n.in_hand staged (inv.hands (who s) s held) placed
+        (λ f f_found. inr (λ it. cc it, subst (λ (g : Entry). IsToCommit z s.call g u.phase → ⊥) (same_Some e f (sym found ∙ f_found)) apart))
+        (update_then m shapes s u is then_state then_driver then_is at then_replicas n.in_hand staged refl refl (length-slice_set u.owned r (slice_index e.complete r))
+        (λ f f_found q full. subst (λ (g : Entry). IsCompleteOn g q → has (slice_index g.complete q) (slice_index (slice_set u.owned r (slice_index e.complete r)) q) ≡ is_owner s.call (staged.owners q)) (same_Some e f (sym found ∙ f_found)) (owns_then q) full)
+        (λ f f_found. tt)
+        (λ f q f_found. set_within m shapes s u at r (slice_index e.complete r) within_r f f_found (inr (subst (λ (g : Entry). IsCompleteOn g r) (same_Some e f (sym found ∙ f_found)) full_r)) q)
+        (set_no_later m shapes s u at r (slice_index e.complete r) within_r (subst (λ (i : ℕ). i ≤ slice_index m.cluster.last_incarnations r) (was.up r full_r) (inv.incarnations.no_later r))))
 
     -- the invariant holds after it
-    pub stage_keeps : Invariant n
-    stage_keeps = record {
+    pub stage_keeps : IsPlacedBehind m shapes s u → (IsToCommit z s.call e u.phase → ⊥) → Invariant n
+    stage_keeps placed apart = record {
       shapes = then_shapes;
-      holds = step_keeps m shapes inv s u held is then_replicas (Some then_state) same_then plain_then stays staged stages.marks owners_same done_still
-          (λ f f_found. (made m shapes inv s u held is f f_found, subst (IsSpread n u.ckpt staged) (same_Some e f (sym found ∙ f_found)) spread_then))
-          (λ y it. subst (IsInHand n then_shapes (who s)) (same_Some then_state y it) hand_then)
+      holds = step_keeps m shapes inv s u held is then_replicas (Some then_state) same_state plain stays staged stages.marks owners_same done_still none_under
+          (λ f f_found. (made m shapes inv s u held is at f f_found, subst (IsSpread n u.ckpt staged) (same_Some e f (sym found ∙ f_found)) spread_then))
+          (λ y it. subst (IsInHand n then_shapes (who s)) (same_Some then_state y it) (own_then placed apart))
           (put_complete m.cluster m.replicas u.ckpt r with_stage (inv.replicas u.ckpt r x there) inv.replicas);
     }
 
@@ -272,7 +273,7 @@ module _ (m : Machine) (shapes : ℕ → Shape) (inv : InvariantIn shapes m) (s 
     adopted = record { owners = z.owners; origin = s.call; update = update_of s.op; moment = m.cluster.moment; sections = sections_by z None; effects = effects_by z None; outcome = sections; done = false; marks = z.marks }
 
     nobody : (q : ℕ) → z.owners q ≡ None
-    nobody = none_owned m shapes inv s u held is e found r full_r before none free
+    nobody = none_owned m shapes inv s u held is at e found r full_r before none free
 
     pub adopts : Stages adopted z s m.cluster.moment e
     adopts = record { owners = refl; marks = refl; origin = refl; update = refl; moment = refl; undone = refl; alone = λ q c owns. absurd (let v : None ≡ Some c = sym (nobody q) ∙ owns in cc v); gives = ap (outcome e.attributes (update_of s.op) m.cluster.moment) (sym shaped.sections) ∙ gives }
@@ -281,14 +282,14 @@ module _ (m : Machine) (shapes : ℕ → Shape) (inv : InvariantIn shapes m) (s 
     adopted_none y it = record { slot = it.slot; sections = it.sections; effects = it.effects; unmarked = it.unmarked }
 
     pub adopted_at : (q : ℕ) → IsCompleteOn e q → IsSomeAnd (m.replicas u.ckpt q) (IsShaped adopted (z.owners q))
-    adopted_at q full = each (m.replicas u.ckpt q) (subst (λ b. IsSomeAnd (m.replicas u.ckpt q) (IsShapedBy b z e.active q)) (all_is m shapes inv s u held is e found) (was.replicas q full))
+    adopted_at q full = each (m.replicas u.ckpt q) (subst (λ b. IsSomeAnd (m.replicas u.ckpt q) (IsShapedBy b z e.active q)) (all_is m shapes inv s u held is at e found) (was.replicas q full))
       where
         each : (o : Option ReplicaState) → IsSomeAnd o (IsShaped z (z.owners q)) → IsSomeAnd o (IsShaped adopted (z.owners q))
         each None is = absurd is
         each (Some y) is = subst (λ o. IsShaped adopted o y) (sym (nobody q)) (adopted_none y (subst (λ o. IsShaped z o y) (nobody q) is))
 
     pub mom_first : staged_moment m u.ckpt ≡ m.cluster.moment
-    mom_first = moment_first m shapes inv s u held is e found r full_r before none free
+    mom_first = moment_first m shapes inv s u held is at e found r full_r before none free
 
     pub kept_first : kept_moment (last_having 0 e.complete u.owned) m.cluster.moment u.moment ≡ m.cluster.moment
     kept_first = ap (λ o. kept_moment o m.cluster.moment u.moment) none
@@ -296,26 +297,26 @@ module _ (m : Machine) (shapes : ℕ → Shape) (inv : InvariantIn shapes m) (s 
     pub first_stage_ok : StageOk m s.call (update_of s.op) u.ckpt e x
     first_stage_ok = stage_ok adopted m.cluster.moment adopts mom_first kept_first adopted_at (λ y it. it) x there (adopted_none x shaped)
 
-    pub first_stage_keeps : Invariant (n adopted m.cluster.moment adopts mom_first kept_first adopted_at (λ y it. it) x there (adopted_none x shaped))
+    pub first_stage_keeps : IsPlacedBehind m shapes s u → (IsToCommit z s.call e u.phase → ⊥) → Invariant (n adopted m.cluster.moment adopts mom_first kept_first adopted_at (λ y it. it) x there (adopted_none x shaped))
     first_stage_keeps = stage_keeps adopted m.cluster.moment adopts mom_first kept_first adopted_at (λ y it. it) x there (adopted_none x shaped)
 
   -- ---- THE LAW OF A LATER STAGE
 
   module _ (staging : u.phase ≡ Staging) (p : ℕ) (some : last_having 0 e.complete u.owned ≡ Some p) (had : has (slice_index e.complete p) (slice_index u.owned p) ≡ true) (x : ReplicaState) (there : m.replicas u.ckpt r ≡ Some x) (shaped : IsShaped z None x) where
     owner_p : z.owners p ≡ Some s.call
-    owner_p = owns_had m shapes inv s u held is e found p (had-there (slice_index e.complete p) (slice_index u.owned p) had) had
+    owner_p = owns_had m shapes inv s u held is at e found p (had-there (slice_index e.complete p) (slice_index u.owned p) had) had
 
     fits_p : IsStaging z s u
-    fits_p = subst (PhaseFits m z s u) staging (own_phase m shapes inv s u held is e found (own_owner m shapes inv s u held is e found p owner_p))
+    fits_p = subst (PhaseFits m z s u) staging (own_phase m shapes inv s u held is at e found (own_owner m shapes inv s u held is at e found p owner_p))
 
     pub stages_p : Stages z z s u.moment e
     stages_p = record { owners = refl; marks = refl; origin = fits_p.origin; update = fits_p.update; moment = fits_p.moment; undone = fits_p.undone; alone = fits_p.alone; gives = (λ i. outcome e.attributes (sym fits_p.update i) (sym fits_p.moment i) z.sections) ∙ was.fits p s.call owner_p }
 
     pub shaped_z : (q : ℕ) → IsCompleteOn e q → IsSomeAnd (m.replicas u.ckpt q) (IsShaped z (z.owners q))
-    shaped_z q full = subst (λ b. IsSomeAnd (m.replicas u.ckpt q) (IsShapedBy b z e.active q)) (all_is m shapes inv s u held is e found) (was.replicas q full)
+    shaped_z q full = subst (λ b. IsSomeAnd (m.replicas u.ckpt q) (IsShapedBy b z e.active q)) (all_is m shapes inv s u held is at e found) (was.replicas q full)
 
     pub mom_later : staged_moment m u.ckpt ≡ u.moment
-    mom_later = moment_later m shapes inv s u held is e found staging p had
+    mom_later = moment_later m shapes inv s u held is at e found staging p had
 
     pub kept_later : kept_moment (last_having 0 e.complete u.owned) m.cluster.moment u.moment ≡ u.moment
     kept_later = ap (λ o. kept_moment o m.cluster.moment u.moment) some
@@ -326,5 +327,5 @@ module _ (m : Machine) (shapes : ℕ → Shape) (inv : InvariantIn shapes m) (s 
     pub later_stage_ok : StageOk m s.call (update_of s.op) u.ckpt e x
     later_stage_ok = stage_ok z u.moment stages_p mom_later kept_later shaped_z under_z x there shaped
 
-    pub later_stage_keeps : Invariant (n z u.moment stages_p mom_later kept_later shaped_z under_z x there shaped)
+    pub later_stage_keeps : IsPlacedBehind m shapes s u → (IsToCommit z s.call e u.phase → ⊥) → Invariant (n z u.moment stages_p mom_later kept_later shaped_z under_z x there shaped)
     later_stage_keeps = stage_keeps z u.moment stages_p mom_later kept_later shaped_z under_z x there shaped

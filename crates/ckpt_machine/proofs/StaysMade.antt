@@ -83,12 +83,11 @@ StaysMade-then e f g first second = record {
 
 -- ---- what a checkpoint keeps that may get another active
 
--- it is made, of no lower generation; while this stays its active is the one that it was; and it is on no further node, where it is not collocated
+-- it is made, of no lower generation; and while this stays its active is the one that it was
 pub record IsMadeFrom (e f : Entry) : Type 0 where
   pub made : f.making ≡ None
   pub generation : e.generation ≤ f.generation
   pub active : f.generation ≡ e.generation → f.active ≡ e.active
-  pub placed : is_collocated e.attributes ≡ false → (r : ℕ) → IsCompleteOn f r → IsCompleteOn e r
 
 -- where it is made it is such a one; and it declares the same, and is of the same moment
 pub record GoesOnMade (e f : Entry) : Type 0 where
@@ -105,11 +104,16 @@ StaysMade-goes e f stays = record {
         made = still.made;
         generation = (let same = still.generation in omega (arith, same));
         active = λ same. still.active;
-        placed = λ apart r there. subst (λ (nodes : List ℕ). (slice_index nodes r == 0) ≡ false) (still.complete apart) there;
       };
   attributes = stays.attributes;
   since = stays.since;
 }
+
+-- what was made is made still, declares the same, and is complete on the nodes on which it was, but for those that are gone
+pub record RemainsBut (Gone : ℕ → Type 0) (e f : Entry) : Type 0 where
+  pub made : e.making ≡ None → f.making ≡ None
+  pub attributes : f.attributes ≡ e.attributes
+  pub complete : (r : ℕ) → (Gone r → ⊥) → IsCompleteOn e r → IsCompleteOn f r
 
 -- as each does that stays as it is
 pub GoesOnMade-same : (e : Entry) → GoesOnMade e e

@@ -19,6 +19,7 @@ use Rattle.node_msgs.specs.declared.next.RecordStep.{RecordStep}
 use Rattle.node_msgs.specs.declared.next.RecordStep.TheVariants as events
 use Rattle.node_msgs.specs.declared.replies.Reply.{Reply}
 use Rattle.node_msgs.specs.declared.replies.Reply.TheVariants as replies
+use Rattle.node_msgs.specs.declared.steps.StepReply.{StepReply}
 use Rattle.node_msgs.specs.declared.steps.StepReply.TheVariants as words
 use Rattle.node_msgs.specs.Steps.{event_verb}
 use Rattle.cluster_record.specs.declared.calls.Making.{Making}
@@ -28,6 +29,9 @@ use Rattle.cluster_record.specs.declared.calls.SyncKind.TheVariants.{Synchronize
 use Rattle.cluster_record.specs.declared.entries.Entry.{Entry}
 use Rattle.cluster_record.specs.declared.opening.OpenAnswer.TheVariants as opening
 use Rattle.cluster_record.specs.Calls.{same_call}
+use Rattle.cluster_record.specs.declared.copying.CopyPhase.{CopyPhase}
+use Rattle.cluster_record.specs.declared.copying.CopyPhase.TheVariants.{PulledActive, PulledStaged}
+use Rattle.cluster_record.specs.DueCopy.{CopyState, copy_at, copy_next, copy_on, copy_outcome_by, copy_told_by, phase_next}
 use Rattle.cluster_record.specs.DueOnce as once
 use Rattle.cluster_record.specs.DueOpen.{OpenState, accepts, by_making, made_of, on_making, open_next, reserve_or_finish, targets_of}
 use Rattle.cluster_record.specs.DueSync.{SyncState, first_unserved, install_next, kind_next, sync_next, sync_on, synchronize_next, unless_stale}
@@ -35,18 +39,24 @@ use Rattle.cluster_record.specs.Ends.{hold_in, is_own, made_in, making_next, mak
 use Rattle.cluster_record.specs.Identities.{IdentitiesRise}
 use Rattle.cluster_record.specs.LookUps.{at_ckpt, identity_in}
 use Rattle.cluster_record.specs.Opening.{answer_by, answer_named, found_by, found_in}
-use Rattle.cluster_record.specs.Placement.{adds}
+use Rattle.cluster_record.specs.Joining.{completed_on}
+use Rattle.cluster_record.specs.Placement.{adds, is_all}
 use Rattle.cluster_record.specs.Places.{change_key}
 use Rattle.cluster_record.specs.RecordState.{RecordState, can_be_held, can_lead, created_as, entry_of, home_of, identity_of, is_live, is_name, joined, named, new_entry, opened, opened_with, stays, swept, with_active, with_hold, generation_under}
 use Rattle.cluster_record.specs.Refusals.{plainly}
-use Rattle.cluster_record.specs.StepDone.{done_of, first_lacking}
+use Rattle.cluster_record.specs.StepDone.{counting, done_of, first_lacking}
 use Rattle.cluster_record.proofs.IdentityLaws.{KeepsIdentity, AllAbove-entry_of, entry_of-find}
+use Rattle.cluster_record.proofs.CopyLaws.{Completes, IsCompletion, event-completes}
+use Rattle.cluster_record.proofs.JoinLaws.{generation_by_active, rest_stays}
+use Rattle.cluster_record.proofs.JoinLaws
 use Rattle.cluster_record.proofs.NameLaws.{KeepsName}
 use Rattle.ckpt_machine.specs.Drivers.{Driver, Rooms}
 use Rattle.ckpt_machine.specs.Drivers as drivers
-use Rattle.ckpt_machine.specs.Driving.{driver_next, driver_taken, event_ckpt, event_end, event_node, event_refusal, opened_end, refusal_in, takes_memory}
+use Rattle.ckpt_machine.specs.Driving.{driver_next, driver_taken, event_ckpt, event_node, step_end, event_refusal, opened_end, refusal_in, takes_memory}
 use Rattle.ckpt_machine.specs.Entries.{AllStay}
-use Rattle.ckpt_machine.specs.Facts.{FitsOpen, HasLiveMaker, IsEventReady, IsFinishable}
+use Rattle.ckpt_machine.specs.Facts.{FitsOpen, HasLiveMaker, IsCompletable, IsEventReady, IsFinishable}
+use Rattle.ckpt_machine.specs.After.{staged_moment}
+use Rattle.ckpt_machine.specs.Due.{Told, counted_at, driver_of, event_done}
 use Rattle.ckpt_machine.specs.Machine.{Machine, CallState}
 use Rattle.ckpt_machine.proofs.Actors.{same_call-refl}
 use Rattle.ckpt_machine.proofs.AskedFor.{DrivesFor}
@@ -189,7 +199,7 @@ set_by N u local r true = (refl, refl)
 set_by N u local r false = (refl, refl)
 
 pub record TakesDone (R : RecordState) (x : Driver) (step : RecordStep) (N : RecordState) : Type 0 where
-  pub outcome : driver_outcome N is_done x ≡ event_end step (event_ckpt R x step)
+  pub outcome : driver_outcome N is_done x ≡ step_end N (driver_taken (done_of R (event_verb step) (event_ckpt R x step) (event_node x step) words.Ok) x) step (event_ckpt R x step)
   pub told : driver_told N is_done x ≡ driver_taken (done_of N (event_verb step) (event_ckpt R x step) (event_node x step) words.Ok) x
 
 module _ (R : RecordState) (call : CallId) (rises : IdentitiesRise R.entries) (stay : AllStay R.moment R.entries) where
@@ -251,6 +261,50 @@ module _ (R : RecordState) (call : CallId) (rises : IdentitiesRise R.entries) (s
           told = ap (λ n. drivers.Sync (sync_told_by N is_done u n)) next ∙ ap drivers.Sync (set_by N u local r (r == local)).1;
         }
 
+  -- a completion, whose checkpoint stays in its generation unless updates are on all replicas
+  module _ (c : CopyState) (r : ℕ) (moment : Option ℤ) where
+    -- a node is complete for an entry with the incarnation with which it is up
+    abbrev f : Entry → Entry
+    f = completed_on r (slice_index R.up r)
+
+    completed_stays : (x : Entry) → stays R.moment x ≡ true → stays R.moment (f x) ≡ true
+    completed_stays x was = ap (stays R.moment) (rest_stays r (slice_index R.up r) x) ∙ was
+
+    -- the same completion is next by the record behind it
+    next_then : (k : ℕ) (e : Entry) (phase : CopyPhase) (N : RecordState) → IsCompletion c k e phase (events.Complete k r moment) → (moment ≡ None → (f e).generation ≡ e.generation) → phase_next N c k (f e) phase ≡ Event (events.Complete k r moment)
+    next_then k e PulledStaged N is same = ap Event (sym is)
+    next_then k e (PulledActive generation) N is same =
+        let none : moment ≡ None = moment_in is.1 in
+        ap (λ b. cond b (Event (events.Complete k c.node None)) (End (Refused TryAgain (causes.Generations generation (f e).generation)))) (eq-eqb generation (f e).generation (is.0 ∙ sym (same none)))
+        ∙ ap Event (sym is.1)
+      where
+        moment_in : events.Complete k r moment ≡ events.Complete k c.node None → moment ≡ None
+        moment_in same = cc same
+    next_then k e phase N is same = absurd is
+
+    complete_done_so : (k : ℕ) (e : Entry) → entry_of k R.entries ≡ Some e → copy_next R c ≡ Event (events.Complete k r moment) → (moment ≡ None → is_all e.attributes ≡ false) → TakesDone R (drivers.Copy c) (events.Complete k r moment) (event_after call (drivers.Copy c) (events.Complete k r moment) R)
+    complete_done_so k e there next alone =
+        let N = event_after call (drivers.Copy c) (events.Complete k r moment) R in
+        let completes : Completes R c (events.Complete k r moment) = event-completes R c (events.Complete k r moment) next in
+        let ckpt : completes.copying.ckpt ≡ k = ckpt_in completes.entry_there completes.copying.phase completes.is in
+        let entries_same : completes.entry_there ≡ e = same_Some completes.entry_there e (sym completes.there ∙ ap (λ j. entry_of j R.entries) ckpt ∙ there) in
+        let is : IsCompletion c k e completes.copying.phase (events.Complete k r moment) = subst (λ (z : ℕ × Entry). IsCompletion c z.0 z.1 completes.copying.phase (events.Complete k r moment)) (λ i. (ckpt i, entries_same i)) completes.is in
+        let after : entry_of k N.entries ≡ Some (f e) = entry_changed R k f (λ x. ap (λ (y : Entry). y.identity) (rest_stays r (slice_index R.up r) x)) completed_stays e there rises stay in
+        let again : copy_next N c ≡ Event (events.Complete k r moment)
+        = ap (copy_at N c) completes.at
+        ∙ (λ i. copy_on N c (record completes.copying { ckpt = ckpt i }) (entry_of (ckpt i) N.entries))
+        ∙ ap (copy_on N c (record completes.copying { ckpt = k })) after
+        ∙ next_then k e completes.copying.phase N is (λ none. (generation_by_active r (slice_index R.up r) e).0 (JoinLaws.active_stays r (slice_index R.up r) e (alone none))) in
+        record {
+          outcome = ap (copy_outcome_by N is_done c) again;
+          told = ap (λ n. drivers.Copy (copy_told_by N is_done c n)) again;
+        }
+      where
+        ckpt_in : {j : ℕ} (e : Entry) (phase : CopyPhase) → IsCompletion c j e phase (events.Complete k r moment) → j ≡ k
+        ckpt_in e PulledStaged is = let same = is in cc same
+        ckpt_in e (PulledActive generation) is = let same = is.1 in cc same
+        ckpt_in e phase is = absurd is
+
 module _ (m : Machine) (s : CallState) (rises : IdentitiesRise m.cluster.entries) (stay : AllStay m.cluster.moment m.cluster.entries) (rooms : Rooms) where
   abbrev Done_of : Driver → RecordStep → Type 0
   Done_of x step = TakesDone m.cluster x step (event_after s.call x step m.cluster)
@@ -299,7 +353,27 @@ module _ (m : Machine) (s : CallState) (rises : IdentitiesRise m.cluster.entries
       let (local, kind) = sets_active m.cluster u (events.Activate r) next in
       let (e, there, can) = IsSomeAnd-at (entry_of u.ckpt m.cluster.entries) (λ e. can_lead r e ≡ true) ready.3 in
       activate_done m.cluster s.call rises stay u local kind e there r can
+  takes_done (drivers.Copy c) (events.Complete k r moment) drives next granted ready =
+      let (e, there, can) = IsSomeAnd-at (entry_of k m.cluster.entries) (IsCompletable m s k r moment) ready.4 in
+      complete_done_so m.cluster s.call rises stay c r moment k e there next (alone_in (is_all e.attributes) (staged_moment m k) can.moment_is)
+    where
+      alone_in : (all : Bool) (t : ℤ) → moment ≡ cond all (Some t) None → moment ≡ None → all ≡ false
+      alone_in true t is none = absurd (let some : Some t ≡ None = sym is ∙ none in cc some)
+      alone_in false t is none = refl
   takes_done x step drives next granted ready = absurd ready
+
+-- a step of the record tells no count
+counts_none : (m : Machine) (step : RecordStep) (k r : Option ℕ) (reply : StepReply) → counted_at m (event_verb step) k r reply ≡ 0
+counts_none m events.Enter k r reply = refl
+counts_none m step k r reply = refl
+
+-- so the label of such a step has that end
+pub done_told : (m : Machine) (s : CallState) (step : RecordStep) (t : Told) → t.verb ≡ event_verb step → t.ckpt ≡ event_ckpt m.cluster (driver_of s) step → t.node ≡ event_node (driver_of s) step → t.reply ≡ words.Ok →
+    (let N = event_after s.call (driver_of s) step m.cluster in TakesDone m.cluster (driver_of s) step N → driver_outcome N is_done (driver_of s) ≡ event_done m s step t)
+done_told m s step t verb ckpt node reply takes =
+    let N = event_after s.call (driver_of s) step m.cluster in
+    let none : counted_at m t.verb t.ckpt t.node t.reply ≡ 0 = ap (λ v. counted_at m v t.ckpt t.node t.reply) verb ∙ counts_none m step t.ckpt t.node t.reply in
+    takes.outcome ∙ (λ i. step_end N (driver_taken (counting (sym none i) (done_of m.cluster (sym verb i) (sym ckpt i) (sym node i) (sym reply i))) (driver_of s)) step (sym ckpt i))
 
 -- ---- a step that is refused
 
@@ -391,6 +465,7 @@ module _ (m : Machine) (s : CallState) (rooms : Rooms) where
   takes_refused (drivers.Open o) step reply next ready refused = absurd (takes_none (memory_alone step reply refused).1)
   takes_refused (drivers.Sync u) (events.Hold r) reply next ready refused = absurd (takes_none (memory_alone (events.Hold r) reply refused).1)
   takes_refused (drivers.Sync u) (events.Activate r) reply next ready refused = absurd (takes_none (memory_alone (events.Activate r) reply refused).1)
+  takes_refused (drivers.Copy c) (events.Complete k r moment) reply next ready refused = absurd (takes_none (memory_alone (events.Complete k r moment) reply refused).1)
   takes_refused x step reply next ready refused = absurd ready
 
 -- marks keep a hold off, whose call is live

@@ -1,7 +1,7 @@
 -- A synchronisation: it pulls what the active has and installs it at each other complete node, and is refused or done by a look where the record says so.
 use Rattle.std.specs.List.{list_any}
 use Rattle.std.specs.Option.{option_map}
-use Rattle.std.proofs.Common.{◌≡◌, ℕ, ◌<◌, ◌≤◌, List, ◌∷◌, length, Option, Some, None, Bool, true, false, cond, ◌==◌, ℤ, refl, sym, ap, subst, ◌∙◌, arith}
+use Rattle.std.proofs.Common.{◌≡◌, inl, ℕ, ◌<◌, ◌≤◌, List, ◌∷◌, length, Option, Some, None, Bool, true, false, cond, ◌==◌, ℤ, refl, sym, ap, subst, ◌∙◌, arith}
 use Rattle.std.specs.Prelude.{is_some, IfSome, IsSomeAnd, slice_get, slice_set}
 use Rattle.std.proofs.lemmas.Option.{same_Some}
 use Rattle.moment_rules.specs.Times.{is_reached}
@@ -146,7 +146,7 @@ module _ (m : Machine) (shapes : ℕ → Shape) (inv : InvariantIn shapes m) (s 
           let hand = inv.hands (who s) s held in
           record {
             whose = refl;
-            client = hand.client;
+            asker = hand.asker;
             number = hand.number;
             built = hand.built;
             driven = hand.driven;
@@ -301,7 +301,7 @@ module _ (m : Machine) (shapes : ℕ → Shape) (inv : InvariantIn shapes m) (s 
         pull_by : (t : Told) → IsServed m s at.node request t → (o : Option Marked) → (shapes u.ckpt).marks ≡ o → Goes m s (driver_of s) t
         pull_by t served None stand = subst (Goes m s (driver_of s)) (sym (IsServed-told m s at.node request t (drivers.Sync u) (replies.Done (answers.Pulled (length at.replica.effects))) served is (answered t served None stand))) (record {
           row = (
-            (at_sync.place, at_sync.timeout, at_sync.asks, on_its_replica m (shapes u.ckpt).marks u.ckpt at (PullOk m s at.node _) (record { alone = alone; active = at.active; in_time = early; unmarked = marks_are ∙ stand; answer = pull_ends })),
+            inl (at_sync.place, at_sync.timeout, at_sync.asks, on_its_replica m (shapes u.ckpt).marks u.ckpt at (PullOk m s at.node _) (record { alone = alone; active = at.active; in_time = early; unmarked = marks_are ∙ stand; answer = pull_ends })),
             ended_nothing _ _ nothing_told,
           );
           holds = pulled_keeps _;
@@ -312,7 +312,7 @@ module _ (m : Machine) (shapes : ℕ → Shape) (inv : InvariantIn shapes m) (s 
             let live = marker_live m shapes u.ckpt marks inv (spread.marked marks stand) in
             subst (Goes m s (driver_of s)) (sym (told ∙ (λ i. record { verb = verbs.Pull; ckpt = Some u.ckpt; node = Some at.node; reply = words.Held marks.call; end = cond (live i) (Some (Refused TryAgain (Holder marks.call))) None; details = ended_details (cond (live i) (Some (Refused TryAgain (Holder marks.call))) None) (nothing_told i) }))) (record {
               row = (
-                (
+                inl (
                   at_sync.place,
                   at_sync.timeout,
                   at_sync.asks,

@@ -29,7 +29,7 @@ use Rattle.ckpt_machine.specs.Drivers.{Driver}
 use Rattle.ckpt_machine.specs.Drivers as drivers
 use Rattle.ckpt_machine.specs.ActiveGuards.{is_service, serves, all_served}
 use Rattle.ckpt_machine.specs.GuardTerms.{deadline_of}
-use Rattle.ckpt_machine.specs.InHand.{active_kind, pulled_as, IsSynchronizeIn, IsSettingIn, IsSyncBy, IsOnceAt, IsInPlace}
+use Rattle.ckpt_machine.specs.InHand.{active_kind, pulled_as, IsSynchronizeIn, IsSettingIn, IsSyncBy, IsOnceAt, IsUpdateAsk, IsInPlace}
 use Rattle.ckpt_machine.specs.Invariant.{Invariant}
 use Rattle.ckpt_machine.specs.Listing.{is_active}
 use Rattle.ckpt_machine.specs.Machine.{Machine, Snapshot, CallState, who}
@@ -98,7 +98,8 @@ drives_sync m shapes s place timeout is (drivers.Sync u) at = (u, refl, by_kind 
     by_kind (Synchronize deadline) at = at
     by_kind (ActiveSet local) at = absurd (let w = sym is ∙ at.asks in cc w)
 drives_sync m shapes s place timeout is (drivers.Open o) at = absurd (let w = sym is ∙ at.asks.asks in cc w)
-drives_sync m shapes s place timeout is (drivers.Update u) at = absurd (let w = sym is ∙ at.asks in cc w)
+drives_sync m shapes s place timeout is (drivers.Update u) at = absurd (subst IsUpdateAsk is at.asks)
+drives_sync m shapes s place timeout is (drivers.Copy c) at = absurd (let w = sym is ∙ at.asks in cc w)
 drives_sync m shapes s place timeout is (drivers.Active a) at = absurd (let w : None ≡ Some a.kind = ap (active_kind s.kept.all s.kept.weak) (sym is) ∙ at.kind in cc w)
 drives_sync m shapes s place timeout is (drivers.Once x) at = absurd (by_step x at)
   where
@@ -117,7 +118,8 @@ drives_setting m shapes s place is (drivers.Sync u) at = by_kind u.kind at
     by_kind (Synchronize deadline) at = absurd (let w = sym is ∙ at.asks in cc w)
     by_kind (ActiveSet local) at = (u, local, refl, at)
 drives_setting m shapes s place is (drivers.Open o) at = absurd (let w = sym is ∙ at.asks.asks in cc w)
-drives_setting m shapes s place is (drivers.Update u) at = absurd (let w = sym is ∙ at.asks in cc w)
+drives_setting m shapes s place is (drivers.Update u) at = absurd (subst IsUpdateAsk is at.asks)
+drives_setting m shapes s place is (drivers.Copy c) at = absurd (let w = sym is ∙ at.asks in cc w)
 drives_setting m shapes s place is (drivers.Active a) at = absurd (let w : None ≡ Some a.kind = ap (active_kind s.kept.all s.kept.weak) (sym is) ∙ at.kind in cc w)
 drives_setting m shapes s place is (drivers.Once x) at = absurd (by_step x at)
   where

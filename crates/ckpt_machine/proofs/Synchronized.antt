@@ -1,5 +1,5 @@
 -- What is so behind a label that answers OK to a synchronisation: the call has pulled what the active had, and has served the node of each complete replica of the checkpoint, which has that first, if it is the one that was served.
-use Rattle.std.proofs.Common.{◌≡◌, ℕ, ◌+◌, ◌<◌, ◌≤◌, inl, inr, List, [], ◌∷◌, ◌++◌, length, Option, Some, None, Bool, true, false, cond, ℤ, refl, sym, ap, subst, ◌∙◌, append_assoc, arith}
+use Rattle.std.proofs.Common.{◌≡◌, ℕ, ◌+◌, ◌<◌, inl, inr, List, [], ◌∷◌, ◌++◌, length, Option, Some, None, Bool, true, false, cond, ℤ, refl, sym, ap, subst, ◌∙◌, append_assoc, arith}
 use Rattle.std.specs.List.{list_any}
 use Rattle.std.specs.Option.{option_map}
 use Rattle.std.specs.Prelude.{IsSome, IsSomeAnd}
@@ -32,7 +32,7 @@ use Rattle.ckpt_machine.specs.Acknowledged.{HasBegun}
 use Rattle.ckpt_machine.specs.Driving.{Kept}
 use Rattle.ckpt_machine.specs.Guards.{IsOnOwn, Row, Allowed}
 use Rattle.ckpt_machine.specs.LookGuards.{SyncDone, OnLed, LookDone, LookRow}
-use Rattle.ckpt_machine.specs.ActiveGuards.{PullOk, PullHeld, InstallOk, serves, all_served, steps_with}
+use Rattle.ckpt_machine.specs.ActiveGuards.{PullOk, PullHeld, PullRow, InstallOk, serves, all_served, steps_with}
 use Rattle.ckpt_machine.specs.Invariant.{Invariant}
 use Rattle.ckpt_machine.specs.Laws.{OfEachRun}
 use Rattle.ckpt_machine.specs.Machine.{Machine, Effect, ReplicaState, Snapshot, CallState, empty_cluster, who}
@@ -40,20 +40,22 @@ use Rattle.ckpt_machine.specs.Propagation.{copied}
 use Rattle.ckpt_machine.specs.Replays.{IsPrefix}
 use Rattle.ckpt_machine.specs.Runs.{last, IsRun}
 use Rattle.ckpt_machine.specs.Shape.{IsCompleteOn}
-use Rattle.ckpt_machine.specs.After.{change_replica, with_installed, changed, kept_behind, stepped, step_of, call_begun, after}
+use Rattle.ckpt_machine.specs.After.{change_replica, with_installed, changed, kept_by, kept_behind, stepped, step_of, call_begun, after}
 use Rattle.ckpt_machine.specs.Due.{Told, IsDue, due, counted_at}
 use Rattle.ckpt_machine.specs.Whose.{same_who}
 use Rattle.ckpt_machine.specs.Synchronized.{Synchronizes, IsPullOf, IsServiceOf, IsServedIn, KeepsReplica, HaveFirst, IsSynchronized, SynchronizedTell}
-use Rattle.ckpt_machine.proofs.BegunBefore.{begun_longer, all_began}
+use Rattle.ckpt_machine.proofs.Askers.{IsCopyAsk, kept_still}
+use Rattle.ckpt_machine.proofs.BegunBefore.{begun_longer, all_began, begun_on-other}
 use Rattle.ckpt_machine.proofs.BegunOnce.{step_begun, step_below}
 use Rattle.ckpt_machine.specs.BeginRows.{BeginRow}
 use Rattle.ckpt_machine.specs.Beginning.{Standing}
 use Rattle.ckpt_machine.proofs.Bringing.{HasPulledIn, HasFirst, IsSureOf, IsBringing, service_parts, stays_bringing, step_brings}
+use Rattle.ckpt_machine.proofs.CopyingHands.{LeavesCopying}
 use Rattle.ckpt_machine.proofs.Quiet.{quiet}
 use Rattle.ckpt_machine.proofs.EachReplica.{run_copies}
 use Rattle.ckpt_machine.proofs.Follows.{IsBare}
 use Rattle.ckpt_machine.proofs.Generations.{generation_there}
-use Rattle.ckpt_machine.proofs.Growing.{GoesOnIn, GoesOn, gone_by, after_goes, stepped_goes}
+use Rattle.ckpt_machine.proofs.LabelsLeave.{label_leaves}
 use Rattle.ckpt_machine.proofs.Histories.{follows, on_replica-there, run_history}
 use Rattle.ckpt_machine.proofs.OptionLemmas.{IsSomeAnd-at}
 use Rattle.ckpt_machine.proofs.Refusing.{row_at_ckpt, at_node, at_none, at_node_alone}
@@ -69,7 +71,7 @@ use Rattle.ckpt_machine.proofs.SyncSteps.{IsSynchronize, served_as, served_each}
 
 -- each synchronisation that this state has in hand brings what it has pulled in the log
 abbrev AllBring : List Label → Machine → Type 0
-AllBring log m = (a : Who) (s : CallState) → m.in_hand a ≡ Some s → IsSynchronize (asked s.op) → IsBringing log m.cluster m.replicas s
+AllBring log m = (a : Who) (s : CallState) → m.in_hand a ≡ Some s → IsSynchronize (asked s.op) → IsBringing log m.cluster m.replicas m.in_hand s
 
 -- a call that has served a node in a run has a number below the next
 service_below : (log : List Label) → IsRun log → (before behind : List Label) (step : Label) (call : CallId) (k r : ℕ) → log ≡ before ++ step ∷ behind → IsServiceOf step call k r → call.number < (last log).next call.actor
@@ -77,17 +79,18 @@ service_below log run before behind (labels.Stepped d word verb (Some j) (Some q
 service_below log run before behind l call k r is of = absurd of
 
 -- a call that begins has nothing in hand, and has served no node
-begun_bringing : (log : List Label) → IsRun log → (R : RecordState) (replicas : ℕ → ℕ → Option ReplicaState) (end : Option Outcome) (call : CallId) (op : Op) (details : Details) (kept : Kept) (s : CallState) → call.number ≡ (last log).next call.actor → call_begun end call op kept ≡ Some s
-    → IsBringing (log ++ labels.Began call op end details ∷ []) R replicas s
-begun_bringing log run R replicas end call op details kept s number is =
+begun_bringing : (log : List Label) → IsRun log → (R : RecordState) (replicas : ℕ → ℕ → Option ReplicaState) (hands : Who → Option CallState) (end : Option Outcome) (call : CallId) (op : Op) (details : Details) (kept : Kept) (s : CallState) → call.number ≡ (last log).next call.actor → call_begun end call op kept ≡ Some s
+    → IsBringing (log ++ labels.Began call op end details ∷ []) R replicas hands s
+begun_bringing log run R replicas hands end call op details kept s number is =
     let (d, driven, same) = begun_as end call op kept s is in
-    subst (IsBringing (log ++ labels.Began call op end details ∷ []) R replicas) same (record {
+    subst (IsBringing (log ++ labels.Began call op end details ∷ []) R replicas hands) same (record {
       none = λ none r. refl;
       pulled = λ k z ckpt has. absurd (cc has);
       told = λ k r ckpt served. absurd (cc served);
       by_steps = λ k r served. absurd (none_served k r served);
       served = λ k z ckpt has. absurd (cc has);
       generations = λ k z ckpt has. absurd (cc has);
+      copied = λ k z ckpt has. absurd (cc has);
     })
   where
     none_served : (k r : ℕ) → IsServedIn (log ++ labels.Began call op end details ∷ []) call k r → ⊥
@@ -96,23 +99,28 @@ begun_bringing log run R replicas end call op details kept s number is =
       | inr there ↦ (let below = service_below log run served.before there.0 served.step call k r there.1 served.step_is in omega (arith, below, number))
     ]
 
+-- it is no copying
+syncs_alone : (ask : Ask) → IsSynchronize ask → IsCopyAsk ask → ⊥
+syncs_alone (asks.Synchronize place timeout) syncs copies = copies
+syncs_alone ask syncs copies = syncs
+
 module _ (log : List Label) (run : IsRun log) (all : AllBring log (last log)) where
   abbrev m : Machine
   m = last log
 
-  -- each checkpoint goes on by a label that is allowed
-  goes_by : (l : Label) → Allowed m l → (k : ℕ) → k ≤ m.cluster.last_identity → GoesOnIn m k (gone_by l) (after m l).cluster (after m l).replicas
-  goes_by l allowed k given = let (inv, history) = run_history log run in after_goes m inv history.bare (run_copies log run) k given l allowed
+  -- what a label leaves of checkpoints, and of copyings in hand
+  leaves_by : (l : Label) → Allowed m l → IsDue m l → LeavesCopying m l (after m l).cluster (after m l).replicas (after m l).in_hand
+  leaves_by l allowed due = let (inv, history) = run_history log run in label_leaves m inv history (run_copies log run) l allowed due
 
   -- a call that takes no step brings what it has pulled
-  other_brings : (l : Label) (allowed : Allowed m l) (a : Who) (s : CallState) → m.in_hand a ≡ Some s → IsSynchronize (asked s.op) → ((k r : ℕ) → IsServiceOf l s.call k r → ⊥) → IsBringing (log ++ l ∷ []) (after m l).cluster (after m l).replicas s
-  other_brings l allowed a s held asks_is no_service = let (inv, history) = run_history log run in stays_bringing log l inv history (run_copies log run) s a held (all a s held asks_is) (after m l).cluster (after m l).replicas (goes_by l allowed) no_service
+  other_brings : (l : Label) (allowed : Allowed m l) → IsDue m l → (a : Who) (s : CallState) → m.in_hand a ≡ Some s → IsSynchronize (asked s.op) → ((k r : ℕ) → IsServiceOf l s.call k r → ⊥) → IsBringing (log ++ l ∷ []) (after m l).cluster (after m l).replicas (after m l).in_hand s
+  other_brings l allowed due a s held asks_is no_service = let (inv, history) = run_history log run in stays_bringing log l inv history (run_copies log run) s a held (syncs_alone (asked s.op) asks_is) (all a s held asks_is) (after m l).cluster (after m l).replicas (after m l).in_hand (leaves_by l allowed due) no_service
 
   -- each call in hand brings what it has pulled, behind any label that is allowed and due
   after_brings : (l : Label) → Allowed m l → IsDue m l → AllBring (log ++ l ∷ []) (after m l)
   after_brings (labels.Began call op end details) allowed due a s held asks_is = elim (put_who-cases m.in_hand (stepped_as call (word_of_op op)) (call_begun end call op (first_kept m call op)) a s held) [
-    | inl own ↦ begun_bringing log run m.cluster m.replicas end call op details (first_kept m call op) s due.number own.1
-    | inr other ↦ other_brings (labels.Began call op end details) allowed a s other.1 asks_is (λ k r of. of)
+    | inl own ↦ begun_bringing log run m.cluster m.replicas (after m (labels.Began call op end details)).in_hand end call op details (first_kept m call op) s due.number own.1
+    | inr other ↦ other_brings (labels.Began call op end details) allowed due a s other.1 asks_is (λ k r of. of)
   ]
   after_brings (labels.Stepped call op verb j q reply end details) allowed due a z in_hand asks_is =
       let l : Label = labels.Stepped call op verb j q reply end details in
@@ -125,12 +133,13 @@ module _ (log : List Label) (run : IsRun log) (all : AllBring log (last log)) wh
       let (inv, history) = run_history log run in
       let n : Machine = changed m s verb j q reply in
       let behind : CallState = kept_behind m s n.cluster verb j q reply in
-      let goes : (k : ℕ) → k ≤ m.cluster.last_identity → GoesOn m k n = λ k given. stepped_goes m inv history.bare (run_copies log run) k given s held t own row in
+      let hands : Who → Option CallState = (step_of m (Some s) verb j q reply end).in_hand in
+      let leaves : LeavesCopying m l n.cluster n.replicas hands = subst (λ o. LeavesCopying m l (step_of m o verb j q reply end).cluster (step_of m o verb j q reply end).replicas (step_of m o verb j q reply end).in_hand) due.in_hand (leaves_by l allowed due) in
       let there = subst (λ o. (step_of m o verb j q reply end).in_hand a ≡ Some z) due.in_hand in_hand in
-      subst (λ o. IsBringing (log ++ l ∷ []) (step_of m o verb j q reply end).cluster (step_of m o verb j q reply end).replicas z) (sym due.in_hand) (elim (put_who-cases n.in_hand (who s) (left end behind) a z there) [
+      subst (λ o. IsBringing (log ++ l ∷ []) (step_of m o verb j q reply end).cluster (step_of m o verb j q reply end).replicas (step_of m o verb j q reply end).in_hand z) (sym due.in_hand) (elim (put_who-cases n.in_hand (who s) (left end behind) a z there) [
         | inl here ↦ (
             let asks_own : IsSynchronize (asked s.op) = subst (λ (z : CallState). IsSynchronize (asked z.op)) (sym (left_is end behind z here.1)) asks_is in
-            subst (IsBringing (log ++ l ∷ []) n.cluster n.replicas) (left_is end behind z here.1) (step_brings log inv history (run_copies log run) s held (all (who s) s held asks_own) call due.call_is op end details asks_own verb j q reply goes due.done own row))
+            subst (IsBringing (log ++ l ∷ []) n.cluster n.replicas hands) (left_is end behind z here.1) (step_brings log inv history (run_copies log run) s held (all (who s) s held asks_own) call due.call_is op end details asks_own hands verb j q reply leaves due.done own row))
         | inr other ↦ (
             let was : m.in_hand a ≡ Some z = (follows m inv history s held t row).in_hand a z other.1 in
             let name_apart : (z.call ≡ s.call) → ⊥ = (λ same_call.
@@ -138,9 +147,9 @@ module _ (log : List Label) (run : IsRun log) (all : AllBring log (last log)) wh
             let w : true ≡ false = sym (ap (λ v. same_who v (who s)) name ∙ same_who-refl (who s)) ∙ other.0 in
             cc w) in
             let no_service : (k r : ℕ) → IsServiceOf l z.call k r → ⊥ = (λ k r of. name_apart (sym (due.call_is ∙ (service_parts call op verb j q reply end details z.call k r of).0))) in
-            stays_bringing log l inv history (run_copies log run) z a was (all a z was asks_is) n.cluster n.replicas goes no_service)
+            stays_bringing log l inv history (run_copies log run) z a was (syncs_alone (asked z.op) asks_is) (all a z was asks_is) n.cluster n.replicas hands leaves no_service)
       ])
-  after_brings l allowed due a s held asks_is = other_brings l allowed a s ((quiet m (run_history log run).0 l tt due).held a s held) asks_is (λ k r of. of)
+  after_brings l allowed due a s held asks_is = other_brings l allowed due a s ((quiet m (run_history log run).0 l tt due).held a s held) asks_is (λ k r of. of)
 
 all_bring : (log : List Label) → IsRun log → AllBring log (last log)
 all_bring log run = along AllBring (λ front l before allowed due all. after_brings front before all l allowed due) [] log run (λ a s held asks_is. absurd (cc held))
@@ -178,17 +187,25 @@ module _ (m : Machine) (inv : Invariant m)
   each_served : (t : Told) (e : Entry) → all_served (steps_with m s t) 0 e.complete ≡ true → (r : ℕ) → IsCompleteOn e r → list_any (serves r) (steps_with m s t) ≡ true
   each_served t e all r complete = let same : 0 + r ≡ r = omega arith in subst (λ r. list_any (serves r) (steps_with m s t) ≡ true) same (served_each (steps_with m s t) 0 e.complete all r complete)
 
+  -- a synchronisation asks for nothing else
+  no_other : (ask : Ask) → asked s.op ≡ ask → IsSynchronize ask
+  no_other ask is = subst IsSynchronize (sym asks_is ∙ is) tt
+
+  -- a pull of it is no copying's
+  its_pull : (j q : ℕ) (reply : StepReply) → Row m s verbs.Pull (t_of verbs.Pull (Some j) (Some q) reply) → PullRow m s j q (t_of verbs.Pull (Some j) (Some q) reply) reply
+  its_pull j q reply row = elim row.0 [ inl pull ↦ pull.3 | inr copy ↦ absurd (no_other _ copy.0) ]
+
   -- a call that ends by its pull has served all complete nodes, of which there is the active alone
   by_pull : (j q : ℕ) (reply : StepReply) → Some j ≡ s.kept.ckpt → Row m s verbs.Pull (t_of verbs.Pull (Some j) (Some q) reply) → ServesAllBy verbs.Pull (Some j) (Some q) reply
   by_pull j q words.Ok own row =
       let t = t_of verbs.Pull (Some j) (Some q) words.Ok in
-      let (e, x, found, there, ok) = on_replica-there m j q (PullOk m s q t) row.0.3 in
+      let (e, x, found, there, ok) = on_replica-there m j q (PullOk m s q t) (its_pull j q words.Ok row) in
       let (all, n) = ends_if (all_served (steps_with m s t) 0 e.complete) answer (length x.effects) ok.answer in
       record { ckpt = j; kept = sym own; entry = e; found = found; pulled = copied x; in_hand = ap (option_map copied) there; present = (generation_there m inv j q e x found there).led ok.active; answer_is = n; all = each_served t e all }
   by_pull j q (words.Held by) own row =
-      let (e, x, found, there, held) = on_replica-there m j q (PullHeld m s q by (t_of verbs.Pull (Some j) (Some q) (words.Held by))) row.0.3 in
+      let (e, x, found, there, held) = on_replica-there m j q (PullHeld m s q by (t_of verbs.Pull (Some j) (Some q) (words.Held by))) (its_pull j q (words.Held by) row) in
       absurd (let is = held.held.answer in cc is)
-  by_pull j q reply own row = absurd row.0.3
+  by_pull j q reply own row = absurd (its_pull j q reply row)
 
   -- a call that ends by an installation has served all complete nodes, whether that replica was behind or not
   by_install : (j q : ℕ) (reply : StepReply) → Some j ≡ s.kept.ckpt → Row m s verbs.Install (t_of verbs.Install (Some j) (Some q) reply) → ServesAllBy verbs.Install (Some j) (Some q) reply
@@ -233,10 +250,6 @@ module _ (m : Machine) (inv : Invariant m)
       told a is row = absurd row
   by_look j q reply row = absurd row
 
-  -- a synchronisation asks for nothing else
-  no_other : (ask : Ask) → asked s.op ≡ ask → IsSynchronize ask
-  no_other ask is = subst IsSynchronize (sym asks_is ∙ is) tt
-
   -- a synchronisation that is answered OK has served all complete nodes, whichever step ends it
   all_by : (verb : Verb) (j q : Option ℕ) (reply : StepReply) → IsOnOwn verb j s.kept.ckpt → Row m s verb (t_of verb j q reply) → ServesAllBy verb j q reply
   all_by verbs.Pull (Some j) (Some q) reply own row = by_pull j q reply own row
@@ -249,13 +262,13 @@ module _ (m : Machine) (inv : Invariant m)
   all_by verbs.Enter j q reply own row = absurd (at_node_alone j q _ row.0 (λ q p. no_other _ p.2))
   all_by verbs.Open j q reply own row = absurd (row_at_ckpt j q _ row.0 (λ k p. no_other _ p.2.asks))
   all_by verbs.Create j q reply own row = absurd (row_at_ckpt j q _ row.0 (λ k p. no_other _ p.2.asks))
-  all_by verbs.Reserve j q reply own row = absurd (at_node j q _ row.0 (λ k r p. no_other _ p.2.asks))
+  all_by verbs.Reserve j q reply own row = absurd (at_node j q _ row.0 (λ k r p. elim p [ inl making ↦ no_other _ making.2.asks | inr copy ↦ no_other _ copy.0 ]))
   all_by verbs.Finish j q reply own row = absurd (row_at_ckpt j q _ row.0 (λ k p. no_other _ p.2.asks))
   all_by verbs.Undo j q reply own row = absurd (row_at_ckpt j q _ row.0 (λ k p. no_other _ p.2.asks))
-  all_by verbs.Stage j q reply own row = absurd (at_node j q _ row.0 (λ k r p. no_other _ p.2))
-  all_by verbs.Claim j q reply own row = absurd (at_node j q _ row.0 (λ k r p. no_other _ p.2))
-  all_by verbs.Withdraw j q reply own row = absurd (at_node j q _ row.0 (λ k r p. no_other _ p.2))
-  all_by verbs.Commit j q reply own row = absurd (at_node j q _ row (λ k r p. no_other _ p.2))
+  all_by verbs.Stage j q reply own row = absurd (at_node j q _ row.0 (λ k r p. elim p [ inl change ↦ no_other _ change.2 | inr copy ↦ no_other _ copy.0 ]))
+  all_by verbs.Claim j q reply own row = absurd (at_node j q _ row.0 (λ k r p. elim p [ inl change ↦ no_other _ change.2 | inr copy ↦ no_other _ copy.0 ]))
+  all_by verbs.Withdraw j q reply own row = absurd (at_node j q _ row.0 (λ k r p. elim p [ inl change ↦ no_other _ change.2 | inr copy ↦ no_other _ copy.0 ]))
+  all_by verbs.Commit j q reply own row = absurd (at_node j q _ row (λ k r p. elim p [ inl change ↦ no_other _ change.2 | inr copy ↦ no_other _ copy.0 ]))
   all_by verbs.Apply j q reply own row = absurd (at_node j q _ row (λ k r p. no_other _ p.2))
   all_by verbs.Mark j q reply own row = absurd (at_node j q _ row (λ k r p. no_other _ p.2))
   all_by verbs.Element j q reply own row = absurd (at_node j q _ row (λ k r p. no_other _ p.2))
@@ -270,11 +283,11 @@ module _ (m : Machine) (inv : Invariant m)
   all_by verbs.Close j q reply own row = absurd (row_at_ckpt j q _ row.0 (λ k p. no_other _ p.1))
   all_by verbs.Unlink j q reply own row = absurd (row_at_ckpt j q _ row.0 (λ k p. no_other _ p.1))
   all_by verbs.Retain j q reply own row = absurd (row_at_ckpt j q _ row.0 (λ k p. no_other _ p.2))
-  all_by verb j q reply own row = absurd row
+  all_by verbs.Complete j q reply own row = absurd (at_node j q _ row.0 (λ k r p. no_other _ p.0))
 
 -- where a call has served all complete nodes, each complete replica has first what it has in hand, if it is the one that was served
-have_first : (log : List Label) (n : Machine) (s : CallState) (answer : Answer) → IsBare n → IsBringing log n.cluster n.replicas s → (all : HasServedAll n.cluster.entries s answer) → HaveFirst n log s.call all.ckpt all.pulled.effects
-have_first log n s answer bare brings all e r x found there = record {
+have_first : (log : List Label) (n : Machine) (hands : Who → Option CallState) (s : CallState) (answer : Answer) → IsBare n → IsBringing log n.cluster n.replicas hands s → (all : HasServedAll n.cluster.entries s answer) → HaveFirst n log s.call all.ckpt all.pulled.effects
+have_first log n hands s answer bare brings all e r x found there = record {
   served = served;
   generation = brings.generations all.ckpt all.pulled all.kept all.in_hand all.entry r x served all.found all.present there ∙ all.present ∙ ap (λ (e : Entry). e.generation) same;
   has = λ keeps. has (sure keeps);
@@ -330,7 +343,7 @@ tells_by log run d word syncs verb j q reply told details allowed due call answe
       pull = from.pull;
       node = from.node;
       log_is = from.log_is;
-      begun = pull_begun (log ++ l ∷ []) (run_more log l run allowed due) from.before from.behind from.pull s.call all.ckpt from.node from.log_is from.pull_is s.op (Some all.ckpt) (begun_longer log l s.call s.op (Some all.ckpt) (subst (HasBegun log s.call s.op) all.kept (all_began log run s held)));
+      begun = pull_begun (log ++ l ∷ []) (run_more log l run allowed due) from.before from.behind from.pull s.call all.ckpt from.node from.log_is from.pull_is s.op (Some all.ckpt) (begun_longer log l s.call s.op (Some all.ckpt) (subst (HasBegun log s.call s.op) (begun_on-other (asked s.op) s.kept.ckpt no_copying ∙ sym (ap (λ (kept : Kept). kept.ckpt) kept_is) ∙ all.kept) (all_began log run s held)));
       pull_is = from.pull_is;
       active = from.active;
       source = from.source;
@@ -338,7 +351,7 @@ tells_by log run d word syncs verb j q reply told details allowed due call answe
       answer_is = sym is.1 ∙ all.answer_is ∙ ap (λ (xs : List Effect). answers.Pulled (length xs)) (sym from.effects);
       stands = subst (λ (m : Machine). IsSome (entry_of all.ckpt m.cluster.entries)) (sym then_is) (subst IsSome (sym all.found) refl);
       have = subst (HaveFirst (last (log ++ l ∷ [])) (log ++ l ∷ []) s.call all.ckpt) (sym from.effects) (subst (λ m. HaveFirst m (log ++ l ∷ []) s.call all.ckpt all.pulled.effects) (sym then_is)
-          (have_first (log ++ l ∷ []) then_machine behind told (subst IsBare then_is bare) (record { none = brings.none; pulled = brings.pulled; told = brings.told; by_steps = brings.by_steps; served = brings.served; generations = brings.generations }) all));
+          (have_first (log ++ l ∷ []) then_machine hands behind told (subst IsBare then_is bare) (record { none = brings.none; pulled = brings.pulled; told = brings.told; by_steps = brings.by_steps; served = brings.served; generations = brings.generations; copied = brings.copied }) all));
     })
   where
     end : Option Outcome
@@ -380,12 +393,24 @@ tells_by log run d word syncs verb j q reply told details allowed due call answe
     bare : IsBare (last (log ++ l ∷ []))
     bare = (run_history (log ++ l ∷ []) (run_more log l run allowed due)).1.bare
 
-    brings : IsBringing (log ++ l ∷ []) changed_machine.cluster changed_machine.replicas behind
+    syncs_is : IsSynchronize (asked s.op)
+    syncs_is = let (place, timeout, is) = asks_by s.op (subst IsSyncWord (sym due.word) syncs) in subst IsSynchronize (sym is) tt
+
+    -- it is no copying, and keeps what it kept
+    no_copying : IsCopyAsk (asked s.op) → ⊥
+    no_copying copies = let (place, timeout, is) = asks_by s.op (subst IsSyncWord (sym due.word) syncs) in subst IsCopyAsk is copies
+
+    kept_is : kept_by (last log) s verb j reply ≡ s.kept
+    kept_is = kept_still (last log) s verb j reply no_copying
+
+    hands : Who → Option CallState
+    hands = (step_of (last log) (Some s) verb j q reply end).in_hand
+
+    brings : IsBringing (log ++ l ∷ []) changed_machine.cluster changed_machine.replicas hands behind
     brings =
         let (inv, history) = run_history log run in
-        let asks_is : IsSynchronize (asked s.op) = (let (place, timeout, is) = asks_by s.op (subst IsSyncWord (sym due.word) syncs) in subst IsSynchronize (sym is) tt) in
-        step_brings log inv history (run_copies log run) s held (all_bring log run (who s) s held asks_is) d due.call_is word end details asks_is verb j q reply
-        (λ k given. stepped_goes (last log) inv history.bare (run_copies log run) k given s held t own row) due.done own row
+        step_brings log inv history (run_copies log run) s held (all_bring log run (who s) s held syncs_is) d due.call_is word end details syncs_is hands verb j q reply
+        (subst (λ o. LeavesCopying (last log) l (step_of (last log) o verb j q reply end).cluster (step_of (last log) o verb j q reply end).replicas (step_of (last log) o verb j q reply end).in_hand) due.in_hand (label_leaves (last log) inv history (run_copies log run) l allowed due)) due.done own row
 
     all : HasServedAll changed_machine.cluster.entries behind told
     all =

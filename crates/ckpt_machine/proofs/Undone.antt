@@ -101,7 +101,7 @@ module _ (m : Machine) (shapes : ℕ → Shape) (inv : InvariantIn shapes m) (s 
     was_held = λ a z left. left_other a z left (λ other at. at);
     dead = λ d dead. dead.gone;
     live = λ a z left live. live;
-    lives = λ a z left. refl;
+    lives = λ a z left client. refl;
     makes = λ a z j e left found by. left_other a z left (λ other at. makes_still z (apart_from m.in_hand m.pending m.next inv.calls s held a z at other) j e found by);
     owners = λ j sh d own. put_who-other m.in_hand (who s) None (who own.state) (owner_apart m s o held is j sh d own);
     markers = λ j marks there own. put_who-other m.in_hand (who s) None (who own.state) (marker_apart m s o held is j marks own);

@@ -1,5 +1,5 @@
 -- An update is answered OK by a commit, or by a look that finds nothing left of it, or on the active alone where it is applied in one step, or its weak write has been done: by no other step, and not at its beginning.
-use Rattle.std.proofs.Common.{◌≡◌, ℕ, Option, Some, None, Bool, cond, true, false, refl, sym, subst, ◌∙◌}
+use Rattle.std.proofs.Common.{◌≡◌, ℕ, ℤ, ◌⊎◌, inl, inr, Option, Some, None, Bool, cond, true, false, refl, sym, subst, ◌∙◌}
 use Rattle.ckpt_types.specs.declared.ais_error.AisError.{AisError}
 use Rattle.ckpt_types.specs.declared.ais_error.AisError.TheVariants.{TryAgain}
 use Rattle.ckpt_types.specs.declared.answers.Answer.{Answer}
@@ -26,13 +26,15 @@ use Rattle.ckpt_types.specs.Asks as asks
 use Rattle.ckpt_machine.specs.BeginRows.{ends_at_once, IsGivenBy, BeginRow}
 use Rattle.ckpt_machine.specs.Beginning.{Standing}
 use Rattle.ckpt_machine.specs.Driving.{refused_cause}
-use Rattle.ckpt_machine.specs.Guards.{AtNode, Row}
+use Rattle.ckpt_machine.specs.CopyGuards.{CopyPullRow, CopyReserveRow}
+use Rattle.ckpt_machine.specs.Guards.{AtNode, AsksOpen, AsksUpdate, Row}
 use Rattle.ckpt_machine.specs.LookGuards.{LookRow}
-use Rattle.ckpt_machine.specs.ActiveGuards.{ApplyOk, MarkOk, MarkRow, ElementRow}
+use Rattle.ckpt_machine.specs.ActiveGuards.{ApplyOk, MarkOk, MarkRow, ElementRow, PullRow}
+use Rattle.ckpt_machine.specs.OpenGuards.{ReserveRow}
 use Rattle.ckpt_machine.specs.UpdateGuards.{StageRefused, StageHeld, StageRow, CommitRow, ClaimOk, ClaimFree, ClaimRow, WithdrawOk, WithdrawRow}
 use Rattle.ckpt_machine.specs.Machine.{Machine, CallState}
 use Rattle.ckpt_machine.specs.Due.{Told}
-use Rattle.ckpt_machine.proofs.Refusing.{row_at_ckpt, at_node, at_none, at_node_alone, on_all, begins_on_active}
+use Rattle.ckpt_machine.proofs.Refusing.{row_at_ckpt, at_node, at_none, at_node_alone, on_all, begins_on_active, by_update}
 
 -- ---- an update asks for no other thing
 
@@ -116,9 +118,9 @@ module _ (m : Machine) (s : CallState) (word : IsUpdateWord (word_of_op s.op)) (
   withdraw_not_done k r words.Ok row = on_all m k r (λ e x. WithdrawOk m s.call k (Some (Done answer)) x) row (λ e x (ok : WithdrawOk m s.call k (Some (Done answer)) x). goes_on ok.answer)
   withdraw_not_done k r reply row = absurd row
 
-  commit_done : (k r : Option ℕ) (reply : StepReply) (details : Details) → AtNode k r (λ k r. (place : ℕ) × (update : Update) × (asked s.op ≡ asks.Change place update) × CommitRow m s.call update k r reply (Some (Done answer)) details) → IsTakenOn verbs.Commit k r reply
+  commit_done : (k r : Option ℕ) (reply : StepReply) (details : Details) → AtNode k r (λ k r. AsksUpdate m s (λ update ends. CommitRow m s.call update ends k r reply (Some (Done answer)) details)) → IsTakenOn verbs.Commit k r reply
   commit_done (Some k) (Some r) words.Ok details row = tt
-  commit_done (Some k) (Some r) reply details row = absurd row.3
+  commit_done (Some k) (Some r) reply details row = absurd (by_update m s (λ update ends. CommitRow m s.call update ends k r reply (Some (Done answer)) details) row (λ update ends row. row))
   commit_done (Some k) None reply details row = absurd row
   commit_done None r reply details row = absurd row
 
@@ -155,15 +157,21 @@ module _ (m : Machine) (s : CallState) (word : IsUpdateWord (word_of_op s.op)) (
   done_by_taking verbs.Enter k r reply details row = at_node_alone k r _ row.0 (λ q p. no_other _ p.2)
   done_by_taking verbs.Open k r reply details row = row_at_ckpt k r _ row.0 (λ k p. no_other _ p.2.asks)
   done_by_taking verbs.Create k r reply details row = row_at_ckpt k r _ row.0 (λ k p. no_other _ p.2.asks)
-  done_by_taking verbs.Reserve k r reply details row = at_node k r _ row.0 (λ k r p. no_other _ p.2.asks)
+  done_by_taking verbs.Reserve k r reply details row = at_node k r _ row.0 (λ k r p. reserve_not_asked k r p) where
+    reserve_not_asked : (k r : ℕ) → AsksOpen s (λ name a. ReserveRow m s k r reply (Some (Done answer))) ⊎ ((asked s.op ≡ asks.Copy) × CopyReserveRow m s k r reply (Some (Done answer))) → ⊥
+    reserve_not_asked k r (inl p) = no_other _ p.2.asks
+    reserve_not_asked k r (inr p) = no_other _ p.0
   done_by_taking verbs.Finish k r reply details row = row_at_ckpt k r _ row.0 (λ k p. no_other _ p.2.asks)
   done_by_taking verbs.Undo k r reply details row = row_at_ckpt k r _ row.0 (λ k p. no_other _ p.2.asks)
-  done_by_taking verbs.Stage k r reply details row = at_node k r _ row.0 (λ k r p. stage_not_done p.1 k r reply p.3)
+  done_by_taking verbs.Stage k r reply details row = at_node k r _ row.0 (λ k r p. by_update m s (λ update ends. StageRow m s update k r reply (Some (Done answer))) p (λ update ends row. stage_not_done update k r reply row))
   done_by_taking verbs.Read k r reply details row = at_node k r _ row (λ k r p. no_other _ p.2)
   done_by_taking verbs.Status k r reply details row = at_node k r _ row (λ k r p. no_other _ p.1)
   done_by_taking verbs.Iter k r reply details row = at_node k r _ row.0 (λ k r p. no_other _ p.4)
   done_by_taking verbs.Next k r reply details row = at_node k r _ row (λ k r p. no_other _ p.1)
-  done_by_taking verbs.Pull k r reply details row = at_node k r _ row.0 (λ k r p. no_other _ p.2)
+  done_by_taking verbs.Pull k r reply details row = at_node k r _ row.0 (λ q n p. pull_not_asked q n (record { verb = verbs.Pull; ckpt = k; node = r; reply = reply; end = Some (Done answer); details = details }) p) where
+    pull_not_asked : (k r : ℕ) (t : Told) → ((place : ℕ) × (timeout : Option ℤ) × (asked s.op ≡ asks.Synchronize place timeout) × PullRow m s k r t reply) ⊎ ((asked s.op ≡ asks.Copy) × CopyPullRow m s k r t reply) → ⊥
+    pull_not_asked k r t (inl p) = no_other _ p.2
+    pull_not_asked k r t (inr p) = no_other _ p.0
   done_by_taking verbs.Install k r reply details row = at_node k r _ row.0 (λ k r p. no_other _ p.2)
   done_by_taking verbs.Hold k r reply details row = at_node k r _ row.0 (λ k r p. no_other _ p.1)
   done_by_taking verbs.Activate k r reply details row = at_node k r _ row.0 (λ k r p. no_other _ p.1)
@@ -171,7 +179,7 @@ module _ (m : Machine) (s : CallState) (word : IsUpdateWord (word_of_op s.op)) (
   done_by_taking verbs.Close k r reply details row = row_at_ckpt k r _ row.0 (λ k p. no_other _ p.1)
   done_by_taking verbs.Unlink k r reply details row = row_at_ckpt k r _ row.0 (λ k p. no_other _ p.1)
   done_by_taking verbs.Retain k r reply details row = row_at_ckpt k r _ row.0 (λ k p. no_other _ p.2)
-  done_by_taking verbs.Claim k r reply details row = at_node k r _ row.0 (λ k r p. claim_not_done k r reply p.3)
-  done_by_taking verbs.Withdraw k r reply details row = at_node k r _ row.0 (λ k r p. withdraw_not_done k r reply p.3)
+  done_by_taking verbs.Claim k r reply details row = at_node k r _ row.0 (λ k r p. by_update m s (λ update ends. ClaimRow m s k r reply (Some (Done answer))) p (λ update ends row. claim_not_done k r reply row))
+  done_by_taking verbs.Withdraw k r reply details row = at_node k r _ row.0 (λ k r p. by_update m s (λ update ends. WithdrawRow m s k r reply (Some (Done answer))) p (λ update ends row. withdraw_not_done k r reply row))
+  done_by_taking verbs.Complete k r reply details row = at_node k r _ row.0 (λ k r p. no_other _ p.0)
   done_by_taking verbs.Look k r reply details row = look_done k r reply row.2
-  done_by_taking verb k r reply details row = absurd row

@@ -1,21 +1,21 @@
 -- What the code relies on of an update's due request: its node is one of the eight and has the replica, and a commit's slot is the call's, with its own update.
 use Rattle.std.proofs.Common.{◌≡◌, ℕ, ◌+◌, ◌<◌, Option, Some, None, true, false, ℤ, refl, sym, ap, subst, ◌∙◌, arith}
-use Rattle.std.specs.Prelude.{is_some, IsSome, IsSomeAnd, length, slice_index}
+use Rattle.std.specs.Prelude.{IsSomeAnd, length, slice_index}
 use Rattle.std.proofs.lemmas.Option.{same_Some}
 use Rattle.ckpt_types.specs.declared.identities.CallId.{CallId}
 use Rattle.cluster_record.specs.declared.calls.UpdatePhase.{UpdatePhase}
 use Rattle.cluster_record.specs.declared.calls.UpdatePhase.TheVariants.{Staging, Committing, Claiming, Claimed, Withdrawing, Resolving}
 use Rattle.cluster_record.specs.declared.entries.Entry.{Entry}
-use Rattle.cluster_record.specs.DueUpdate.{UpdateState, by_phase, claim_at, commit_at, kept_moment, stage_at, update_led, update_next, update_on}
+use Rattle.cluster_record.specs.DueUpdate.{UpdateState, by_phase, claim_at, commit_at, stage_at, update_led, update_next, update_on}
 use Rattle.cluster_record.specs.RecordState.{entry_of}
 use Rattle.cluster_record.specs.StepDone.{has, lacks, first_lacking, last_having}
 use Rattle.node_msgs.specs.declared.next.Next.{Next}
 use Rattle.node_msgs.specs.declared.next.Next.TheVariants.{Serve}
 use Rattle.node_msgs.specs.declared.requests.Request.{Request}
 use Rattle.node_msgs.specs.declared.requests.Request.TheVariants as requests
+use Rattle.ckpt_machine.specs.Drivers.{Driver, update_in}
 use Rattle.ckpt_machine.specs.Drivers as drivers
 use Rattle.ckpt_machine.specs.Machine.{Machine, Staged, ReplicaState, CallState, who}
-use Rattle.ckpt_types.specs.Asks.{update_of}
 use Rattle.stage_slot.specs.Slots.{IsOwnedBy}
 use Rattle.node_core.specs.Fitting.{IsReadyFor}
 use Rattle.ckpt_machine.specs.Facts.{IsServable, HasNoSlot, IsOwnWhere, IsToCommit}
@@ -23,10 +23,11 @@ use Rattle.ckpt_machine.specs.After.{staged_moment}
 use Rattle.ckpt_machine.specs.Due.{driver_of}
 use Rattle.ckpt_machine.specs.Seen.{seen, seen_at, seen_slot}
 use Rattle.ckpt_machine.specs.Shape.{Shape, IsCompleteOn, IsShaped, IsSpread, PhaseFits, slot_by}
+use Rattle.ckpt_machine.specs.InHand.{IsUpdateIn}
 use Rattle.ckpt_machine.specs.Invariant.{InvariantIn}
 use Rattle.ckpt_machine.proofs.NodeLists.{first_lacking-is, last_having-is, lacked-has, had-there, index-within}
 use Rattle.ckpt_machine.proofs.StagedMoment.{moment_first, moment_later}
-use Rattle.ckpt_machine.proofs.Owning.{at, spread, owns_had, own_owner, own_phase, replica_at, seen_is}
+use Rattle.ckpt_machine.proofs.Owning.{spread, owns_had, own_owner, own_phase, replica_at, seen_is}
 use Rattle.ckpt_machine.proofs.OptionLemmas.{IsSomeAnd-at, IsSomeAnd-from}
 
 -- a due stage has the moment of the slots that stand, where its replica has none
@@ -44,10 +45,10 @@ abbrev pub IsReadyNext : Machine → CallState → Next → Type 0
 IsReadyNext m s (Serve r request) = (r < 8) × IsServable m r request × HasMoment m r request × HasStaged m s r request
 IsReadyNext m s next = Unit {0}
 
-module _ (m : Machine) (shapes : ℕ → Shape) (inv : InvariantIn shapes m) (s : CallState) (u : UpdateState) (held : m.in_hand (who s) ≡ Some s) (is : driver_of s ≡ drivers.Update u) where
+module _ (m : Machine) (shapes : ℕ → Shape) (inv : InvariantIn shapes m) (s : CallState) (u : UpdateState) (held : m.in_hand (who s) ≡ Some s) (is : update_in (driver_of s) ≡ Some u) (at : IsUpdateIn m shapes s u) where
   module _ (e : Entry) (found : entry_of u.ckpt m.cluster.entries ≡ Some e) where
     abbrev was : IsSpread m u.ckpt (shapes u.ckpt) e
-    was = spread m shapes inv s u held is e found
+    was = spread m shapes inv s u held is at e found
 
     within : (r : ℕ) → IsCompleteOn e r → r < 8
     within r there = subst (λ (n : ℕ). r < n) was.nodes (index-within e.complete r there)
@@ -55,7 +56,7 @@ module _ (m : Machine) (shapes : ℕ → Shape) (inv : InvariantIn shapes m) (s 
     -- a replica with no slot is at a node where none is owned
     free_node : (r : ℕ) → IsCompleteOn e r → IsSomeAnd (m.replicas u.ckpt r) HasNoSlot → (shapes u.ckpt).owners r ≡ None
     free_node r there free =
-        let (x, here, shaped) = replica_at m shapes inv s u held is e found r there in
+        let (x, here, shaped) = replica_at m shapes inv s u held is at e found r there in
         let (y, also, none) = IsSomeAnd-at (m.replicas u.ckpt r) HasNoSlot free in
         by_owner ((shapes u.ckpt).owners r) refl (sym shaped.slot ∙ ap (λ (z : ReplicaState). z.slot) (same_Some x y (sym here ∙ also)) ∙ none)
       where
@@ -65,8 +66,8 @@ module _ (m : Machine) (shapes : ℕ → Shape) (inv : InvariantIn shapes m) (s 
 
     stage_ready : (r : ℕ) (t : ℤ) → IsCompleteOn e r → ((shapes u.ckpt).owners r ≡ None → staged_moment m u.ckpt ≡ t) → IsReadyNext m s (Serve r (requests.Stage u.call u.ckpt t))
     stage_ready r t there mom =
-        let (x, here, shaped) = replica_at m shapes inv s u held is e found r there in
-        (within r there, IsSomeAnd-from (seen_at m u.ckpt r) (IsReadyFor (requests.Stage u.call u.ckpt t)) (seen u.ckpt e.attributes x) (seen_is m shapes inv s u held is e found r x here) shaped.unmarked, λ free. mom (free_node r there free), tt)
+        let (x, here, shaped) = replica_at m shapes inv s u held is at e found r there in
+        (within r there, IsSomeAnd-from (seen_at m u.ckpt r) (IsReadyFor (requests.Stage u.call u.ckpt t)) (seen u.ckpt e.attributes x) (seen_is m shapes inv s u held is at e found r x here) shaped.unmarked, λ free. mom (free_node r there free), tt)
 
     -- at a node that it has its slot stands
     module _ (r : ℕ) (had : has (slice_index e.complete r) (slice_index u.owned r) ≡ true) where
@@ -75,27 +76,31 @@ module _ (m : Machine) (shapes : ℕ → Shape) (inv : InvariantIn shapes m) (s 
 
       own_r : (x : ReplicaState) × (m.replicas u.ckpt r ≡ Some x) × IsShaped (shapes u.ckpt) (Some s.call) x
       own_r =
-          let (x, here, shaped) = replica_at m shapes inv s u held is e found r there_r in
-          (x, here, subst (λ o. IsShaped (shapes u.ckpt) o x) (owns_had m shapes inv s u held is e found r there_r had) shaped)
+          let (x, here, shaped) = replica_at m shapes inv s u held is at e found r there_r in
+          (x, here, subst (λ o. IsShaped (shapes u.ckpt) o x) (owns_had m shapes inv s u held is at e found r there_r had) shaped)
 
       owned_there : (x : ReplicaState) → IsShaped (shapes u.ckpt) (Some s.call) x → IsOwnedBy u.call (seen_slot (length x.effects) x.slot)
-      owned_there x own = subst (λ z. IsOwnedBy u.call (seen_slot (length x.effects) z)) (sym own.slot) (sym (at m shapes inv s u held is).call)
+      owned_there x own = subst (λ z. IsOwnedBy u.call (seen_slot (length x.effects) z)) (sym own.slot) (sym at.call)
 
       commit_ready : IsReadyNext m s (Serve r (requests.Commit u.call u.ckpt))
       commit_ready =
           let (x, here, own) = own_r in (
             within r there_r,
-            IsSomeAnd-from (seen_at m u.ckpt r) (IsReadyFor (requests.Commit u.call u.ckpt)) (seen u.ckpt e.attributes x) (seen_is m shapes inv s u held is e found r x here) (owned_there x own),
+            IsSomeAnd-from (seen_at m u.ckpt r) (IsReadyFor (requests.Commit u.call u.ckpt)) (seen u.ckpt e.attributes x) (seen_is m shapes inv s u held is at e found r x here) (owned_there x own),
             tt,
             IsSomeAnd-from (m.replicas u.ckpt r) (λ x. IsSomeAnd x.slot (IsToCommit s (driver_of s))) x here
-                (subst (λ o. IsSomeAnd o (IsToCommit s (driver_of s))) (sym own.slot) (subst (λ d. IsToCommit s d own_slot) (sym is) (own_staged u.phase owner_fits))),
+                (subst (λ o. IsSomeAnd o (IsToCommit s (driver_of s))) (sym own.slot) (to_commit (driver_of s) is (own_staged u.phase owner_fits))),
           )
         where
           own_slot : Staged
           own_slot = record { owner = s.call; origin = (shapes u.ckpt).origin; update = (shapes u.ckpt).update; moment = (shapes u.ckpt).moment }
 
+          to_commit : (d : Driver) → update_in d ≡ Some u → IsOwnWhere s u.phase own_slot → IsToCommit s d own_slot
+          to_commit (drivers.Update v) does own = subst (λ (w : UpdateState). IsOwnWhere s w.phase own_slot) (sym (same_Some v u does)) own
+          to_commit d does own = tt
+
           owner_fits : PhaseFits m (shapes u.ckpt) s u u.phase
-          owner_fits = own_phase m shapes inv s u held is e found (own_owner m shapes inv s u held is e found r (owns_had m shapes inv s u held is e found r there_r had))
+          owner_fits = own_phase m shapes inv s u held is at e found (own_owner m shapes inv s u held is at e found r (owns_had m shapes inv s u held is at e found r there_r had))
 
           own_staged : (ph : UpdatePhase) → PhaseFits m (shapes u.ckpt) s u ph → IsOwnWhere s ph own_slot
           own_staged Staging fits = record { origin = fits.origin; update = fits.update }
@@ -108,17 +113,17 @@ module _ (m : Machine) (shapes : ℕ → Shape) (inv : InvariantIn shapes m) (s 
       withdraw_ready : IsReadyNext m s (Serve r (requests.Withdraw u.call u.ckpt))
       withdraw_ready =
           let (x, here, own) = own_r in
-          (within r there_r, IsSomeAnd-from (seen_at m u.ckpt r) (IsReadyFor (requests.Withdraw u.call u.ckpt)) (seen u.ckpt e.attributes x) (seen_is m shapes inv s u held is e found r x here) (owned_there x own), tt, tt)
+          (within r there_r, IsSomeAnd-from (seen_at m u.ckpt r) (IsReadyFor (requests.Withdraw u.call u.ckpt)) (seen u.ckpt e.attributes x) (seen_is m shapes inv s u held is at e found r x here) (owned_there x own), tt, tt)
 
     claim_ready : (r : ℕ) → IsCompleteOn e r → IsReadyNext m s (Serve r (requests.Claim u.call u.ckpt u.owner))
     claim_ready r there =
-        let (x, here, shaped) = replica_at m shapes inv s u held is e found r there in
-        (within r there, IsSomeAnd-from (seen_at m u.ckpt r) (IsReadyFor (requests.Claim u.call u.ckpt u.owner)) (seen u.ckpt e.attributes x) (seen_is m shapes inv s u held is e found r x here) tt, tt, tt)
+        let (x, here, shaped) = replica_at m shapes inv s u held is at e found r there in
+        (within r there, IsSomeAnd-from (seen_at m u.ckpt r) (IsReadyFor (requests.Claim u.call u.ckpt u.owner)) (seen u.ckpt e.attributes x) (seen_is m shapes inv s u held is at e found r x here) tt, tt, tt)
 
     -- it has the highest node with its slot
     had_last : (r : ℕ) → last_having 0 e.complete u.owned ≡ Some r → has (slice_index e.complete r) (slice_index u.owned r) ≡ true
     had_last r some =
-        let at_r = last_having-is 0 e.complete u.owned r ((at m shapes inv s u held is).nodes ∙ sym was.nodes) some in
+        let at_r = last_having-is 0 e.complete u.owned r (at.nodes ∙ sym was.nodes) some in
         let here : r ≡ 0 + at_r.place = at_r.at in
         let same : at_r.place ≡ r = omega (arith, here) in
         subst (λ (q : ℕ). has (slice_index e.complete q) (slice_index u.owned q) ≡ true) same at_r.had
@@ -134,7 +139,7 @@ module _ (m : Machine) (shapes : ℕ → Shape) (inv : InvariantIn shapes m) (s 
     -- what it stages at once
     first_stage : (first : Option ℕ) → first_lacking 0 e.complete u.owned ≡ first → last_having 0 e.complete u.owned ≡ None → IsReadyNext m s (stage_at u m.cluster.moment first None)
     first_stage None lacked none = tt
-    first_stage (Some r) lacked none = let (complete, before) = lacked_first r lacked in stage_ready r m.cluster.moment complete (moment_first m shapes inv s u held is e found r complete before none)
+    first_stage (Some r) lacked none = let (complete, before) = lacked_first r lacked in stage_ready r m.cluster.moment complete (moment_first m shapes inv s u held is at e found r complete before none)
 
     -- what it commits
     commit_last : (last : Option ℕ) → last_having 0 e.complete u.owned ≡ last → IsReadyNext m s (commit_at u last)
@@ -149,7 +154,7 @@ module _ (m : Machine) (shapes : ℕ → Shape) (inv : InvariantIn shapes m) (s 
 
     by_next : (ph : UpdatePhase) → u.phase ≡ ph → (first last : Option ℕ) → first_lacking 0 e.complete u.owned ≡ first → last_having 0 e.complete u.owned ≡ last → IsReadyNext m s (by_phase u m.cluster.moment first last ph)
     by_next Staging staging (Some r) None lacked none = first_stage (Some r) lacked none
-    by_next Staging staging (Some r) (Some p) lacked some = let (complete, before) = lacked_first r lacked in stage_ready r u.moment complete (λ free. moment_later m shapes inv s u held is e found staging p (had_last p some))
+    by_next Staging staging (Some r) (Some p) lacked some = let (complete, before) = lacked_first r lacked in stage_ready r u.moment complete (λ free. moment_later m shapes inv s u held is at e found staging p (had_last p some))
     by_next Staging staging None (Some r) lacked having = commit_last (Some r) having
     by_next Staging staging None None lacked having = tt
     by_next Committing phase first last lacked having = commit_last last having

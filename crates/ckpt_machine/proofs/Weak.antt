@@ -151,7 +151,7 @@ module _ (m : Machine) (shapes : ℕ → Shape) (inv : InvariantIn shapes m) (s 
               (λ v same. subst (IsMarker then_machine k) (same_Some marks v same) marker_then)
               (λ z same. subst (IsInHand then_machine then_shapes (who s)) (same_Some (then_state verb) z same) (record {
                 whose = refl;
-                client = hand.client;
+                asker = hand.asker;
                 number = hand.number;
                 built = hand.built;
                 driven = hand.driven;

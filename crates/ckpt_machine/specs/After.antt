@@ -12,6 +12,7 @@ use Rattle.ckpt_types.specs.declared.identities.Who.TheVariants.{Actor}
 use Rattle.ckpt_types.specs.declared.identities.Who.TheVariants as whos
 use Rattle.ckpt_types.specs.declared.operation.Op.{Op}
 use Rattle.ckpt_types.specs.declared.update.Update.{Update}
+use Rattle.ckpt_types.specs.declared.update.Update.TheVariants as updates
 use Rattle.ckpt_types.specs.Sections.{Section}
 use Rattle.ckpt_types.specs.Updates.{outcome}
 use Rattle.ckpt_types.specs.Reads.{NextGiven, given, chosen}
@@ -27,8 +28,9 @@ use Rattle.ckpt_types.specs.OpWord.{word_of_op, is_async, stepped_as}
 use Rattle.client_handles.specs.declared.handle_view.HandleView.{HandleView}
 use Rattle.ckpt_machine.specs.Drivers.{Driver}
 use Rattle.cluster_record.specs.declared.entries.Entry.{Entry}
+use Rattle.cluster_record.specs.Placement.{is_all}
 use Rattle.replica.specs.Replicas.{Replica, or_same, first_written, elements_left}
-use Rattle.cluster_record.specs.Calls.{number_of, client_of, same_actor, same_call, put_actor, left}
+use Rattle.cluster_record.specs.Calls.{client_of, same_actor, same_call, put_actor, left}
 use Rattle.cluster_record.specs.Places.{put2}
 use Rattle.cluster_record.specs.RecordState.{RecordState, entry_of, complete_of, brought_up, moved, swept, entered, created_as, finished, opened, undone, closed, unlinked, retained, departed, hold_set, active_set}
 use Rattle.node_core.specs.Serving.{made_id}
@@ -42,6 +44,7 @@ use Rattle.call_dispatch.specs.declared.async_call.AsyncCall.{AsyncCall}
 use Rattle.ckpt_types.specs.declared.calls.AsyncKind.{AsyncKind}
 use Rattle.ckpt_types.specs.declared.calls.AsyncKind.TheVariants as kinds
 use Rattle.ckpt_types.specs.declared.operation.Op.TheVariants as ops
+use Rattle.cluster_record.specs.Joining.{completed}
 use Rattle.cluster_record.specs.Makings.{making_of}
 use Rattle.cluster_record.specs.StepDone.{done_of, counting, generation_in}
 use Rattle.ckpt_types.specs.Asks.{Ask, asked, update_of, invocation_of}
@@ -49,7 +52,7 @@ use Rattle.ckpt_types.specs.Asks as asks
 use Rattle.ckpt_machine.specs.Tables.{handle_closed, started, gone_on, ended_at_once, tables_done}
 use Rattle.ckpt_machine.specs.Whose.{is_of, put_who}
 use Rattle.ckpt_machine.specs.Seen.{seen_at}
-use Rattle.ckpt_machine.specs.Due.{asked_handle, counted_at, ids_asked, kept_at_beginning}
+use Rattle.ckpt_machine.specs.Due.{asked_handle, counted_at, ids_asked, kept_at_beginning, kept_reserving}
 use Rattle.ckpt_machine.specs.Failing.{failed_at}
 use Rattle.ckpt_machine.specs.NodeJoins.{joined_at}
 pub use Rattle.ckpt_machine.specs.Under.{opened_state, replica_under, replicas_under, reservation_under, snapshot_under, with_record}
@@ -251,6 +254,22 @@ record_step step m = with_record m (swept (step m.cluster))
 abbrev pub led_from : Option Snapshot → ℕ → ℕ → Machine → Machine
 led_from s k r m = change_replica m k r (m.replicas k r) (with_lead s (generation_in (entry_of k m.cluster.entries)))
 
+-- the slot of a copying, whose update changes nothing, where updates are on all replicas
+abbrev pub slot_copied : CallId → ℤ → Bool → Option Staged
+slot_copied call t true = Some (record { owner = call; origin = call; update = updates.Nothing; moment = t })
+slot_copied call t false = None
+
+-- the replica on a node that is complete from then on has what was pulled, the present generation of its checkpoint, and the slot of the copying, where
+-- updates are on all replicas
+abbrev pub replica_copied : CallId → ℤ → Option Entry → Option Snapshot → Option ReplicaState
+replica_copied call t (Some e) (Some s) =
+    Some (record { sections = s.sections; effects = s.effects; generation = e.generation; slot = slot_copied call t (is_all e.attributes); marks = None })
+replica_copied call t e s = None
+
+-- so has the replica on the node that a copying has made complete
+abbrev pub with_replica_copied : CallState → ℕ → ℕ → ℤ → Machine → Machine
+with_replica_copied s k r t m = record m { replicas = put2 m.replicas k r (replica_copied s.call t (entry_of k m.cluster.entries) s.snapshot) }
+
 -- a checkpoint is in the making by a call that asks to open it
 abbrev pub created_for : CallId → Ask → RecordState → RecordState
 created_for call (asks.Open place name flags timeout a) R = created_as call name a R
@@ -302,6 +321,8 @@ changed m s verbs.Iter k r reply = on_ok reply m (on_replica k r m (λ k r. with
 changed m s verbs.Next k r reply = on_ok reply m (on_replica k r m (λ k r. with_gone_on s k r m))
 changed m s verbs.Hold k r reply = on_ok reply m (at_some k m (λ k. record_step (hold_set k s.call) m))
 changed m s verbs.Activate k r reply = on_ok reply m (on_replica k r m (λ k r. led_from s.snapshot k r (record_step (active_set k r) m)))
+changed m s verbs.Complete k r reply =
+    on_ok reply m (on_replica k r m (λ k r. with_replica_copied s k r (staged_moment m k) (record_step (completed k r) m)))
 changed m s verbs.Look k r reply = on_look reply m (with_closed s m) (without_making (making_of s.call m.cluster) m)
 changed m s verb k r reply = m
 
@@ -322,19 +343,26 @@ abbrev pub created_by : Machine → CallState → Verb → Option ℕ → Option
 created_by m s verbs.Commit (Some k) (Some r) = made_on s.call s.created (m.replicas k r)
 created_by m s verb k r = s.created
 
--- the snapshot that the call has in hand behind a step: of the replica that it has pulled, or holds
+-- the snapshot that the call has in hand behind a step: of the replica that it has pulled, or holds; none behind a reservation
 abbrev pub pulled_by : Machine → CallState → Verb → Option ℕ → Option ℕ → StepReply → Option Snapshot
 pulled_by m s verbs.Pull (Some k) (Some r) words.Ok = option_map copied (m.replicas k r)
 pulled_by m s verbs.Hold (Some k) (Some r) words.Ok = option_map copied (m.replicas k r)
+pulled_by m s verbs.Reserve k r words.Ok = None
 pulled_by m s verb k r reply = s.snapshot
 
--- what a call keeps behind a step of what the state before it had: the count that was told, what was created, and what was pulled; the record is as it
--- is after the step
+-- what the call keeps of a checkpoint behind a step: a copying, of that for which its node has reserved
+abbrev pub kept_by : Machine → CallState → Verb → Option ℕ → StepReply → Kept
+kept_by m s verbs.Reserve (Some k) words.Ok = kept_reserving (asked s.op) k m.cluster s.kept
+kept_by m s verb k reply = s.kept
+
+-- what a call keeps behind a step of what the state before it had: the count that was told, what was created, what was pulled, and for which checkpoint was
+-- reserved; the record is as it is after the step
 abbrev pub kept_behind : Machine → CallState → RecordState → Verb → Option ℕ → Option ℕ → StepReply → CallState
 kept_behind m s R verb k r reply = record s {
   steps = counting (counted_at m verb k r reply) (done_of R verb k r reply) ∷ s.steps;
   created = created_by m s verb k r;
   snapshot = pulled_by m s verb k r reply;
+  kept = kept_by m s verb k reply;
 }
 
 -- the handle that an open has opened
@@ -404,7 +432,7 @@ begun_call m call op end = record m {
   pending = put_actor m.pending call.actor (pending_begun end call op (asked_handle m call.actor op) (m.pending call.actor));
   in_hand =
       put_who m.in_hand (stepped_as call (word_of_op op))
-      (call_begun end call op (kept_at_beginning m.cluster (number_of call.actor) (asked_handle m call.actor op)));
+      (call_begun end call op (kept_at_beginning m.cluster call.actor (asked_handle m call.actor op)));
 }
 
 -- a call has begun, and has ended an iteration where it ends one, and set the places of the opens whose callbacks it gives

@@ -10,6 +10,7 @@ use Rattle.ckpt_types.specs.declared.calls.CallbackSet.{CallbackSet}
 use Rattle.ckpt_types.specs.declared.answers.Outcome.{Outcome}
 use Rattle.ckpt_types.specs.declared.answers.Outcome.TheVariants.{Done, Refused, NoMemory}
 use Rattle.ckpt_types.specs.declared.identities.ActorName.{ActorName}
+use Rattle.ckpt_types.specs.declared.identities.ActorName.TheVariants.{Client, Node}
 use Rattle.ckpt_types.specs.declared.identities.CallId.{CallId}
 use Rattle.ckpt_types.specs.declared.identities.Who.{Who}
 use Rattle.ckpt_types.specs.declared.identities.Who.TheVariants.{Actor}
@@ -26,10 +27,9 @@ use Rattle.ckpt_types.specs.declared.words.OpWord.TheVariants as opwords
 use Rattle.run_labels.specs.declared.words.Said.{Said}
 use Rattle.run_labels.specs.declared.words.Said.TheVariants.{Busy, Idle, Live, Down}
 use Rattle.client_handles.specs.declared.handle_view.HandleView.{HandleView}
-use Rattle.cluster_record.specs.Calls.{number_of, IsClient}
 use Rattle.cluster_record.specs.RecordState.{is_live_client, is_up}
 use Rattle.ckpt_machine.specs.Beginning.{version_is_bad, name_is_bad, attributes_are_bad, are_of_all, are_not_collocated, timeout_is_bad, dispatch_is_bad, given_of, callbacks_told, takes_memory_at_once, Standing, vector_is_bad, update_is_bad, choice_is_bad, may_write, may_read, may_always}
-use Rattle.ckpt_types.specs.Asks.{Ask, asked, is_async_ask, IsBuilt}
+use Rattle.ckpt_types.specs.Asks.{Ask, MayAsk, asked, is_async_ask, IsBuilt}
 use Rattle.ckpt_types.specs.Asks as asks
 use Rattle.ckpt_machine.specs.Machine.{Machine}
 use Rattle.ckpt_machine.specs.Due.{MayBegin, standing_of}
@@ -41,9 +41,10 @@ abbrev pub has_bad_version : Ask → Bool
 has_bad_version (asks.Enter r version callbacks) = version_is_bad version
 has_bad_version ask = false
 
--- any other call is of a client that is live
+-- any other call is of a client that is live, but for a copying, which is a node's
 abbrev pub is_of_client : Ask → Bool
 is_of_client (asks.Enter r version callbacks) = false
+is_of_client asks.Copy = false
 is_of_client ask = true
 
 -- it is about the handle of a place, or about the iteration of one
@@ -53,7 +54,7 @@ is_of_place (asks.Open place name flags timeout a) = false
 is_of_place (asks.Unlink name) = false
 is_of_place asks.Leave = false
 is_of_place (asks.Dispatch flags) = false
-is_of_place asks.Unbuilt = false
+is_of_place asks.Copy = false
 is_of_place ask = true
 
 -- the client of the call is not live, or the place stands for no handle, or for no iteration
@@ -177,13 +178,13 @@ BeginRow st ask (Some NoMemory) = MeetsNoRefusal st ask × (takes_memory_at_once
 BeginRow st ask None = MeetsNoRefusal st ask × (goes_on_behind ask ≡ true)
 BeginRow st ask end = ⊥
 
--- a client begins an operation that is built, with the number that is its next, while it has no call in hand
+-- a client begins an operation that it may ask for, or a node its copying, with the number that is its next, while it has no call in hand
 pub record IsAllowedBegin (m : Machine) (call : CallId) (op : Op) (end : Option Outcome) (details : Details) : Type 0 where
-  pub client : IsClient call.actor
+  pub asker : MayAsk call.actor (asked op)
   pub built : IsBuilt op
   pub number : call.number ≡ m.next call.actor
   pub none_in_hand : m.in_hand (Actor call.actor) ≡ None
-  pub may : MayBegin m.cluster (number_of call.actor) (asked op)
+  pub may : MayBegin m.cluster call.actor (asked op)
   pub row : BeginRow (standing_of m call.actor op) (asked op) end
   pub told : details ≡ callbacks_told end (asked op) (m.pending call.actor)
 
@@ -210,11 +211,26 @@ pub record SomeNodeIsDown (m : Machine) : Type 0 where
   pub below : node < nodes_max
   pub down : is_up node m.cluster ≡ false
 
--- BUSY where a call is in hand; where none is, LIVE to an Initialize of a client that is live, DOWN to one of a client that is not, and IDLE to a step
+-- the line begins a copying
+abbrev pub IsCopyLine : LineWord → Type 0
+IsCopyLine (linewords.Op opwords.Copy) = Unit {0}
+IsCopyLine line = ⊥
+
+-- DOWN to an Initialize of a client that is not live, where a node is down; and to the copying of a node that is down
+abbrev pub DownRow : Machine → ActorName → LineWord → Type 0
+DownRow m (Client c) line = IsInitializeLine line × (is_live_client c m.cluster ≡ false) × SomeNodeIsDown m
+DownRow m (Node r) line = IsCopyLine line × (r < nodes_max) × (is_up r m.cluster ≡ false)
+
+-- LIVE to an Initialize of a client that is live
+abbrev pub LiveRow : Machine → ActorName → LineWord → Type 0
+LiveRow m (Client c) line = IsInitializeLine line × (is_live_client c m.cluster ≡ true)
+LiveRow m (Node r) line = ⊥
+
+-- BUSY where a call is in hand; where none is, LIVE and DOWN as above, and IDLE to a step
 abbrev pub WordRow : Machine → ActorName → LineWord → Said → Type 0
 WordRow m a line Busy = IsCallLine line × IsSome (m.in_hand (Actor a))
-WordRow m a line Live = IsInitializeLine line × (m.in_hand (Actor a) ≡ None) × (is_live_client (number_of a) m.cluster ≡ true)
-WordRow m a line Down = IsInitializeLine line × (m.in_hand (Actor a) ≡ None) × (is_live_client (number_of a) m.cluster ≡ false) × SomeNodeIsDown m
+WordRow m a line Live = (m.in_hand (Actor a) ≡ None) × LiveRow m a line
+WordRow m a line Down = (m.in_hand (Actor a) ≡ None) × DownRow m a line
 WordRow m a line Idle = IsStepLine line × (m.in_hand (Actor a) ≡ None)
 
 -- IDLE to a step of an asynchronous operation that is not there, or is finished

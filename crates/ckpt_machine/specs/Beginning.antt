@@ -23,7 +23,7 @@ use Rattle.client_handles.specs.declared.handle_view.HandleView.{HandleView}
 use Rattle.ckpt_types.specs.Asks.{Ask, is_async_ask, takes_room}
 use Rattle.ckpt_types.specs.Asks as asks
 
--- what a beginning looks at: whether its client is live, the handle of its place, the callbacks that its client has registered, and its asynchronous
+-- what a beginning looks at: whether its client is live, or its node is up, the handle of its place, the callbacks that its client has registered, and its asynchronous
 -- calls that are not dispatched
 pub record Standing : Type 0 where
   pub live : Bool
@@ -174,7 +174,7 @@ begin_end st asks.Leave = if_live st.live None
 begin_end st (asks.Synchronize place timeout) = if_live st.live (sync_asked st timeout)
 begin_end st (asks.SetActive place) = if_live st.live (sync_begin st.handle false are_not_collocated)
 begin_end st (asks.Dispatch flags) = if_live st.live (dispatch_begin flags st.pending)
-begin_end st asks.Unbuilt = None
+begin_end st asks.Copy = None
 
 -- a call takes memory at its beginning for the room that it keeps, and an asynchronous one to go on by itself
 abbrev pub takes_memory_at_once : Ask → Bool

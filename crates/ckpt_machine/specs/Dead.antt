@@ -25,6 +25,7 @@ is_enter (drivers.Open o) = false
 is_enter (drivers.Update u) = false
 is_enter (drivers.Active a) = false
 is_enter (drivers.Sync u) = false
+is_enter (drivers.Copy c) = false
 
 -- the call was begun and is not live, nor will it be when its client becomes live by a call that is in hand, or by a later one
 pub record IsDead (m : Machine) (call : CallId) : Type 0 where

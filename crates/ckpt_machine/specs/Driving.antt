@@ -26,6 +26,7 @@ use Rattle.cluster_record.specs.declared.calls.ActiveKind.TheVariants as kinds
 use Rattle.cluster_record.specs.declared.calls.SyncKind.{SyncKind}
 use Rattle.cluster_record.specs.declared.calls.SyncKind.TheVariants.{Synchronize, ActiveSet}
 use Rattle.ckpt_types.specs.declared.attributes.CreationAttributes.{CreationAttributes}
+use Rattle.cluster_record.specs.DueCopy.{copy_begun, copy_next, copy_taken, done_by}
 use Rattle.cluster_record.specs.DueSync.{sync_begun, sync_next, sync_taken, sync_ended}
 use Rattle.section_iter.specs.declared.room.Room.{Room}
 use Rattle.cluster_record.specs.Calls.{client_of}
@@ -62,6 +63,7 @@ driver_next R rooms (drivers.Open o) = open_next R rooms.handles o
 driver_next R rooms (drivers.Update u) = update_next R u
 driver_next R rooms (drivers.Active a) = active_next R rooms.iterations a
 driver_next R rooms (drivers.Sync s) = sync_next R s
+driver_next R rooms (drivers.Copy c) = copy_next R c
 
 -- the driver after a step of its call
 abbrev pub driver_taken : StepDone → Driver → Driver
@@ -70,26 +72,34 @@ driver_taken d (drivers.Open o) = drivers.Open (open_taken d o)
 driver_taken d (drivers.Update u) = drivers.Update (update_taken d u)
 driver_taken d (drivers.Active a) = drivers.Active (active_taken d a)
 driver_taken d (drivers.Sync s) = drivers.Sync (sync_taken d s)
+driver_taken d (drivers.Copy c) = drivers.Copy (copy_taken d c)
 
--- how the call ends where a node has done what it asked
-abbrev pub done_end : StepDone → Answer → Driver → Option Outcome
-done_end d answer (drivers.Once x) = None
-done_end d answer (drivers.Open o) = None
-done_end d answer (drivers.Update u) = done_end_by d answer u d.verb
-done_end d answer (drivers.Active a) = active_end answer d.verb
-done_end d answer (drivers.Sync s) = sync_ended d.complete s.served s.pulled
+-- how the call ends where a node has done what it asked, by the record; a copying ends where nothing is left to do
+abbrev pub done_end : RecordState → StepDone → Answer → Driver → Option Outcome
+done_end R d answer (drivers.Once x) = None
+done_end R d answer (drivers.Open o) = None
+done_end R d answer (drivers.Update u) = done_end_by d answer u d.verb
+done_end R d answer (drivers.Active a) = active_end answer d.verb
+done_end R d answer (drivers.Sync s) = sync_ended d.complete s.served s.pulled
+done_end R d answer (drivers.Copy c) = done_by (copy_next R c)
 
 -- how it ends where a replica has no need of what it was to take over
 abbrev pub older_end : StepDone → Driver → Option Outcome
 older_end d (drivers.Sync s) = sync_ended d.complete s.served s.pulled
 older_end d x = None
 
--- how a call of an operation ends by a node's reply; where nothing comes of it, the call goes on
-abbrev pub driver_end : Op → StepDone → Reply → Driver → Option Outcome
-driver_end op d (replies.Done answer) x = done_end d answer x
-driver_end op d (replies.Older generation count) x = older_end d x
-driver_end op d (replies.Refused error index) x = Some (Refused error (refused_cause op index))
-driver_end op d reply x = refused_end d.live reply
+-- how it ends where a node was refused memory: a copying does so, and an open undoes what it is making first
+abbrev pub memory_end : Driver → Option Outcome
+memory_end (drivers.Copy c) = Some NoMemory
+memory_end x = None
+
+-- how a call of an operation ends by a node's reply, by the record; where nothing comes of it, the call goes on
+abbrev pub driver_end : RecordState → Op → StepDone → Reply → Driver → Option Outcome
+driver_end R op d (replies.Done answer) x = done_end R d answer x
+driver_end R op d (replies.Older generation count) x = older_end d x
+driver_end R op d (replies.Refused error index) x = Some (Refused error (refused_cause op index))
+driver_end R op d replies.NoMemory x = memory_end x
+driver_end R op d reply x = refused_end d.live reply
 
 -- the checkpoint of a step of the record, which was as R before it
 abbrev pub event_ckpt : RecordState → Driver → RecordStep → Option ℕ
@@ -102,6 +112,7 @@ event_ckpt R (drivers.Once (Unlink name)) events.Unlink = identity_in (named nam
 event_ckpt R (drivers.Once (Retain k duration)) events.Retain = Some k
 event_ckpt R (drivers.Sync s) (events.Hold r) = Some s.ckpt
 event_ckpt R (drivers.Sync s) (events.Activate r) = Some s.ckpt
+event_ckpt R (drivers.Copy c) (events.Complete k r moment) = Some k
 event_ckpt R driver step = None
 
 -- the node of a step of the record
@@ -109,6 +120,7 @@ abbrev pub event_node : Driver → RecordStep → Option ℕ
 event_node (drivers.Once (Enter r)) events.Enter = Some r
 event_node (drivers.Sync s) (events.Hold r) = Some r
 event_node (drivers.Sync s) (events.Activate r) = Some r
+event_node (drivers.Copy c) (events.Complete k r moment) = Some r
 event_node driver step = None
 
 -- how a call ends by a step of the record that was done, and its checkpoint
@@ -128,6 +140,11 @@ event_end events.Unlink k = Some (Done answers.Nothing)
 event_end events.Retain k = Some (Done answers.Nothing)
 event_end (events.Activate r) k = Some (Done answers.Nothing)
 event_end step k = None
+
+-- the same, by what drives the call behind the step, and the record: a copying ends by a completion where nothing is left to do
+abbrev pub step_end : RecordState → Driver → RecordStep → Option ℕ → Option Outcome
+step_end R (drivers.Copy c) step k = done_by (copy_next R c)
+step_end R x step k = event_end step k
 
 -- how a call ends by a step that the record refuses: an open of what another call is making
 abbrev pub refusal_in : OpenAnswer → Option Outcome
@@ -157,7 +174,8 @@ takes_memory events.Create = true
 takes_memory step = false
 
 -- what a call keeps of the tables and of the record at its beginning: the checkpoint of its handle, the room for the identifiers that this one declares,
--- whether its updates are on all replicas, whether its writes are weak, what it declares, the client's node, and the moment
+-- whether its updates are on all replicas, whether its writes are weak, what it declares, the node of its client, or the one that copies, and the moment;
+-- a copying keeps the same of a checkpoint for which its node has reserved
 pub record Kept : Type 0 where
   pub ckpt : Option ℕ
   pub room : Room
@@ -200,8 +218,7 @@ abbrev pub change_start : CallId → Bool → ActiveKind → Option ℕ → Opti
 change_start call true kind ckpt = update_start call ckpt
 change_start call false kind ckpt = active_start call kind ckpt
 
--- what drives a call that goes on behind its beginning, or by itself; nothing drives a call on no checkpoint, or one that ends at its beginning, or is
--- not built
+-- what drives a call that goes on behind its beginning, or by itself; nothing drives a call on no checkpoint, or one that ends at its beginning
 abbrev pub driver_start : CallId → Ask → Kept → Option Driver
 driver_start call (asks.Enter r version callbacks) kept = Some (drivers.Once (Enter r))
 driver_start call (asks.Open place name flags timeout a) kept =
@@ -220,7 +237,7 @@ driver_start call asks.Leave kept = Some (drivers.Once Leave)
 driver_start call (asks.Synchronize place timeout) kept = sync_start call (Synchronize (option_map (sum_until_end kept.moment) timeout)) kept.ckpt
 driver_start call (asks.SetActive place) kept = sync_start call (ActiveSet kept.node) kept.ckpt
 driver_start call (asks.Dispatch flags) kept = None
-driver_start call asks.Unbuilt kept = None
+driver_start call asks.Copy kept = Some (drivers.Copy (copy_begun call (update_begun call 0)))
 
 -- where a call's steps, the newest first, have led what drove it at its beginning
 abbrev pub driver_state : Driver → List StepDone → Driver

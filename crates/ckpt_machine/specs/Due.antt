@@ -1,7 +1,7 @@
 -- Which label is due, with its answer.
 use Rattle.section_iter.specs.Room.{room_declared}
 use Rattle.section_iter.specs.declared.room.Room.{Room}
-use Rattle.std.specs.Prelude.{◌≡◌, ◌⊎◌, ℕ, ◌<◌, ◌≤◌, List, length, Option, Some, None, is_some, Bool, IsTrue, true, false}
+use Rattle.std.specs.Prelude.{◌≡◌, ◌⊎◌, ℕ, ◌<◌, ◌≤◌, List, length, Option, Some, None, is_some, Bool, IsTrue, true, false, not, ◌&&◌}
 use Rattle.ckpt_types.specs.declared.answers.Answer.TheVariants as answers
 use Rattle.ckpt_types.specs.declared.answers.Outcome.{Outcome}
 use Rattle.ckpt_types.specs.declared.ais_error.AisError.TheVariants.{TryAgain}
@@ -9,6 +9,7 @@ use Rattle.ckpt_types.specs.declared.answers.Cause.TheVariants.{Holder}
 use Rattle.ckpt_types.specs.declared.answers.Outcome.TheVariants.{Done, Refused, NoMemory}
 use Rattle.ckpt_types.specs.declared.attributes.CreationAttributes.{CreationAttributes}
 use Rattle.ckpt_types.specs.declared.identities.ActorName.{ActorName}
+use Rattle.ckpt_types.specs.declared.identities.ActorName.TheVariants.{Client, Node}
 use Rattle.ckpt_types.specs.declared.identities.CallId.{CallId}
 use Rattle.ckpt_types.specs.declared.identities.Who.TheVariants.{Actor}
 use Rattle.ckpt_types.specs.declared.operation.Op.{Op}
@@ -33,7 +34,7 @@ use Rattle.run_labels.specs.declared.labels.Label.TheVariants as labels
 use Rattle.ckpt_types.specs.OpWord.{word_of_op, stepped_as}
 use Rattle.client_handles.specs.declared.handle_view.HandleView.{HandleView}
 use Rattle.ckpt_machine.specs.Drivers.{Driver, Rooms}
-use Rattle.cluster_record.specs.Calls.{number_of, client_of, IsClient}
+use Rattle.cluster_record.specs.declared.entries.Entry.{Entry}
 use Rattle.cluster_record.specs.LookUps.{declared_in}
 use Rattle.cluster_record.specs.RecordState.{RecordState, entry_of, is_live_client, home_of, is_up, no_nodes, IsMomentFrom}
 use Rattle.node_msgs.specs.Requests.{ckpt_of}
@@ -42,18 +43,19 @@ use Rattle.node_core.specs.Nodes.{MayReserve}
 use Rattle.node_core.specs.Seen.{record_seen}
 use Rattle.weak_marks.specs.Marks.{Marked, call_of}
 use Rattle.node_msgs.specs.Steps.{word_of, verb_of, event_verb}
-use Rattle.ckpt_machine.specs.Driving.{Kept, driver_start, driver_state, driver_next, driver_taken, driver_end, event_ckpt, event_node, event_end, event_refusal, takes_memory}
+use Rattle.ckpt_machine.specs.Driving.{Kept, driver_start, driver_state, driver_next, driver_taken, driver_end, event_ckpt, event_node, event_refusal, takes_memory, step_end}
 use Rattle.ckpt_machine.specs.Listing.{listing_at}
 use Rattle.ckpt_machine.specs.Options.{is_weak, if_declared}
 use Rattle.cluster_record.specs.Placement.{is_all}
 use Rattle.ckpt_machine.specs.Machine.{Machine, ReplicaState, CallState, who}
 use Rattle.ckpt_machine.specs.NodeJoins.{MayJoin}
 use Rattle.ckpt_machine.specs.Propagation.{pull_answer, put_answer}
+use Rattle.ckpt_machine.specs.RecordAfter.{event_after}
 use Rattle.cluster_record.specs.Makings.{makings_of}
 use Rattle.cluster_record.specs.StepDone.{StepDone, done_of, counting}
-use Rattle.ckpt_types.specs.Asks.{Ask, asked, update_of, elements_of, IsBuilt}
+use Rattle.ckpt_types.specs.Asks.{Ask, MayAsk, asked, update_of, elements_of, IsBuilt}
 use Rattle.ckpt_types.specs.Asks as asks
-use Rattle.ckpt_machine.specs.Tables.{rooms_in, handle_asked, ckpt_of_handle, kept_asked, ids_of}
+use Rattle.ckpt_machine.specs.Tables.{rooms_in, handle_asked, ckpt_of_handle, kept_asked, ids_of, takes_copy}
 use Rattle.ckpt_machine.specs.Beginning.{begin_end, callbacks_told, takes_memory_at_once, Standing}
 use Rattle.ckpt_machine.specs.Seen.{seen_at, seen_snapshot}
 use Rattle.ckpt_machine.specs.Words.{IsWord}
@@ -68,9 +70,14 @@ driver_of s = driver_state s.begun s.steps
 abbrev pub IsDriven : CallState → Type 0
 IsDriven s = driver_start s.call (asked s.op) s.kept ≡ Some s.begun
 
+-- how many checkpoints an actor is making; a node makes none
+abbrev pub makings_by : ActorName → List Entry → ℕ
+makings_by (Client c) entries = makings_of c entries
+makings_by (Node r) entries = 0
+
 -- what the tables of a call's client have a free place for; each checkpoint that it is making has one for its handle
 abbrev pub rooms_of : Machine → CallState → Rooms
-rooms_of m s = rooms_in (makings_of (client_of s.call) m.cluster.entries) (m.tables s.call.actor)
+rooms_of m s = rooms_in (makings_by s.call.actor m.cluster.entries) (m.tables s.call.actor)
 
 -- what the call does next
 abbrev pub due : Machine → CallState → Next
@@ -84,9 +91,10 @@ ids_asked m s = ids_of (kept_asked (asked s.op) (m.tables s.call.actor))
 abbrev pub payload_due : Machine → CallState → Payload
 payload_due m s = record { update = update_of s.op; elements = elements_of s.op; ids = ids_asked m s; snapshot = seen_snapshot s.kept.declares s.snapshot }
 
--- a reservation may be refused for memory where none stands; every other answer is that of the one replica
+-- a reservation may be refused for memory where none stands, and that of a copying, which takes a snapshot's room with it, in any case; every other answer
+-- is that of the one replica
 abbrev pub MayAnswer : Machine → CallState → Request → ℕ → Reply → Type 0
-MayAnswer m s (requests.Reserve k) r answer = MayReserve (is_some (m.reserved k r)) answer
+MayAnswer m s (requests.Reserve k) r answer = MayReserve (is_some (m.reserved k r) && not (takes_copy (asked s.op))) answer
 MayAnswer m s request r answer = answer ≡ reply_at request (payload_due m s) (record_seen m.cluster (ckpt_of request) r) (seen_at m (ckpt_of request) r)
 
 -- what comes with the answer, to be told beside it
@@ -146,13 +154,13 @@ pub record IsServed (m : Machine) (s : CallState) (r : ℕ) (request : Request) 
   pub node : t.node ≡ Some r
   pub reply : t.reply ≡ word_of answer
   pub details : t.details ≡ ended_details t.end (details_due m s request r)
-  pub end : t.end ≡ (let done = step_told m t in driver_end s.op done answer (driver_taken done (driver_of s)))
+  pub end : t.end ≡ (let done = step_told m t in driver_end m.cluster s.op done answer (driver_taken done (driver_of s)))
 
--- what the record refuses ends its call so; any other step is done, or what takes memory is refused it and ends
-abbrev pub IsRecordAnswer : Option Outcome → RecordStep → Told → Type 0
-IsRecordAnswer (Some end) step t = (t.reply ≡ words.Refused) × (t.end ≡ Some end)
-IsRecordAnswer None step t =
-    ((t.reply ≡ words.Ok) × (t.end ≡ event_end step t.ckpt)) ⊎ (IsTrue (takes_memory step) × (t.reply ≡ words.Memory) × (t.end ≡ Some NoMemory))
+-- what the record refuses ends its call so; any other step is done, and ends it so, or what takes memory is refused it and ends
+abbrev pub IsRecordAnswer : Option Outcome → Option Outcome → RecordStep → Told → Type 0
+IsRecordAnswer (Some end) finish step t = (t.reply ≡ words.Refused) × (t.end ≡ Some end)
+IsRecordAnswer None finish step t =
+    ((t.reply ≡ words.Ok) × (t.end ≡ finish)) ⊎ (IsTrue (takes_memory step) × (t.reply ≡ words.Memory) × (t.end ≡ Some NoMemory))
 
 -- the marks on a replica that is there
 abbrev pub marks_on : Option ReplicaState → Option Marked
@@ -165,9 +173,13 @@ kept_off m (Some k) (events.Hold r) = call_of (marks_on (m.replicas k r))
 kept_off m k step = None
 
 -- marks keep a step off, and its call is to try again; else it is as the record answers
-abbrev pub IsEventAnswer : Option CallId → Option Outcome → RecordStep → Told → Type 0
-IsEventAnswer (Some by) refusal step t = (t.reply ≡ words.Held by) × (t.end ≡ Some (Refused TryAgain (Holder by)))
-IsEventAnswer None refusal step t = IsRecordAnswer refusal step t
+abbrev pub IsEventAnswer : Option CallId → Option Outcome → Option Outcome → RecordStep → Told → Type 0
+IsEventAnswer (Some by) refusal finish step t = (t.reply ≡ words.Held by) × (t.end ≡ Some (Refused TryAgain (Holder by)))
+IsEventAnswer None refusal finish step t = IsRecordAnswer refusal finish step t
+
+-- how a step of the record ends its call where it is done, by the record behind it and by what drives the call then
+abbrev pub event_done : Machine → CallState → RecordStep → Told → Option Outcome
+event_done m s step t = step_end (event_after s.call (driver_of s) step m.cluster) (driver_taken (step_told m t) (driver_of s)) step t.ckpt
 
 -- a step of the record
 pub record IsEvent (m : Machine) (s : CallState) (step : RecordStep) (t : Told) : Type 0 where
@@ -175,7 +187,7 @@ pub record IsEvent (m : Machine) (s : CallState) (step : RecordStep) (t : Told) 
   pub ckpt : t.ckpt ≡ event_ckpt m.cluster (driver_of s) step
   pub node : t.node ≡ event_node (driver_of s) step
   pub details : t.details ≡ beside.Nothing
-  pub answer : IsEventAnswer (kept_off m t.ckpt step) (event_refusal m.cluster step (driver_of s)) step t
+  pub answer : IsEventAnswer (kept_off m t.ckpt step) (event_refusal m.cluster step (driver_of s)) (event_done m s step t) step t
 
 -- the step is the due one, and its reply and end are the answers of the one replica that it asks and of the call's own steps
 abbrev pub IsDone : Machine → CallState → Next → Told → Type 0
@@ -198,10 +210,15 @@ pub record IsDueStep (m : Machine) (call : CallId) (op : OpWord) (t : Told) : Ty
 abbrev pub asked_handle : Machine → ActorName → Op → Option HandleView
 asked_handle m a op = handle_asked (asked op) (m.tables a)
 
+-- a client is live, or a node up
+abbrev pub is_live_actor : ActorName → RecordState → Bool
+is_live_actor (Client c) R = is_live_client c R
+is_live_actor (Node r) R = is_up r R
+
 -- what a beginning of an actor looks at
 abbrev pub standing_of : Machine → ActorName → Op → Standing
 standing_of m a op = record {
-  live = is_live_client (number_of a) m.cluster;
+  live = is_live_actor a m.cluster;
   handle = asked_handle m a op;
   callbacks = (m.tables a).callbacks;
   pending = m.pending a;
@@ -227,22 +244,33 @@ abbrev pub declared_at : RecordState → Option ℕ → Option CreationAttribute
 declared_at R None = None
 declared_at R (Some k) = declared_in (entry_of k R.entries)
 
+-- the node of a client, or that which copies
+abbrev pub home_by : ActorName → RecordState → ℕ
+home_by (Client c) R = home_of c R
+home_by (Node r) R = r
+
 -- what a call keeps at its beginning
-abbrev pub kept_at_beginning : RecordState → ℕ → Option HandleView → Kept
-kept_at_beginning R c h = record {
+abbrev pub kept_at_beginning : RecordState → ActorName → Option HandleView → Kept
+kept_at_beginning R a h = record {
   ckpt = ckpt_of_handle h;
   room = room_at R (ckpt_of_handle h);
   all = declares_at is_all R (ckpt_of_handle h);
   weak = declares_at is_weak R (ckpt_of_handle h);
   declares = declared_at R (ckpt_of_handle h);
-  node = home_of c R;
+  node = home_by a R;
   moment = R.moment;
 }
 
--- an Initialize begins for a client that is not live, on a node that is up
-abbrev pub MayBegin : RecordState → ℕ → Ask → Type 0
-MayBegin R c (asks.Enter r version callbacks) = (is_live_client c R ≡ false) × (is_up r R ≡ true)
-MayBegin R c ask = Unit {0}
+-- what a call keeps behind a reservation for a checkpoint: a copying which this is, and what it declares
+abbrev pub kept_reserving : Ask → ℕ → RecordState → Kept → Kept
+kept_reserving asks.Copy k R kept = record kept { ckpt = Some k; all = declares_at is_all R (Some k); declares = declared_at R (Some k) }
+kept_reserving ask k R kept = kept
+
+-- an Initialize begins for a client that is not live, on a node that is up; a copying is of a node that is up
+abbrev pub MayBegin : RecordState → ActorName → Ask → Type 0
+MayBegin R a (asks.Enter r version callbacks) = (is_live_actor a R ≡ false) × (is_up r R ≡ true)
+MayBegin R a asks.Copy = is_live_actor a R ≡ true
+MayBegin R a ask = Unit {0}
 
 -- no refusal is due
 abbrev pub is_unrefused : Option Outcome → Bool
@@ -255,11 +283,11 @@ IsBeginEnd ask due end = (end ≡ due) ⊎ (IsTrue (takes_memory_at_once ask) ×
 
 -- the call begins, and answers at once or goes on
 pub record IsBegun (m : Machine) (call : CallId) (op : Op) (end : Option Outcome) (details : Details) : Type 0 where
-  pub client : IsClient call.actor
+  pub asker : MayAsk call.actor (asked op)
   pub built : IsBuilt op
   pub number : call.number ≡ m.next call.actor
   pub none_in_hand : m.in_hand (Actor call.actor) ≡ None
-  pub may : MayBegin m.cluster (number_of call.actor) (asked op)
+  pub may : MayBegin m.cluster call.actor (asked op)
   pub answer : IsBeginEnd (asked op) (begin_end (standing_of m call.actor op) (asked op)) end
   pub told : details ≡ callbacks_told end (asked op) (m.pending call.actor)
 

@@ -1,6 +1,7 @@
 -- What the code relies on in every state of a run.
-use Rattle.std.specs.Prelude.{◌≡◌, ℕ, ◌<◌, length, Option, Some, None, IsSome, IsSomeAnd, IfSome, is_some, true, false, ◌==◌, ℤ, pos, ◌≤ℤ◌, slice_index}
+use Rattle.std.specs.Prelude.{◌≡◌, ℕ, ◌<◌, length, if◌then◌else◌, Option, Some, None, IsSome, IsSomeAnd, IfSome, is_some, true, false, ◌==◌, ℤ, pos, ◌≤ℤ◌, slice_index}
 use Rattle.ckpt_types.specs.declared.identities.ActorName.{ActorName}
+use Rattle.ckpt_types.specs.declared.identities.ActorName.TheVariants.{Node}
 use Rattle.ckpt_types.specs.declared.identities.Who.{Who}
 use Rattle.ckpt_types.specs.declared.calls.OpenAsk.{OpenAsk}
 use Rattle.ckpt_types.specs.declared.identities.CallId.{CallId}
@@ -22,7 +23,8 @@ use Rattle.cluster_record.specs.DueOpen.{OpenState}
 use Rattle.cluster_record.specs.declared.entries.Entry.{Entry}
 use Rattle.cluster_record.specs.Calls.{IsClient, client_of}
 use Rattle.cluster_record.specs.Identities.{IdentitiesRise, AllUpTo}
-use Rattle.cluster_record.specs.Placement.{targets}
+use Rattle.cluster_record.specs.DueCopy.{lacks_replica}
+use Rattle.cluster_record.specs.Placement.{is_all, is_collocated, targets}
 use Rattle.cluster_record.specs.DueSync.{SyncState}
 use Rattle.cluster_record.specs.RecordState.{RecordState, entry_of, home_of, named, is_up, is_live, is_live_client, can_be_held, can_lead}
 use Rattle.weak_marks.specs.Marks.{call_of}
@@ -30,25 +32,26 @@ use Rattle.node_msgs.specs.Requests.{ckpt_of}
 use Rattle.node_core.specs.Fitting.{IsReadyFor}
 use Rattle.replica.specs.Replicas.{IsWrite}
 use Rattle.ckpt_machine.specs.Driving.{making_in}
+use Rattle.ckpt_machine.specs.Holding.{IsAwaited}
 use Rattle.ckpt_machine.specs.Entries.{AllStay}
 use Rattle.cluster_record.specs.RecordReady.{CanBecomeLive, CanOpen}
-use Rattle.ckpt_types.specs.Asks.{asked, update_of, IsBuilt}
+use Rattle.ckpt_types.specs.Asks.{MayAsk, asked, update_of, IsBuilt}
 use Rattle.client_handles.specs.ClientState.{NoneLent, has_handle_room}
 use Rattle.ckpt_types.specs.Asks as asks
 use Rattle.ckpt_machine.specs.Tables.{choice_of, takes_copy}
 use Rattle.cluster_record.specs.declared.calls.UpdatePhase.{UpdatePhase}
 use Rattle.cluster_record.specs.declared.calls.UpdatePhase.TheVariants.{Staging, Committing}
-use Rattle.ckpt_machine.specs.Machine.{Machine, Staged, ReplicaState, CallState, who}
+use Rattle.ckpt_machine.specs.Machine.{Machine, Staged, ReplicaState, Snapshot, CallState, who}
 use Rattle.ckpt_machine.specs.Invariant.{AreCalls}
 use Rattle.ckpt_machine.specs.Propagation.{target_at}
 use Rattle.ckpt_machine.specs.After.{staged_moment}
 use Rattle.ckpt_machine.specs.Due.{due, driver_of, IsDriven, room_at, asked_handle}
 use Rattle.ckpt_machine.specs.Seen.{seen_at}
 
--- a replica can be reserved: the node is up, the checkpoint is in the making, the node is not complete, and the attributes passed their check
+-- a replica can be reserved: it is awaited on this node, which is up and not complete, and the attributes passed their check
 pub record IsReservable (R : RecordState) (r : ℕ) (e : Entry) : Type 0 where
   pub up : is_up r R ≡ true
-  pub making : IsSome e.making
+  pub awaited : IsAwaited r e
   pub not_complete : slice_index e.complete r ≡ 0
   pub well_formed : is_malformed e.attributes ≡ false
 
@@ -93,11 +96,11 @@ abbrev pub IsToCommit : CallState → Driver → Staged → Type 0
 IsToCommit s (drivers.Update u) slot = IsOwnWhere s u.phase slot
 IsToCommit s driver slot = Unit {0}
 
--- an open of a client can add a replica of a checkpoint: the entry has each node, the client's is up, and has nothing reserved for it
+-- an open of a client can add a replica of a checkpoint: the entry has each node, the client's is up, and has nothing reserved for it where it is collocated
 pub record IsAddable (m : Machine) (c : ℕ) (e : Entry) : Type 0 where
   pub nodes : length e.complete ≡ nodes_max
   pub up : is_up (home_of c m.cluster) m.cluster ≡ true
-  pub unreserved : m.reserved e.identity (home_of c m.cluster) ≡ None
+  pub unreserved : is_collocated e.attributes ≡ true → m.reserved e.identity (home_of c m.cluster) ≡ None
 
 -- a checkpoint fits an open: it is in the making, and the record refuses it, or it has the attributes asked for, and a replica of it can be added
 abbrev pub FitsOpen : Machine → OpenAsk → Entry → Type 0
@@ -131,6 +134,20 @@ pub record IsHoldable (m : Machine) (s : CallState) (u : SyncState) (r : ℕ) : 
   pub can : IsSomeAnd (entry_of u.ckpt m.cluster.entries) (λ e. can_be_held e ≡ true)
   pub marker : IsSomeAnd (m.replicas u.ckpt r) (HasLiveMarker m.cluster)
 
+-- a replica has as many effects as a snapshot
+abbrev pub HasAsMany : Option Snapshot → ReplicaState → Type 0
+HasAsMany pulled x = IsSomeAnd pulled (λ s. length x.effects ≡ length s.effects)
+
+-- a node that lacks a checkpoint can come to be complete for it, with the moment of the slots where updates are on all replicas; one of these has as many
+-- effects then as what was pulled
+pub record IsCompletable (m : Machine) (s : CallState) (k r : ℕ) (moment : Option ℤ) (e : Entry) : Type 0 where
+  pub own : s.call.actor ≡ Node r
+  pub lacks : lacks_replica r e ≡ true
+  pub nodes : length e.complete ≡ nodes_max
+  pub up : is_up r m.cluster ≡ true
+  pub counted : is_all e.attributes ≡ true → (q : ℕ) × IsSomeAnd (m.replicas k q) (HasAsMany s.snapshot)
+  pub moment_is : moment ≡ (if is_all e.attributes then Some (staged_moment m k) else None)
+
 -- what a due step of the record asks of it
 abbrev pub IsEventReady : Machine → CallState → Driver → RecordStep → Type 0
 IsEventReady m s (drivers.Once (once.Enter r)) events.Enter = CanBecomeLive s.call r m.cluster × (length m.cluster.clients < clients_max)
@@ -152,6 +169,9 @@ IsEventReady m s (drivers.Sync u) (events.Hold r) =
 IsEventReady m s (drivers.Sync u) (events.Activate r) =
     (r < nodes_max) × HasCopyRoom m s u.ckpt × IsSomeAnd (entry_of u.ckpt m.cluster.entries) (λ e. IsLeadable m s u.ckpt r e)
     × IsSomeAnd (entry_of u.ckpt m.cluster.entries) (λ e. can_lead r e ≡ true)
+IsEventReady m s (drivers.Copy c) (events.Complete k r moment) =
+    (r < nodes_max) × HasCopyRoom m s k × IsSome s.snapshot × IsSome (m.reserved k r)
+    × IsSomeAnd (entry_of k m.cluster.entries) (IsCompletable m s k r moment)
 IsEventReady m s driver step = ⊥
 
 -- a call to the active alone
@@ -181,9 +201,9 @@ pub record IsGoingOn (m : Machine) (s : CallState) : Type 0 where
 
 -- what the code relies on, of each call in hand
 pub record Facts (m : Machine) : Type 0 where
-  -- a call in hand is so under its own name and no other, is a client's, and is built, and what it asks for drives it
+  -- a call in hand is so under its own name and no other, its actor may ask for it, it is built, and what it asks for drives it
   pub callers : (w : Who) (s : CallState) → m.in_hand w ≡ Some s → who s ≡ w
-  pub clients : (w : Who) (s : CallState) → m.in_hand w ≡ Some s → IsClient s.call.actor
+  pub askers : (w : Who) (s : CallState) → m.in_hand w ≡ Some s → MayAsk s.call.actor (asked s.op)
   pub calls : AreCalls m.in_hand m.pending m.next
   pub built : (w : Who) (s : CallState) → m.in_hand w ≡ Some s → IsBuilt s.op
   pub driven : (w : Who) (s : CallState) → m.in_hand w ≡ Some s → IsDriven s
@@ -193,8 +213,8 @@ pub record Facts (m : Machine) : Type 0 where
   pub up_to : AllUpTo m.cluster.last_identity m.cluster.entries
   -- no checkpoint is there that is over
   pub stay : AllStay m.cluster.moment m.cluster.entries
-  -- one in the making has no active
-  pub unled : (k : ℕ) (e : Entry) → entry_of k m.cluster.entries ≡ Some e → IsSome e.making → e.active ≡ None
+  -- the active of a checkpoint is complete
+  pub led : (k r : ℕ) (e : Entry) → entry_of k m.cluster.entries ≡ Some e → e.active ≡ Some r → (slice_index e.complete r == 0) ≡ false
   pub ready : (w : Who) (s : CallState) (r : ℕ) (request : Request) → m.in_hand w ≡ Some s → due m s ≡ Serve r request
       → (r < nodes_max) × IsServable m r request
   -- a due stage has the moment of the slots that stand

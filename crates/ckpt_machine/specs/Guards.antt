@@ -1,11 +1,12 @@
 -- Which labels the machine allows: the rows by verb, and all labels.
-use Rattle.std.specs.Prelude.{◌≡◌, ℕ, ◌<◌, ◌≤◌, List, Option, Some, None, ℤ}
+use Rattle.std.specs.Prelude.{◌≡◌, ◌⊎◌, ◌&&◌, ℕ, ◌<◌, ◌≤◌, List, Option, Some, None, Bool, ℤ}
 use Rattle.ckpt_types.specs.declared.attributes.CreationAttributes.{CreationAttributes}
 use Rattle.ckpt_types.specs.declared.identities.CallId.{CallId}
 use Rattle.ckpt_types.specs.declared.calls.CallbackSet.{CallbackSet}
 use Rattle.ckpt_types.specs.declared.calls.Version.{Version}
 use Rattle.ckpt_types.specs.declared.update.ReadElement.{ReadElement}
 use Rattle.ckpt_types.specs.declared.update.Update.{Update}
+use Rattle.ckpt_types.specs.declared.update.Update.TheVariants as updates
 use Rattle.ckpt_types.specs.Limits.{nodes_max}
 use Rattle.node_msgs.specs.declared.details.Details.TheVariants as beside
 use Rattle.ckpt_types.specs.declared.words.OpWord.{OpWord}
@@ -27,6 +28,7 @@ use Rattle.ckpt_machine.specs.NodeJoins.{MayJoin}
 use Rattle.ckpt_machine.specs.UpdateGuards.{ClaimRow, CommitRow, StageRow, WithdrawRow}
 use Rattle.ckpt_machine.specs.ActiveGuards.{ActivateRow, ApplyRow, ElementRow, HoldRow, InstallRow, IterRow, MarkRow, NextRow, PullRow, ReadRow, StatusRow, UnmarkRow}
 use Rattle.ckpt_machine.specs.OpenGuards.{CloseRow, CreateRow, EnterRow, FinishRow, LeaveRow, OpenRow, ReserveRow, RetainRow, UndoRow, UnlinkRow}
+use Rattle.ckpt_machine.specs.CopyGuards.{CompleteRow, CopyPullRow, CopyReserveRow, copies_to, lacks_none}
 use Rattle.ckpt_machine.specs.LookGuards.{LookRow, LookTold}
 
 -- ---- any step
@@ -66,6 +68,13 @@ AsksOpen s P = (name : List ℕ) × (a : Option CreationAttributes) × AsksToOpe
 abbrev pub AsksChange : CallState → (Update → Type 0) → Type 0
 AsksChange s P = (place : ℕ) × (update : Update) × (asked s.op ≡ asks.Change place update) × P update
 
+-- the call asks for an update of which this holds, which ends it; or it is a copying, whose update changes nothing and ends it where its node lacks no other
+-- checkpoint
+abbrev pub AsksUpdate : Machine → CallState → (Update → (Bool → Bool) → Type 0) → Type 0
+AsksUpdate m s P =
+    AsksChange s (λ update. P update (λ last. last))
+    ⊎ ((asked s.op ≡ asks.Copy) × P updates.Nothing (λ last. last && lacks_none m.cluster (copies_to s)))
+
 -- THE ROWS: a verb, what the call asks for, and when its step is allowed, with which reply, end and details
 abbrev pub Row : Machine → CallState → Verb → Told → Type 0
 Row m s verbs.Enter t =
@@ -74,13 +83,16 @@ Row m s verbs.Enter t =
     × (t.details ≡ beside.Nothing)
 Row m s verbs.Open t = AtCkpt t.ckpt t.node (λ k. AsksOpen s (λ name a. OpenRow m s name a k t.reply t.end)) × (t.details ≡ beside.Nothing)
 Row m s verbs.Create t = AtCkpt t.ckpt t.node (λ k. AsksOpen s (λ name a. CreateRow m s name a k t.reply t.end)) × (t.details ≡ beside.Nothing)
-Row m s verbs.Reserve t = AtNode t.ckpt t.node (λ k r. AsksOpen s (λ name a. ReserveRow m s k r t.reply t.end)) × (t.details ≡ beside.Nothing)
+Row m s verbs.Reserve t =
+    AtNode t.ckpt t.node (λ k r. AsksOpen s (λ name a. ReserveRow m s k r t.reply t.end)
+    ⊎ ((asked s.op ≡ asks.Copy) × CopyReserveRow m s k r t.reply t.end))
+    × (t.details ≡ beside.Nothing)
 Row m s verbs.Finish t = AtCkpt t.ckpt t.node (λ k. AsksOpen s (λ name a. FinishRow m s k t.reply t.end)) × (t.details ≡ beside.Nothing)
 Row m s verbs.Undo t = AtCkpt t.ckpt t.node (λ k. AsksOpen s (λ name a. UndoRow m s k t.reply t.end)) × (t.details ≡ beside.Nothing)
-Row m s verbs.Stage t = AtNode t.ckpt t.node (λ k r. AsksChange s (λ update. StageRow m s update k r t.reply t.end)) × (t.details ≡ beside.Nothing)
-Row m s verbs.Claim t = AtNode t.ckpt t.node (λ k r. AsksChange s (λ update. ClaimRow m s k r t.reply t.end)) × (t.details ≡ beside.Nothing)
-Row m s verbs.Withdraw t = AtNode t.ckpt t.node (λ k r. AsksChange s (λ update. WithdrawRow m s k r t.reply t.end)) × (t.details ≡ beside.Nothing)
-Row m s verbs.Commit t = AtNode t.ckpt t.node (λ k r. AsksChange s (λ update. CommitRow m s.call update k r t.reply t.end t.details))
+Row m s verbs.Stage t = AtNode t.ckpt t.node (λ k r. AsksUpdate m s (λ update ends. StageRow m s update k r t.reply t.end)) × (t.details ≡ beside.Nothing)
+Row m s verbs.Claim t = AtNode t.ckpt t.node (λ k r. AsksUpdate m s (λ update ends. ClaimRow m s k r t.reply t.end)) × (t.details ≡ beside.Nothing)
+Row m s verbs.Withdraw t = AtNode t.ckpt t.node (λ k r. AsksUpdate m s (λ update ends. WithdrawRow m s k r t.reply t.end)) × (t.details ≡ beside.Nothing)
+Row m s verbs.Commit t = AtNode t.ckpt t.node (λ k r. AsksUpdate m s (λ update ends. CommitRow m s.call update ends k r t.reply t.end t.details))
 Row m s verbs.Apply t = AtNode t.ckpt t.node (λ k r. AsksChange s (λ update. ApplyRow m s update k r t t.reply))
 Row m s verbs.Mark t = AtNode t.ckpt t.node (λ k r. AsksChange s (λ update. MarkRow m s update k r t t.reply))
 Row m s verbs.Element t = AtNode t.ckpt t.node (λ k r. AsksChange s (λ update. ElementRow m s.call update k r t t.reply))
@@ -94,7 +106,8 @@ Row m s verbs.Iter t =
     × (t.details ≡ beside.Nothing)
 Row m s verbs.Next t = AtNode t.ckpt t.node (λ k r. (iteration : ℕ) × (asked s.op ≡ asks.Next iteration) × NextRow m s k r t)
 Row m s verbs.Pull t =
-    AtNode t.ckpt t.node (λ k r. (place : ℕ) × (timeout : Option ℤ) × (asked s.op ≡ asks.Synchronize place timeout) × PullRow m s k r t t.reply)
+    AtNode t.ckpt t.node (λ k r. ((place : ℕ) × (timeout : Option ℤ) × (asked s.op ≡ asks.Synchronize place timeout) × PullRow m s k r t t.reply)
+    ⊎ ((asked s.op ≡ asks.Copy) × CopyPullRow m s k r t t.reply))
     × (t.details ≡ beside.Nothing)
 Row m s verbs.Install t =
     AtNode t.ckpt t.node (λ k r. (place : ℕ) × (timeout : Option ℤ) × (asked s.op ≡ asks.Synchronize place timeout) × InstallRow m s k r t t.reply)
@@ -110,10 +123,11 @@ Row m s verbs.Unlink t =
 Row m s verbs.Retain t =
     AtCkpt t.ckpt t.node (λ k. (place : ℕ) × (duration : ℤ) × (asked s.op ≡ asks.Retain place duration) × RetainRow m s k t.reply t.end)
     × (t.details ≡ beside.Nothing)
+Row m s verbs.Complete t =
+    AtNode t.ckpt t.node (λ k r. (asked s.op ≡ asks.Copy) × CompleteRow m s k r t.reply t.end) × (t.details ≡ beside.Nothing)
 Row m s verbs.Look t = (t.ckpt ≡ None) × (t.node ≡ None) × LookRow m s t.reply t.end × LookTold s t.end t.details
-Row m s verb t = ⊥
 
--- what is asked of a replica is asked of the checkpoint that the call was begun on
+-- what is asked of a replica is asked of the checkpoint that the call keeps: on which it was begun, or for which its node has reserved
 abbrev pub IsOnOwn : Verb → Option ℕ → Option ℕ → Type 0
 IsOnOwn verbs.Stage ckpt own = ckpt ≡ own
 IsOnOwn verbs.Claim ckpt own = ckpt ≡ own
@@ -131,6 +145,7 @@ IsOnOwn verbs.Pull ckpt own = ckpt ≡ own
 IsOnOwn verbs.Install ckpt own = ckpt ≡ own
 IsOnOwn verbs.Hold ckpt own = ckpt ≡ own
 IsOnOwn verbs.Activate ckpt own = ckpt ≡ own
+IsOnOwn verbs.Complete ckpt own = ckpt ≡ own
 IsOnOwn verb ckpt own = Unit {0}
 
 -- a step is of the call that is in hand under this name, and its row holds

@@ -1,6 +1,7 @@
 -- What the nodes hold: replicas of checkpoints that stand, at most one of each, and nothing else.
 use Rattle.std.specs.Prelude.{◌≡◌, ◌⊎◌, ℕ, ◌≤◌, List, IsSome, IsSomeAnd, Contains, count_by, true, ◌==◌, slice_get, slice_index}
 use Rattle.cluster_record.specs.declared.entries.Entry.{Entry}
+use Rattle.cluster_record.specs.DueCopy.{lacks_replica}
 use Rattle.cluster_record.specs.Places.{list_or}
 use Rattle.cluster_record.specs.RecordState.{RecordState, entry_of, is_up}
 use Rattle.replica.specs.Replicas.{Replica, opened_replica}
@@ -9,9 +10,13 @@ use Rattle.replica.specs.Replicas.{Replica, opened_replica}
 abbrev pub replicas_on : List (List Replica) → ℕ → List Replica
 replicas_on nodes r = list_or (slice_get nodes r)
 
--- a checkpoint is in the making, the node is not complete for it yet, and its replica is as a reservation makes it
+-- a replica on this node is awaited: the checkpoint is in the making, or the node lacks it
+abbrev pub IsAwaited : ℕ → Entry → Type 0
+IsAwaited r e = IsSome e.making ⊎ (lacks_replica r e ≡ true)
+
+-- it is awaited, the node is not complete for the checkpoint yet, and its replica is as a reservation makes it
 pub record IsReservation (e : Entry) (r : ℕ) (x : Replica) : Type 0 where
-  pub making : IsSome e.making
+  pub awaited : IsAwaited r e
   pub not_complete : slice_index e.complete r ≡ 0
   pub opening : x ≡ opened_replica x.ckpt e.attributes e.made
 

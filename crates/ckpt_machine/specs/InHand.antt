@@ -5,7 +5,7 @@ use Rattle.std.specs.Prelude.{◌≡◌, ◌≢◌, ◌==◌, ℕ, ◌<◌, ◌�
 use Rattle.ckpt_types.specs.declared.attributes.CreationAttributes.{CreationAttributes}
 use Rattle.ckpt_types.specs.declared.calls.CallbackSet.{CallbackSet}
 use Rattle.ckpt_types.specs.declared.calls.Version.{Version}
-use Rattle.ckpt_types.specs.declared.update.Update.{Update}
+use Rattle.ckpt_types.specs.declared.identities.ActorName.TheVariants.{Node}
 use Rattle.ckpt_types.specs.declared.identities.Who.{Who}
 use Rattle.ckpt_types.specs.Attributes.{is_malformed}
 use Rattle.ckpt_types.specs.Limits.{client_numbers, nodes_max, vector_max}
@@ -18,19 +18,19 @@ use Rattle.weak_marks.specs.Marks.{Marked}
 use Rattle.cluster_record.specs.declared.calls.ActiveKind.{ActiveKind}
 use Rattle.cluster_record.specs.declared.entries.Entry.{Entry}
 use Rattle.cluster_record.specs.DueSync.{SyncState}
-use Rattle.cluster_record.specs.DueUpdate.{UpdateState}
+use Rattle.cluster_record.specs.DueUpdate.{UpdateState, update_begun}
 use Rattle.cluster_record.specs.declared.calls.PulledAt.{PulledAt}
 use Rattle.cluster_record.specs.declared.calls.SyncKind.{SyncKind}
 use Rattle.cluster_record.specs.declared.calls.SyncKind.TheVariants.{Synchronize, ActiveSet}
 use Rattle.cluster_record.specs.Placement.{is_collocated}
-use Rattle.cluster_record.specs.declared.calls.UpdatePhase.TheVariants.{Committing, Claiming, Claimed}
+use Rattle.cluster_record.specs.declared.calls.UpdatePhase.TheVariants.{Staging, Committing, Claiming, Claimed}
 use Rattle.cluster_record.specs.Calls.{IsClient, client_of, same_call}
 use Rattle.ckpt_types.specs.declared.identities.CallId.{CallId}
 use Rattle.cluster_record.specs.RecordState.{entry_of, home_of, is_live_client, is_up, is_live}
 use Rattle.ckpt_machine.specs.Driving.{deadline_from, kind_of_change}
 use Rattle.cluster_record.specs.DueOnce.{OneStep}
 use Rattle.cluster_record.specs.DueOnce as once
-use Rattle.ckpt_types.specs.Asks.{Ask, asked, update_of, IsBuilt}
+use Rattle.ckpt_types.specs.Asks.{Ask, MayAsk, asked, update_of, IsBuilt}
 use Rattle.ckpt_types.specs.Asks as asking
 use Rattle.ckpt_machine.specs.Beginning.{name_is_bad}
 use Rattle.ckpt_machine.specs.Guards.{AsksToOpen}
@@ -40,7 +40,7 @@ use Rattle.ckpt_machine.specs.Tables.{choice_of}
 use Rattle.ckpt_machine.specs.Machine.{Machine, Snapshot, CallState, who}
 use Rattle.ckpt_machine.specs.Options.{is_weak}
 use Rattle.cluster_record.specs.Placement.{is_all}
-use Rattle.ckpt_machine.specs.Due.{driver_of, IsDriven, asked_handle}
+use Rattle.ckpt_machine.specs.Due.{driver_of, IsDriven, asked_handle, home_by}
 use Rattle.section_iter.specs.Room.{room_declared}
 use Rattle.cluster_record.specs.declared.calls.UpdatePhase.{UpdatePhase}
 use Rattle.cluster_record.specs.StepDone.{has}
@@ -48,6 +48,10 @@ use Rattle.ckpt_machine.specs.Shape.{Shape, IsCompleteOn, is_owner, effects_by}
 pub use Rattle.ckpt_machine.specs.Dead.{IsDead, enters, is_enter}
 use Rattle.ckpt_machine.specs.Owned.{HasUpdate}
 use Rattle.ckpt_machine.specs.Drivers as drivers
+use Rattle.cluster_record.specs.DueCopy.{CopyState, lacks_replica}
+use Rattle.cluster_record.specs.declared.copying.Copying.{Copying}
+use Rattle.cluster_record.specs.declared.copying.CopyPhase.{CopyPhase}
+use Rattle.cluster_record.specs.declared.copying.CopyPhase.TheVariants as phases
 use Rattle.cluster_record.specs.declared.calls.ActiveKind.TheVariants as kinds
 use Rattle.ckpt_machine.specs.Entries.{WasMade}
 
@@ -129,18 +133,25 @@ PhaseKeeps m sh s u Claiming = IsDead m u.owner
 PhaseKeeps m sh s u Claimed = IsDead m u.owner
 PhaseKeeps m sh s u phase = Unit {0}
 
+-- an update is asked for, or a copying, which does one that changes nothing
+abbrev pub IsUpdateAsk : Ask → Type 0
+IsUpdateAsk (asking.Change place update) = Unit {0}
+IsUpdateAsk asking.Copy = Unit {0}
+IsUpdateAsk ask = ⊥
+
 -- an update is of a checkpoint that was made, whose updates are on all replicas, and of the slots there it owns those for which it keeps a node
 pub record IsUpdateIn (m : Machine) (shapes : ℕ → Shape) (s : CallState) (u : UpdateState) : Type 0 where
   pub call : u.call ≡ s.call
-  pub place : ℕ
-  pub update : Update
-  pub asks : asked s.op ≡ asking.Change place update
+  pub asks : IsUpdateAsk (asked s.op)
   pub kept : s.kept.ckpt ≡ Some u.ckpt
   pub made : WasMade m.cluster u.ckpt
   pub all : IfSome (entry_of u.ckpt m.cluster.entries) (λ e. is_all e.attributes ≡ true)
   pub nodes : length u.owned ≡ nodes_max
   pub owns : (e : Entry) → entry_of u.ckpt m.cluster.entries ≡ Some e → OwnsIn (shapes u.ckpt) s u e
   pub keeps : (e : Entry) → entry_of u.ckpt m.cluster.entries ≡ Some e → PhaseKeeps m (shapes u.ckpt) s u u.phase
+  -- a node that it keeps in the present incarnation is complete, and it keeps none in an incarnation beyond its last
+  pub within : (e : Entry) (r : ℕ) → entry_of u.ckpt m.cluster.entries ≡ Some e → has (slice_index m.cluster.up r) (slice_index u.owned r) ≡ true → IsCompleteOn e r
+  pub no_later : (r : ℕ) → slice_index u.owned r ≤ slice_index m.cluster.last_incarnations r
 
 -- the marks are of the call
 abbrev pub is_marked_by : CallId → Option Marked → Bool
@@ -257,6 +268,62 @@ IsOnceAt m s (once.Close k) = IsCloseAt s k
 IsOnceAt m s (once.Unlink name) = asked s.op ≡ asking.Unlink name
 IsOnceAt m s (once.Retain k duration) = IsRetainAt m s k duration
 
+-- what a copying has pulled of a checkpoint whose updates go to its active alone: it is of this generation, and of no later one than the present
+pub record HasPulledActive (s : CallState) (e : Entry) (generation : ℕ) : Type 0 where
+  pub alone : is_all e.attributes ≡ false
+  pub pulled : IsSomeAnd s.snapshot (λ pulled. pulled.generation ≡ generation)
+  pub older : generation ≤ e.generation
+
+-- what it has pulled where updates are on all replicas: it owns the slot of each complete node, and has what lies under these
+pub record HasPulledStaged (sh : Shape) (s : CallState) (u : UpdateState) (e : Entry) : Type 0 where
+  pub all : is_all e.attributes ≡ true
+  pub phase : u.phase ≡ Staging
+  pub owns : (r : ℕ) → IsCompleteOn e r → sh.owners r ≡ Some s.call
+  pub pulled : IsSomeAnd s.snapshot (λ pulled. (pulled.sections ≡ sh.sections) × (pulled.effects ≡ sh.effects))
+
+-- the node lacks the checkpoint, and has reserved for it in its present incarnation
+pub record IsToComplete (m : Machine) (r : ℕ) (e : Entry) : Type 0 where
+  pub lacks : lacks_replica r e ≡ true
+  pub reserved : m.reserved e.identity r ≡ Some (slice_index m.cluster.up r)
+
+-- its update is being committed: it owns the slot of each complete node, or has committed one
+abbrev pub IsToCommit : Shape → CallId → Entry → UpdatePhase → Type 0
+IsToCommit sh call e Staging = (r : ℕ) → IsCompleteOn e r → sh.owners r ≡ Some call
+IsToCommit sh call e Committing = Unit {0}
+IsToCommit sh call e phase = ⊥
+
+-- its update is not being committed
+abbrev pub IsUncommitted : UpdatePhase → Type 0
+IsUncommitted Committing = ⊥
+IsUncommitted phase = Unit {0}
+
+-- it is so far at a checkpoint, which its node lacks till it is completed, and has from then on
+abbrev pub IsCopiedSoFar : Machine → Shape → CallState → CopyState → Entry → CopyPhase → Type 0
+IsCopiedSoFar m sh s c e phases.Reserved = IsToComplete m c.node e × (c.staging ≡ update_begun c.call e.identity)
+IsCopiedSoFar m sh s c e phases.Staging = IsToComplete m c.node e × (is_all e.attributes ≡ true) × IsUncommitted c.staging.phase
+IsCopiedSoFar m sh s c e (phases.PulledActive generation) = IsToComplete m c.node e × HasPulledActive s e generation
+IsCopiedSoFar m sh s c e phases.PulledStaged = IsToComplete m c.node e × HasPulledStaged sh s c.staging e
+IsCopiedSoFar m sh s c e phases.Committing = (is_all e.attributes ≡ true) × IsToCommit sh s.call e c.staging.phase × IsCompleteOn e c.node
+
+-- a copying is at a checkpoint that was made and is not collocated, for which it keeps what this declares; where its updates are on all replicas, the
+-- copying does one there
+pub record IsCopyingAt (m : Machine) (shapes : ℕ → Shape) (s : CallState) (c : CopyState) (at : Copying) : Type 0 where
+  pub ckpt : c.staging.ckpt ≡ at.ckpt
+  pub kept : s.kept.ckpt ≡ Some at.ckpt
+  pub made : WasMade m.cluster at.ckpt
+  pub apart : IfSome (entry_of at.ckpt m.cluster.entries) (λ e. is_collocated e.attributes ≡ false)
+  pub declares : IfSome (entry_of at.ckpt m.cluster.entries) (λ e. s.kept.declares ≡ Some e.attributes)
+  pub update : (e : Entry) → entry_of at.ckpt m.cluster.entries ≡ Some e → is_all e.attributes ≡ true → IsUpdateIn m shapes s c.staging
+  pub so_far : (e : Entry) → entry_of at.ckpt m.cluster.entries ≡ Some e → IsCopiedSoFar m (shapes at.ckpt) s c e at.phase
+
+-- the copying of a node copies to it, and is at a checkpoint, or at none
+pub record IsCopyIn (m : Machine) (shapes : ℕ → Shape) (s : CallState) (c : CopyState) : Type 0 where
+  pub call : c.call ≡ s.call
+  pub asks : asked s.op ≡ asking.Copy
+  pub node : s.call.actor ≡ Node c.node
+  pub within : c.node < nodes_max
+  pub at : IfSome c.copying (IsCopyingAt m shapes s c)
+
 -- a call in hand is where its steps have led it, by its driver
 abbrev pub IsInPlace : Machine → (ℕ → Shape) → CallState → Driver → Type 0
 IsInPlace m shapes s (drivers.Once x) = IsOnceAt m s x
@@ -264,16 +331,17 @@ IsInPlace m shapes s (drivers.Open o) = IsOpenIn m s o
 IsInPlace m shapes s (drivers.Update u) = IsUpdateIn m shapes s u
 IsInPlace m shapes s (drivers.Active a) = IsActiveIn m shapes s a
 IsInPlace m shapes s (drivers.Sync u) = IsSyncBy m s u u.kind
+IsInPlace m shapes s (drivers.Copy c) = IsCopyIn m shapes s c
 
--- a call in hand is so under its own name; it is a client's, its number was given, it is built, what it asks for drives it, each but an Initialize is
--- live, and it is where its steps have led it
+-- a call in hand is so under its own name; its actor may ask for it, its number was given, it is built, what it asks for drives it, each but an Initialize
+-- is live, and it is where its steps have led it
 pub record IsInHand (m : Machine) (shapes : ℕ → Shape) (w : Who) (s : CallState) : Type 0 where
   pub whose : who s ≡ w
-  pub client : IsClient s.call.actor
+  pub asker : MayAsk s.call.actor (asked s.op)
   pub number : s.call.number < m.next s.call.actor
   pub built : IsBuilt s.op
   pub driven : IsDriven s
   pub live : is_enter (driver_of s) ≡ false → is_live m.cluster s.call ≡ true
   -- on the node where it was when it began
-  pub home : is_enter (driver_of s) ≡ false → s.kept.node ≡ home_of (client_of s.call) m.cluster
+  pub home : is_enter (driver_of s) ≡ false → s.kept.node ≡ home_by s.call.actor m.cluster
   pub here : IsInPlace m shapes s (driver_of s)

@@ -1,9 +1,9 @@
 -- What holds in every state of a run, of any number of nodes up to eight and of calls in hand; from it follow the guards, and all that the code relies on.
-use Rattle.std.specs.Prelude.{◌≡◌, ℕ, ◌+◌, ◌<◌, ◌≤◌, [], ◌++◌, List, length, map, Option, Some, None, IsSome, IsSomeAnd, IfSome, Contains, true, slice_index}
+use Rattle.std.specs.Prelude.{◌≡◌, ◌⊎◌, ℕ, ◌+◌, ◌<◌, ◌≤◌, [], ◌++◌, List, length, map, Option, Some, None, IsSome, IsSomeAnd, IfSome, Contains, true, slice_index}
 use Rattle.ckpt_types.specs.declared.identities.ActorName.{ActorName}
 use Rattle.ckpt_types.specs.declared.identities.CallId.{CallId}
 use Rattle.ckpt_types.specs.declared.identities.Who.{Who}
-use Rattle.ckpt_types.specs.Limits.{handles_max, nodes_max}
+use Rattle.ckpt_types.specs.Limits.{checkpoints_max, handles_max, nodes_max}
 use Rattle.call_dispatch.specs.PendingCalls.{PendingCalls, find_async}
 use Rattle.ckpt_types.specs.Asks.{invocation_of}
 use Rattle.ckpt_types.specs.OpWord.{is_async, word_of_op}
@@ -23,7 +23,8 @@ use Rattle.ckpt_machine.specs.Due.{driver_of}
 use Rattle.cluster_record.specs.Calls.{IsClient, number_of}
 use Rattle.cluster_record.specs.Placement.{is_collocated}
 use Rattle.cluster_record.specs.Identities.{IdentitiesRise, AllUpTo}
-use Rattle.ckpt_types.specs.declared.identities.ActorName.TheVariants.{Client}
+use Rattle.cluster_record.specs.DueCopy.{lacks_replica}
+use Rattle.ckpt_types.specs.declared.identities.ActorName.TheVariants.{Client, Node}
 use Rattle.cluster_record.specs.Places.{find_key}
 use Rattle.ckpt_machine.specs.Shape.{Shape, IsCompleteOn, IsSpread}
 use Rattle.ckpt_machine.specs.Drivers as drivers
@@ -95,27 +96,35 @@ pub record AreCalls (in_hand : Who → Option CallState) (pending : ActorName �
 abbrev pub HasPlaces : (ActorName → ClientState) → List Entry → Type 0
 HasPlaces tables entries = (c : ℕ) → length (tables (Client c)).handles + makings_of c entries ≤ handles_max
 
--- the record keeps both of each node, and none is up in an incarnation beyond its last
-pub record AreIncarnations (up first_calls last_incarnations : List ℕ) : Type 0 where
+-- a reservation is for a checkpoint in the making, or of a node that is up with this incarnation and lacks the checkpoint
+abbrev pub IsReservedFor : RecordState → ℕ → ℕ → Entry → Type 0
+IsReservedFor R r n e = IsSome e.making ⊎ ((lacks_replica r e ≡ true) × (is_up r R ≡ true) × (n ≡ slice_index R.up r))
+
+-- the record keeps both of each node, and none is up in an incarnation beyond its last; its calls are numbered from 1, and the next one that it may begin
+-- is of its present life
+pub record AreIncarnations (next : ActorName → ℕ) (up first_calls last_incarnations : List ℕ) : Type 0 where
   pub nodes : length last_incarnations ≡ nodes_max
   pub first_nodes : length first_calls ≡ nodes_max
   pub no_later : (r : ℕ) → slice_index up r ≤ slice_index last_incarnations r
+  pub from_one : (r : ℕ) → 0 < next (Node r)
+  pub present : (r : ℕ) → slice_index first_calls r ≤ next (Node r)
 
 -- what holds in every state of a run, where the checkpoints have these shapes
 pub record InvariantIn (shapes : ℕ → Shape) (m : Machine) : Type 0 where
   -- before the first nodes come up none is
   pub up : length m.cluster.up ≡ nodes_max
   pub first_up : m.cluster.last_incarnations ≡ no_nodes → m.cluster.up ≡ no_nodes
-  pub incarnations : AreIncarnations m.cluster.up m.cluster.first_calls m.cluster.last_incarnations
+  pub incarnations : AreIncarnations m.next m.cluster.up m.cluster.first_calls m.cluster.last_incarnations
   pub none_live : m.cluster.up ≡ no_nodes → m.cluster.clients ≡ []
   pub rises : IdentitiesRise m.cluster.entries
   pub up_to : AllUpTo m.cluster.last_identity m.cluster.entries
+  pub few : length m.cluster.entries ≤ checkpoints_max
   pub swept : AllStay m.cluster.moment m.cluster.entries
   pub entries : (k : ℕ) (e : Entry) → entry_of k m.cluster.entries ≡ Some e → IsGoodIn m k (shapes k) e e.making
   -- a replica is on a complete node of a checkpoint that is there, and has a generation that it may have
   pub replicas : (k r : ℕ) (x : ReplicaState) → m.replicas k r ≡ Some x → IsCompleteAt m.cluster k r x.generation
-  -- what is reserved is for a checkpoint that is in the making
-  pub reserves : (k r n : ℕ) → m.reserved k r ≡ Some n → IsSomeAnd (entry_of k m.cluster.entries) (λ e. IsSome e.making)
+  -- what is reserved is for a checkpoint that is in the making, or for one that a node lacks which has come back, in its present incarnation
+  pub reserves : (k r n : ℕ) → m.reserved k r ≡ Some n → IsSomeAnd (entry_of k m.cluster.entries) (IsReservedFor m.cluster r n)
   pub handles : (a : ActorName) (h : HandleView) → Contains (m.tables a).handles h → IsGoodHandle m.cluster a h
   -- no iteration is lent between two steps
   pub rest : (a : ActorName) → NoneLent (m.tables a)

@@ -6,7 +6,7 @@ use Rattle.ckpt_types.specs.declared.identities.CallId.{CallId}
 use Rattle.ckpt_types.specs.declared.identities.Who.{Who}
 use Rattle.client_handles.specs.declared.handle_view.HandleView.{HandleView}
 use Rattle.cluster_record.specs.declared.entries.Entry.{Entry}
-use Rattle.cluster_record.specs.Calls.{number_of, client_of}
+use Rattle.cluster_record.specs.Calls.{IsClient, number_of, client_of}
 use Rattle.cluster_record.specs.Identities.{IdentitiesRise, AllUpTo}
 use Rattle.cluster_record.specs.Placement.{is_collocated}
 use Rattle.cluster_record.specs.Places.{find_key}
@@ -51,7 +51,7 @@ pub record IsLaterRecord (m : Machine) (R : RecordState) (hands : Who → Option
   pub dead : (d : CallId) → IsDead m d → is_live R d ≡ false
   -- live as they were, and with what they are making
   pub live : (w : Who) (z : CallState) → hands w ≡ Some z → is_live m.cluster z.call ≡ true → is_live R z.call ≡ true
-  pub lives : (w : Who) (z : CallState) → hands w ≡ Some z
+  pub lives : (w : Who) (z : CallState) → hands w ≡ Some z → IsClient z.call.actor
       → find_key client_key (client_of z.call) R.clients ≡ find_key client_key (client_of z.call) m.cluster.clients
   pub makes : (w : Who) (z : CallState) (k : ℕ) (e : Entry) → hands w ≡ Some z → entry_of k m.cluster.entries ≡ Some e → e.making ≡ Some z.call
       → IsSome (entry_of k R.entries)

@@ -1,6 +1,6 @@
 -- How many steps are left of a call in hand, at most.
 use Rattle.std.specs.Option.{option_map}
-use Rattle.std.specs.Prelude.{ℕ, ◌+◌, ◌*◌, ◌==◌, List, [], ◌∷◌, Option, Some, None, is_some, Bool, false, not, if◌then◌else◌}
+use Rattle.std.specs.Prelude.{ℕ, ◌+◌, ◌*◌, ◌==◌, List, [], ◌∷◌, Option, Some, None, is_some, Bool, true, false, not, ◌&&◌, if◌then◌else◌}
 use Rattle.ckpt_machine.specs.Drivers.{Driver}
 use Rattle.ckpt_machine.specs.Drivers as drivers
 use Rattle.cluster_record.specs.declared.calls.ActiveKind.{ActiveKind}
@@ -9,7 +9,13 @@ use Rattle.cluster_record.specs.declared.calls.Making.{Making}
 use Rattle.cluster_record.specs.declared.calls.MarksMade.{MarksMade}
 use Rattle.cluster_record.specs.declared.calls.PulledAt.{PulledAt}
 use Rattle.cluster_record.specs.Calls.{same_call}
+use Rattle.cluster_record.specs.DueCopy.{CopyState, lacks_replica}
 use Rattle.cluster_record.specs.DueSync.{SyncState, is_unserved}
+use Rattle.cluster_record.specs.Placement.{is_all}
+use Rattle.cluster_record.specs.declared.copying.Copying.{Copying}
+use Rattle.cluster_record.specs.declared.copying.CopyPhase.{CopyPhase}
+use Rattle.cluster_record.specs.declared.copying.CopyPhase.TheVariants.{Reserved, PulledActive, PulledStaged}
+use Rattle.cluster_record.specs.declared.copying.CopyPhase.TheVariants.{Staging as CopyStaging, Committing as CopyCommitting}
 use Rattle.cluster_record.specs.DueUpdate.{UpdateState}
 use Rattle.ckpt_machine.specs.Machine.{Staged, ReplicaState}
 use Rattle.ckpt_types.specs.declared.identities.CallId.{CallId}
@@ -19,7 +25,7 @@ use Rattle.cluster_record.specs.declared.calls.SyncKind.TheVariants.{Synchronize
 use Rattle.ckpt_machine.specs.InHand.{is_held_by}
 use Rattle.cluster_record.specs.declared.calls.UpdatePhase.{UpdatePhase}
 use Rattle.cluster_record.specs.declared.calls.UpdatePhase.TheVariants.{Staging, Committing, Claiming, Claimed, Withdrawing, Resolving}
-use Rattle.cluster_record.specs.RecordState.{RecordState, entry_of, complete_of}
+use Rattle.cluster_record.specs.RecordState.{RecordState, entry_of, complete_of, is_active}
 use Rattle.cluster_record.specs.StepDone.{lacks, has, first_lacking}
 
 -- how many of the nodes the call lacks, and has
@@ -118,6 +124,36 @@ abbrev pub kind_left : Option Entry → SyncState → SyncKind → ℕ
 kind_left o s (Synchronize deadline) = sync_left (complete_of o) s s.pulled
 kind_left o s (ActiveSet local) = setting_left s.call o
 
+-- a checkpoint that is copied takes so many steps, at most: a reservation, those of an update, a pull, a completion, and the commit at the node that joins
+abbrev pub copied_within : ℕ
+copied_within = 46
+
+-- of how many checkpoints the node lacks a replica, other than this one
+abbrev pub lacked_besides : ℕ → Option ℕ → List Entry → ℕ
+lacked_besides r k [] = 0
+lacked_besides r k (e ∷ es) = (if lacks_replica r e && not (is_active k e.identity) then 1 else 0) + lacked_besides r k es
+
+-- at a checkpoint: behind its update's stages come a pull, a completion and one commit more; of what the active has, a pull and a completion
+abbrev pub phase_left : Bool → ℕ → ℕ → CopyPhase → ℕ
+phase_left true left had Reserved = left + 3
+phase_left false left had Reserved = 2
+phase_left all left had CopyStaging = left + 3
+phase_left all left had (PulledActive generation) = 1
+phase_left all left had PulledStaged = had + 2
+phase_left all left had CopyCommitting = had
+
+-- so many at a checkpoint that is there, and none at one that is gone
+abbrev pub at_ckpt_left : Option Entry → (ℕ → Option ReplicaState) → CopyState → CopyPhase → ℕ
+at_ckpt_left None replicas c phase = 0
+at_ckpt_left (Some e) replicas c phase =
+    phase_left (is_all e.attributes) (update_left e.complete replicas c.staging) (having e.complete c.staging.owned) phase
+
+-- and so many at each other that its node lacks; a look where no step is left
+abbrev pub copying_left : RecordState → (ℕ → ℕ → Option ReplicaState) → CopyState → Option Copying → ℕ
+copying_left R replicas c None = or_one (copied_within * lacked_besides c.node None R.entries)
+copying_left R replicas c (Some at) =
+    or_one (at_ckpt_left (entry_of at.ckpt R.entries) (replicas at.ckpt) c at.phase + copied_within * lacked_besides c.node (Some at.ckpt) R.entries)
+
 -- at most so many steps are left of a call, by the record and by what the nodes have
 abbrev pub steps_left : RecordState → (ℕ → ℕ → Option ReplicaState) → Driver → ℕ
 steps_left R replicas (drivers.Once x) = 1
@@ -125,8 +161,10 @@ steps_left R replicas (drivers.Open o) = making_left R o.making
 steps_left R replicas (drivers.Update u) = update_left (complete_of (entry_of u.ckpt R.entries)) (replicas u.ckpt) u
 steps_left R replicas (drivers.Active a) = active_left a.kind a.marks
 steps_left R replicas (drivers.Sync s) = kind_left (entry_of s.ckpt R.entries) s s.kind
+steps_left R replicas (drivers.Copy c) = copying_left R replicas c c.copying
 
--- an update on all replicas ends within 41 steps, any other call within 66
+-- an update on all replicas ends within 41 steps, a copying of sixteen checkpoints within 736, and any other call within 66
 abbrev pub most_steps : Driver → ℕ
 most_steps (drivers.Update u) = 41
+most_steps (drivers.Copy c) = 736
 most_steps d = 66

@@ -29,6 +29,7 @@ pub mod Later
 pub mod AllOrNone
 pub mod Acknowledged
 pub mod Synchronized
+pub mod Copied
 pub mod WasAsked
 pub mod Owners
 pub mod ActivesSet
@@ -56,6 +57,7 @@ pub mod Due
 pub mod After
 pub mod GuardTerms
 pub mod UpdateGuards
+pub mod CopyGuards
 pub mod ActiveGuards
 pub mod OpenGuards
 pub mod LookGuards

@@ -25,11 +25,12 @@ use Rattle.ckpt_types.specs.Asks as asks
 use Rattle.node_core.specs.Serving.{update_answer}
 use Rattle.cluster_record.specs.Placement.{is_all}
 use Rattle.ckpt_machine.specs.Complete.{complete_replicas}
-use Rattle.ckpt_machine.specs.Machine.{Machine, Snapshot, CallState}
+use Rattle.ckpt_machine.specs.Machine.{Machine, ReplicaState, Snapshot, CallState}
 use Rattle.ckpt_machine.specs.Owned.{HasUpdate}
 use Rattle.ckpt_machine.specs.Due.{rooms_of, look_details}
 use Rattle.ckpt_machine.specs.GuardTerms.{IsInTime, OnEach, deadline_of, owns_slot}
 use Rattle.ckpt_machine.specs.ActiveGuards.{all_served, HasMarkedIn}
+use Rattle.ckpt_machine.specs.CopyGuards.{copies_to, lacks_none}
 
 -- ---- what the record and the client's tables decide
 
@@ -141,6 +142,13 @@ abbrev pub SetLook : Machine → CallState → AisError → Cause → Type 0
 SetLook m s errors.TryAgain (Holder by) = OnHeldBy m s by (λ e. Unit {0})
 SetLook m s error cause = GoneLook m s.kept.ckpt error cause
 
+-- a copying: the generation of the checkpoint that it is at, whose updates go to the active alone, is another than that of what it has pulled
+abbrev pub CopyLook : Machine → CallState → AisError → Cause → Type 0
+CopyLook m s errors.TryAgain (Generations old present) =
+    OnLed m s.kept.ckpt (λ e. (is_all e.attributes ≡ false) × (e.generation ≡ present)) × IsSomeAnd s.snapshot (λ pulled. pulled.generation ≡ old)
+    × ((old == present) ≡ false)
+CopyLook m s error cause = ⊥
+
 -- what the record alone refuses, by what is asked for
 abbrev pub LookRefused : Machine → CallState → Ask → AisError → Cause → Type 0
 LookRefused m s (asks.Enter r version callbacks) error cause = EnterLook m error cause
@@ -154,6 +162,7 @@ LookRefused m s (asks.Unlink name) error cause = UnlinkLook m s name error cause
 LookRefused m s (asks.Retain place duration) error cause = RetainLook m s.kept.ckpt error cause
 LookRefused m s (asks.Synchronize place timeout) error cause = SyncLook m s error cause
 LookRefused m s (asks.SetActive place) error cause = SetLook m s error cause
+LookRefused m s asks.Copy error cause = CopyLook m s error cause
 LookRefused m s ask error cause = ⊥
 
 -- a synchronisation has served each complete node with so many updates, of the present generation
@@ -165,12 +174,19 @@ abbrev pub IsUpdated : Machine → CallId → Update → ℕ → Entry → Type 
 IsUpdated m call update k e =
     (is_all e.attributes ≡ true) × OnEach (λ y. (owns_slot call y.slot ≡ false) × HasUpdate call update y.effects) (complete_replicas m k)
 
--- nothing is left to do: a close of a checkpoint that is gone, a synchronisation, or an update whose last slots went with their nodes
+-- a copying has nothing left to do: its node lacks no checkpoint, and no replica has a slot of the call
+abbrev pub CopyDone : Machine → CallState → Type 0
+CopyDone m s =
+    (lacks_none m.cluster (copies_to s) ≡ true)
+    × ((k r : ℕ) (x : ReplicaState) → m.replicas k r ≡ Some x → owns_slot s.call x.slot ≡ false)
+
+-- nothing is left to do: a close of a checkpoint that is gone, a synchronisation, an update whose last slots went with their nodes, or a copying
 abbrev pub LookDone : Machine → CallState → Ask → Answer → Type 0
 LookDone m s (asks.Close place) answers.Nothing = IsSomeAnd s.kept.ckpt (λ k. entry_of k m.cluster.entries ≡ None)
 LookDone m s (asks.Synchronize place timeout) (answers.Pulled count) = OnLed m s.kept.ckpt (λ e. IsSomeAnd s.snapshot (SyncDone m s count e)) × IsInTime m s
 LookDone m s (asks.Change place update) answer =
     (answer ≡ update_answer update) × IsSomeAnd s.kept.ckpt (λ k. IsSomeAnd (entry_of k m.cluster.entries) (IsUpdated m s.call update k))
+LookDone m s asks.Copy answers.Nothing = CopyDone m s
 LookDone m s ask answer = ⊥
 
 -- the record alone refuses the call, or has nothing left for it to do

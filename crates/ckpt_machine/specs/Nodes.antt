@@ -1,5 +1,5 @@
 -- The nodes of a world, each by its number.
-use Rattle.std.specs.Prelude.{◌≡◌, ℕ, ◌+◌, List, [], ◌∷◌, length, map, Option, Some, None, slice_get, slice_set, if◌then◌else◌, filter}
+use Rattle.std.specs.Prelude.{◌≡◌, ℕ, List, length, map, Option, Some, None, slice_get, slice_set, if◌then◌else◌, filter}
 use Rattle.ckpt_types.specs.Limits.{nodes_max}
 use Rattle.node_msgs.specs.declared.replies.Reply.{Reply}
 use Rattle.node_msgs.specs.declared.requests.Request.{Request}

@@ -13,13 +13,14 @@ use Rattle.ckpt_machine.specs.WasAsked.{OnlyAskedThroughout}
 use Rattle.ckpt_machine.specs.Owners.{OwnersInHandThroughout}
 use Rattle.ckpt_machine.specs.ActivesSet.{ActivesAreSet}
 use Rattle.ckpt_machine.specs.CallsEnd.{CallsEnd}
+use Rattle.ckpt_machine.specs.Copied.{CopiesTell}
 use Rattle.ckpt_machine.specs.Callbacks.{CallbacksTold}
 use Rattle.ckpt_machine.specs.Causes.{EachEndIsAllowed}
 
 -- the log keeps all that a run promises
 pub record KeepsPromises (log : List Label) : Type 0 where
   -- a call that is refused, or is refused its own memory, leaves all as it was but a making of its own, which is undone; it has nothing then: no slot,
-  -- no marks, no making and no hold, and no replica has an effect of it
+  -- no marks, no making and no hold, and no replica has an effect of it, but for those of a copying, which change nothing
   pub refused : EachRefusalLeaves log
   -- after each front of the log, an update of a checkpoint that has them on all replicas is on all complete ones or on none
   pub all_or_none : IsAllOrNoneThroughout log
@@ -37,10 +38,13 @@ pub record KeepsPromises (log : List Label) : Type 0 where
   -- unless it is of a collocated checkpoint, on a node that has failed since the call served it
   pub synchronized : SynchronizedTell log
   -- only what was asked for is done: each effect of each replica, and what is staged or marked there, is of a call that began in the log with this very
-  -- update, of this very checkpoint
+  -- update, of this very checkpoint, or of a copying of it, whose update changes nothing
   pub asked : OnlyAskedThroughout log
   -- marks, makings and holds are of calls in hand alone, and slots of such or of calls that were abandoned, so a call that has ended leaves none
   pub owners : OwnersInHandThroughout log
+  -- behind a completion the node that copies has what its call has pulled, and behind a copying that was answered OK it has a complete replica of each
+  -- checkpoint that is made and not collocated
+  pub copies : CopiesTell log
   -- behind the setting of an active that was answered OK, the client's node is the active, and has what the one before it had
   pub actives : ActivesAreSet log
   -- a call that was in hand is so no more by its own step, by the failure of a node, or with its client or its handle, and in no other way

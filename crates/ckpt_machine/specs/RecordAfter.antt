@@ -6,6 +6,7 @@ use Rattle.node_msgs.specs.declared.next.RecordStep.TheVariants as events
 use Rattle.cluster_record.specs.Calls.{client_of}
 use Rattle.cluster_record.specs.DueOnce.{OneStep, Enter, Leave, Close, Unlink, Retain}
 use Rattle.cluster_record.specs.DueOpen.{open_event}
+use Rattle.cluster_record.specs.Joining.{completed}
 use Rattle.cluster_record.specs.LookUps.{at_ckpt, identity_in}
 use Rattle.cluster_record.specs.RecordState.{RecordState, named, home_of, entered, departed, closed, unlinked, retained, hold_set, active_set, swept}
 use Rattle.ckpt_machine.specs.Drivers.{Driver}
@@ -28,6 +29,7 @@ event_change call (drivers.Once x) step R = once_change call x R
 event_change call (drivers.Open o) step R = open_event call o (event_ckpt R (drivers.Open o) step) step R
 event_change call (drivers.Sync u) (events.Hold r) R = hold_set u.ckpt call R
 event_change call (drivers.Sync u) (events.Activate r) R = active_set u.ckpt r R
+event_change call (drivers.Copy c) (events.Complete k r moment) R = completed k r R
 event_change call driver step R = R
 
 -- what the nodes become by it: an open may add a replica on its client's node

@@ -111,8 +111,9 @@ IsRecordReady call R (drivers.Once x) step = IsOnceReady call R x
 IsRecordReady call R (drivers.Open o) step = IsOpenReady call R o step
 IsRecordReady call R driver step = Unit {0}
 
--- a step in which no replica takes part but one that is added: all but the two by which an active is set
+-- a step in which no replica takes part but one that is added: all but the two by which an active is set, and a completion
 abbrev pub IsPlain : RecordStep → Type 0
 IsPlain (events.Hold r) = ⊥
 IsPlain (events.Activate r) = ⊥
+IsPlain (events.Complete k r moment) = ⊥
 IsPlain step = Unit {0}

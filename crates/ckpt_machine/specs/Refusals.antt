@@ -5,18 +5,20 @@ use Rattle.ckpt_types.specs.declared.answers.Outcome.TheVariants.{Refused, NoMem
 use Rattle.ckpt_types.specs.declared.identities.ActorName.{ActorName}
 use Rattle.ckpt_types.specs.declared.identities.CallId.{CallId}
 use Rattle.ckpt_types.specs.declared.identities.Who.{Who}
+use Rattle.ckpt_types.specs.declared.update.Update.TheVariants as updates
 use Rattle.ckpt_types.specs.declared.words.OpWord.{OpWord}
+use Rattle.ckpt_types.specs.declared.words.OpWord.TheVariants as opwords
 use Rattle.ckpt_types.specs.OpWord.{word_of_op, is_async, stepped_as}
 use Rattle.node_msgs.specs.declared.steps.Verb.TheVariants as verbs
 use Rattle.run_labels.specs.declared.labels.Label.{Label}
 use Rattle.run_labels.specs.declared.labels.Label.TheVariants as labels
-use Rattle.ckpt_machine.specs.Machine.{Machine}
+use Rattle.ckpt_machine.specs.Machine.{Machine, Effect, ReplicaState}
 use Rattle.cluster_record.specs.Calls.{put_actor}
 use Rattle.call_dispatch.specs.PendingCalls.{ended_in}
 use Rattle.ckpt_machine.specs.Whose.{same_who}
 use Rattle.cluster_record.specs.Places.{put}
 use Rattle.cluster_record.specs.RecordState.{undone}
-use Rattle.ckpt_machine.specs.Owned.{HasNothing}
+use Rattle.ckpt_machine.specs.Owned.{HasNothing, IsEffectOf, IsUpdateBy, OwnsNothing}
 use Rattle.ckpt_machine.specs.After.{record_step, with_pending}
 use Rattle.ckpt_machine.specs.OpenGuards.{IsMadeBy}
 use Rattle.ckpt_machine.specs.Runs.{last}
@@ -88,11 +90,32 @@ LeavesBy undo (labels.Stepped call op verbs.Undo k r reply end details) m m' = U
 LeavesBy undo (labels.Stepped call op verb k r reply end details) m m' = LeavesAll (stepped_as call op) (end_kept call op end m) m'
 LeavesBy undo label m m' = ⊥
 
--- A call that ends with a refusal owns no slot, no marks, no making and no hold after it, and no replica has an effect of it; and the label that refuses
--- it leaves all else as it was.
+-- of the effects, each of this call is an update that changes nothing
+abbrev pub ChangeNothing : CallId → List Effect → Type 0
+ChangeNothing call [] = Unit {0}
+ChangeNothing call (x ∷ xs) = (IsEffectOf call x → IsUpdateBy call updates.Nothing x) × ChangeNothing call xs
+
+-- the call owns nothing, and what it has done to replicas changes none of their sections
+pub record HasChangedNothing (m : Machine) (call : CallId) : Type 0 where
+  pub owns : OwnsNothing m call
+  pub effects : (k r : ℕ) (x : ReplicaState) → m.replicas k r ≡ Some x → ChangeNothing call x.effects
+
+-- by the word of a call: a copying that is refused leaves what it has completed, where its own updates change nothing; any other leaves nothing
+abbrev pub HasNothingBy : OpWord → Machine → CallId → Type 0
+HasNothingBy opwords.Copy m call = HasChangedNothing m call
+HasNothingBy word m call = HasNothing m call
+
+-- the word of the call of a label
+abbrev pub word_told : Label → Option OpWord
+word_told (labels.Began call op end details) = Some (word_of_op op)
+word_told (labels.Stepped call op verb k r reply end details) = Some op
+word_told label = None
+
+-- A call that ends with a refusal owns no slot, no marks, no making and no hold after it, and no replica has an effect of it, but for those of a copying,
+-- which change nothing; and the label that refuses it leaves all else as it was.
 pub record Refuses (l : Label) (m m' : Machine) : Type 0 where
   pub leaves : LeavesBy unmade l m m'
-  pub nothing : IsSomeAnd (call_told l) (HasNothing m')
+  pub nothing : IsSomeAnd (call_told l) (λ call. IsSomeAnd (word_told l) (λ word. HasNothingBy word m' call))
 
 -- OF EACH LABEL OF A LOG that is a refusal: it is so by the states before and after it
 abbrev pub EachRefusalLeaves : List Label → Type 0

@@ -5,6 +5,7 @@ use Rattle.ckpt_types.specs.declared.identities.CallId.{CallId}
 use Rattle.ckpt_types.specs.declared.update.Update.{Update}
 use Rattle.ckpt_types.specs.Sections.{Section}
 use Rattle.ckpt_types.specs.Updates.{outcome}
+use Rattle.ckpt_types.specs.Attributes.{is_malformed}
 use Rattle.ckpt_types.specs.Limits.{nodes_max}
 use Rattle.cluster_record.specs.declared.entries.Entry.{Entry}
 use Rattle.cluster_record.specs.declared.calls.UpdatePhase.{UpdatePhase}
@@ -19,6 +20,7 @@ use Rattle.cluster_record.specs.DueSync.{SyncState}
 use Rattle.cluster_record.specs.Placement.{is_collocated}
 use Rattle.cluster_record.specs.RecordState.{first_complete}
 use Rattle.ckpt_machine.specs.Drivers as drivers
+use Rattle.ckpt_machine.specs.Drivers.{update_in}
 use Rattle.ckpt_types.specs.Asks.{update_of}
 use Rattle.ckpt_machine.specs.Machine.{Machine, Effect, Applied, Staged, ReplicaState, CallState, who}
 use Rattle.cluster_record.specs.Placement.{is_all}
@@ -132,13 +134,13 @@ PhaseFits m sh s u Claimed = IsClaimed m sh u
 PhaseFits m sh s u Withdrawing = IsSettling m sh s false
 PhaseFits m sh s u Resolving = IsSettling m sh s true
 
--- the call is in hand, an update of this checkpoint
+-- the call is in hand, and does an update of this checkpoint
 pub record IsOwner (m : Machine) (k : ℕ) (sh : Shape) (call : CallId) : Type 0 where
   pub state : CallState
   pub in_hand : m.in_hand (who state) ≡ Some state
   pub call_is : state.call ≡ call
   pub driver : UpdateState
-  pub driver_is : driver_of state ≡ drivers.Update driver
+  pub driver_is : update_in (driver_of state) ≡ Some driver
   pub ckpt : driver.ckpt ≡ k
   pub phase : PhaseFits m sh state driver driver.phase
 
@@ -193,6 +195,7 @@ pub record IsOnHold (m : Machine) (k : ℕ) (sh : Shape) (e : Entry) (call : Cal
 -- are on the lowest of them, first those of a call in hand, and then those of dead ones; the marks on the active are of a call in hand, and so is the
 -- hold on the checkpoint
 pub record IsSpread (m : Machine) (k : ℕ) (sh : Shape) (e : Entry) : Type 0 where
+  pub well_formed : is_malformed e.attributes ≡ false
   pub nodes : length e.complete ≡ nodes_max
   pub some : IsSome (first_complete 0 e.complete)
   pub up : NodesAreUp m.cluster.up e

@@ -13,7 +13,7 @@ use Rattle.cluster_record.specs.RecordState.{entry_of, is_live}
 use Rattle.cluster_record.specs.StepDone.{has}
 use Rattle.ckpt_machine.specs.AllOrNone.{AreEqual, AreOfOne}
 use Rattle.ckpt_machine.specs.Dead.{IsDead}
-use Rattle.ckpt_machine.specs.Drivers as drivers
+use Rattle.ckpt_machine.specs.Drivers.{update_in}
 use Rattle.ckpt_machine.specs.After.{effect_of}
 use Rattle.ckpt_machine.specs.Due.{driver_of}
 use Rattle.ckpt_machine.specs.GuardTerms.{owns_slot}
@@ -44,11 +44,11 @@ pub record LacksAt (m : Machine) (k : ℕ) (e : Entry) (call : CallId) (r : ℕ)
   pub has : Has m k e r x
   pub lacks : owns_slot call x.slot ≡ false
 
--- the call is in hand, an update of this checkpoint
+-- the call is in hand, and does an update of this checkpoint
 pub record IsAt (m : Machine) (k : ℕ) (s : CallState) (u : UpdateState) : Type 0 where
   pub name : Who
   pub in_hand : m.in_hand name ≡ Some s
-  pub driver : driver_of s ≡ drivers.Update u
+  pub driver : update_in (driver_of s) ≡ Some u
   pub ckpt : u.ckpt ≡ k
 
 -- ---- the facts

@@ -65,10 +65,11 @@ abbrev pub ids_of : Option KeptIds → List (List ℕ)
 ids_of None = []
 ids_of (Some kept) = kept.ids
 
--- what brings the active's sections to other replicas has room for a copy of them in hand
+-- what brings a replica's sections to others has room for a copy of them in hand
 abbrev pub takes_copy : Ask → Bool
 takes_copy (asks.Synchronize place timeout) = true
 takes_copy (asks.SetActive place) = true
+takes_copy asks.Copy = true
 takes_copy ask = false
 
 -- ---- what it makes of them

@@ -6,6 +6,7 @@ use Rattle.ckpt_types.specs.declared.answers.Outcome.{Outcome}
 use Rattle.ckpt_types.specs.declared.answers.Outcome.TheVariants.{Done, NoMemory}
 use Rattle.node_msgs.specs.declared.replies.Reply.{Reply}
 use Rattle.node_msgs.specs.declared.replies.Reply.TheVariants as replies
+use Rattle.cluster_record.specs.DueCopy.{copy_outcome, copy_told}
 use Rattle.cluster_record.specs.DueOnce.{OneStep, Enter}
 use Rattle.cluster_record.specs.Ends.{active_outcome, active_told, open_outcome, open_told, sync_outcome, sync_told, update_outcome, update_told}
 use Rattle.cluster_record.specs.RecordState.{RecordState}
@@ -33,6 +34,7 @@ driver_told R reply (drivers.Open o) = drivers.Open (open_told R reply o)
 driver_told R reply (drivers.Update u) = drivers.Update (update_told R reply u)
 driver_told R reply (drivers.Active a) = drivers.Active (active_told R reply a)
 driver_told R reply (drivers.Sync s) = drivers.Sync (sync_told R reply s)
+driver_told R reply (drivers.Copy c) = drivers.Copy (copy_told R reply c)
 
 -- how a reply ends a call, if it does
 abbrev pub driver_outcome : RecordState → Reply → Driver → Option Outcome
@@ -41,6 +43,7 @@ driver_outcome R reply (drivers.Open o) = open_outcome R reply o
 driver_outcome R reply (drivers.Update u) = update_outcome R reply u
 driver_outcome R reply (drivers.Active a) = active_outcome R reply a
 driver_outcome R reply (drivers.Sync s) = sync_outcome R reply s
+driver_outcome R reply (drivers.Copy c) = copy_outcome R reply c
 
 -- this is what a call asks of a node next, by what its client has a free place for
 pub record AsksNode (R : RecordState) (x : Driver) (r : ℕ) (request : Request) : Type 0 where

@@ -96,17 +96,18 @@ ends_update call r slot replicas = same_call slot.origin call && not (owned_else
 
 -- committed: the call owns the slot, whose update is its own or of a call that is not live, and every complete replica has that update staged on equal
 -- effects, or has it
-pub record CommitOk (m : Machine) (call : CallId) (update : Update) (k r : ℕ) (end : Option Outcome) (details : Details) (x : ReplicaState) : Type 0 where
+pub record CommitOk (m : Machine) (call : CallId) (update : Update) (ends : Bool → Bool) (k r : ℕ) (end : Option Outcome) (details : Details) (x : ReplicaState) : Type 0 where
   pub slot : Staged
   pub staged : x.slot ≡ Some slot
   pub owner : slot.owner ≡ call
   pub origin : (slot.origin ≡ call) ⊎ (is_live m.cluster slot.origin ≡ false)
   pub others : OnEach (λ y. HasSlotOrEffect x slot y y.slot) (complete_replicas m k)
-  -- an update is answered OK by the commit of its own after which no complete replica has a slot of the call; a creation tells its identifier then
-  pub answer : end ≡ (if ends_update call r slot (complete_replicas m k) then Some (Done (update_answer update)) else None)
-  pub told : details ≡ (if ends_update call r slot (complete_replicas m k) then told_id update slot.moment x.sections else beside.Nothing)
+  -- an update is answered OK by the commit of its own after which no complete replica has a slot of the call, where its call ends with it; a creation
+  -- tells its identifier then
+  pub answer : end ≡ (if ends (ends_update call r slot (complete_replicas m k)) then Some (Done (update_answer update)) else None)
+  pub told : details ≡ (if ends (ends_update call r slot (complete_replicas m k)) then told_id update slot.moment x.sections else beside.Nothing)
 
 -- a commit is done
-abbrev pub CommitRow : Machine → CallId → Update → ℕ → ℕ → StepReply → Option Outcome → Details → Type 0
-CommitRow m call update k r words.Ok end details = OnAll m k r (λ e x. CommitOk m call update k r end details x)
-CommitRow m call update k r reply end details = ⊥
+abbrev pub CommitRow : Machine → CallId → Update → (Bool → Bool) → ℕ → ℕ → StepReply → Option Outcome → Details → Type 0
+CommitRow m call update ends k r words.Ok end details = OnAll m k r (λ e x. CommitOk m call update ends k r end details x)
+CommitRow m call update ends k r reply end details = ⊥

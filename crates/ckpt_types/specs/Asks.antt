@@ -1,14 +1,16 @@
--- What an operation asks for: the five updates ask alike, an asynchronous call asks for what its like asks, with no timeout, and what is not built asks for nothing.
+-- What an operation asks for: the five updates ask alike, and an asynchronous call asks for what its like asks, with no timeout.
 use Rattle.std.specs.Prelude.{◌≡◌, ◌≢◌, ℕ, ◌+◌, ◌<◌, List, [], Option, Some, None, Bool, true, false, ℤ}
 use Rattle.ckpt_types.specs.declared.attributes.CreationAttributes.{CreationAttributes}
 use Rattle.ckpt_types.specs.declared.calls.CallbackSet.{CallbackSet}
 use Rattle.ckpt_types.specs.declared.calls.Version.{Version}
+use Rattle.ckpt_types.specs.declared.identities.ActorName.{ActorName}
+use Rattle.ckpt_types.specs.declared.identities.ActorName.TheVariants as actors
 use Rattle.ckpt_types.specs.declared.operation.Op.{Op}
 use Rattle.ckpt_types.specs.declared.operation.Op.TheVariants as ops
 use Rattle.ckpt_types.specs.declared.update.ReadElement.{ReadElement}
 use Rattle.ckpt_types.specs.declared.update.Update.{Update}
 use Rattle.ckpt_types.specs.declared.update.Update.TheVariants as updates
-use Rattle.ckpt_types.specs.Limits.{places_max, nodes_max}
+use Rattle.ckpt_types.specs.Limits.{places_max, nodes_max, client_numbers}
 
 -- what a call asks for; of places, that of the handle stands first, and that of an iteration before it
 pub data Ask : Type 0 where
@@ -42,8 +44,8 @@ pub data Ask : Type 0 where
   SetActive : ℕ → Ask
   -- the callbacks of asynchronous calls that have ended, by the flags one or all
   Dispatch : ℕ → Ask
-  -- what is not built yet
-  Unbuilt : Ask
+  -- a replica of each checkpoint that a node lacks, which has come back
+  Copy : Ask
 
 -- WHAT AN OPERATION ASKS FOR
 abbrev pub asked : Op → Ask
@@ -68,7 +70,7 @@ asked (ops.Sync place timeout) = Synchronize place (Some timeout)
 asked (ops.SyncAsync place invocation) = Synchronize place None
 asked (ops.Active place) = SetActive place
 asked (ops.Dispatch flags) = Dispatch flags
-asked op = Unbuilt
+asked ops.Copy = Copy
 
 -- the update that is asked for
 abbrev pub update_asked : Ask → Update
@@ -88,11 +90,13 @@ elements_asked ask = []
 abbrev pub elements_of : Op → List ReadElement
 elements_of op = elements_asked (asked op)
 
--- an iteration that is started takes room for the identifiers that it keeps; a synchronisation and the setting of an active take it for a snapshot
+-- an iteration that is started takes room for the identifiers that it keeps; a synchronisation and the setting of an active take it for a snapshot, and a
+-- copying for what is the same at each checkpoint
 abbrev pub takes_room : Ask → Bool
 takes_room (Iterate iteration place chosen time) = true
 takes_room (Synchronize place timeout) = true
 takes_room (SetActive place) = true
+takes_room Copy = true
 takes_room ask = false
 
 -- ---- asynchronous calls
@@ -128,8 +132,17 @@ IsBuiltAsk Leave = Unit {0}
 IsBuiltAsk (Synchronize place timeout) = place < places_max
 IsBuiltAsk (SetActive place) = place < places_max
 IsBuiltAsk (Dispatch flags) = Unit {0}
-IsBuiltAsk Unbuilt = ⊥
+IsBuiltAsk Copy = Unit {0}
 
 -- the operation is one that is built
 abbrev pub IsBuilt : Op → Type 0
 IsBuilt op = IsBuiltAsk (asked op)
+
+-- ---- who may ask
+
+-- a client, one of those that the script may name, asks for anything but a copying; a node for that alone
+abbrev pub MayAsk : ActorName → Ask → Type 0
+MayAsk (actors.Client c) Copy = ⊥
+MayAsk (actors.Client c) ask = c < client_numbers
+MayAsk (actors.Node r) Copy = r < nodes_max
+MayAsk (actors.Node r) ask = ⊥

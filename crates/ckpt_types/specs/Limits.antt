@@ -1,6 +1,6 @@
 -- The numbers of the standard and of this profile, each once: flags, choices, the end of time, and the limits of the
 -- service, of its scripts and of its runs.
-use Rattle.std.specs.Prelude.{ℕ, ◌+◌, ◌-◌, ◌^◌, ℤ, pos}
+use Rattle.std.specs.Prelude.{ℕ, ◌+◌, ◌-◌, ◌*◌, ◌^◌, ℤ, pos}
 
 -- ---- creation flags, of the standard
 
@@ -204,9 +204,9 @@ played_lines_max = 2000000
 abbrev pub line_labels_max : ℕ
 line_labels_max = 1000
 
--- the most labels that a line gives, of the lines that are built: a weak write begins, makes its marks, does each element, and ends its marks
+-- the most labels that a line gives, of the lines that are built: a copying begins, and takes at most 46 steps at each checkpoint
 abbrev pub built_line_labels : ℕ
-built_line_labels = vector_max + 3
+built_line_labels = 46 * checkpoints_max + 1
 
 -- the most bytes that a show lists of a section, its first ones
 abbrev pub listed_bytes_max : ℕ

@@ -13,6 +13,7 @@ ghost use Rattle.ckpt_machine.specs.WasAsked.{OnlyAskedThroughout};
 ghost use Rattle.ckpt_machine.specs.Owners.{OwnersInHandThroughout};
 ghost use Rattle.ckpt_machine.specs.ActivesSet.{ActivesAreSet};
 ghost use Rattle.ckpt_machine.specs.CallsEnd.{CallsEnd};
+ghost use Rattle.ckpt_machine.specs.Copied.{CopiesTell};
 ghost use Rattle.ckpt_machine.specs.Causes.{EachEndIsAllowed};
 ghost use Rattle.ckpt_machine.specs.References.{HandlesAreReferencesThroughout};
 ghost use Rattle.ckpt_machine.specs.Callbacks.{CallbacksTold};
@@ -58,6 +59,7 @@ pub fn ckpt_run<R: Threads + Wait + Sync, S: Source, K: Sink, G: Gate>(
     ensures synchronized { SynchronizedTell log.new.labels }
     ensures asked { OnlyAskedThroughout log.new.labels }
     ensures owners { OwnersInHandThroughout log.new.labels }
+    ensures copies { CopiesTell log.new.labels }
     ensures actives { ActivesAreSet log.new.labels }
     ensures ends { CallsEnd log.new.labels }
     ensures causes { EachEndIsAllowed log.new.labels }

@@ -4,6 +4,8 @@ pub mod TableEnds
 pub mod TableView
 pub mod NewTable
 pub mod CallStates
+pub mod CopyHandView
+pub mod CopyHands
 pub mod Lending
 pub mod HandRooms
 pub mod HandSteps

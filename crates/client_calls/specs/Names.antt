@@ -1,8 +1,10 @@
 -- By whose name a call in hand is stepped.
 use Rattle.std.specs.Prelude.{ℕ, ◌<◌}
+use Rattle.ckpt_types.specs.declared.identities.ActorName.{ActorName}
 use Rattle.ckpt_types.specs.declared.identities.ActorName.TheVariants.{Client, Node}
 use Rattle.ckpt_types.specs.declared.identities.Who.{Who}
 use Rattle.ckpt_types.specs.declared.identities.Who.TheVariants.{Actor, Call}
+use Rattle.ckpt_types.specs.Asks.{Ask, MayAsk}
 use Rattle.ckpt_types.specs.Limits.{client_numbers}
 use Rattle.ckpt_types.specs.OpWord.{word_of_op, stepped_as}
 use Rattle.cluster_record.specs.Calls.{number_of, client_of}
@@ -22,3 +24,8 @@ abbrev pub IsClientName : Who → Type 0
 IsClientName (Actor (Client c)) = c < client_numbers
 IsClientName (Actor (Node r)) = ⊥
 IsClientName (Call call) = client_of call < client_numbers
+
+-- it is a client, and may ask for this
+abbrev pub IsClientOf : ActorName → Ask → Type 0
+IsClientOf (Client c) ask = MayAsk (Client c) ask
+IsClientOf (Node r) ask = ⊥

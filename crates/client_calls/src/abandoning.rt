@@ -5,6 +5,7 @@ ghost use Rattle.cluster_record.specs.Failing.{goes_with_node};
 ghost use Rattle.ckpt_machine.specs.Failing.{enters_on, is_of_node};
 ghost use Rattle.client_calls.specs.Abandoning.{place_left};
 
+use crate::copy_hand::{CopyHand, clear_copy};
 use crate::in_hand::{InHand, clear};
 use ckpt_types::{ActorName, NodeId, Op};
 use cluster_record::Record;
@@ -16,6 +17,25 @@ pub fn unless_abandoned(place: &mut Option<InHand>, cluster: &Record, node: Node
 {
     if is_abandoned(place, cluster, node) {
         clear(place);
+    }
+}
+
+/// The same of a node's copying, which is abandoned where its node fails.
+pub fn copy_unless_abandoned(place: &mut Option<CopyHand>, cluster: &Record, node: NodeId)
+    ensures { place.new ≡ place_left cluster.now node place.old }
+{
+    if is_copy_abandoned(place, cluster, node) {
+        clear_copy(place);
+    }
+}
+
+// Whether the copying of a place is abandoned.
+fn is_copy_abandoned(place: &Option<CopyHand>, cluster: &Record, node: NodeId) -> bool
+    ensures { place_left cluster.now node place.now ≡ (if result then None else place.now) }
+{
+    match place {
+        None => false,
+        Some(hand) => is_of_node(hand.call().actor, cluster, node),
     }
 }
 

@@ -148,7 +148,8 @@ pub fn takes_room(op: &Op) -> bool
     ensures { result ≡ takes_room (asked op.now) }
 {
     match op {
-        Op::Iter(_, _, _, _) | Op::Sync(_, _) | Op::SyncAsync(_, _) | Op::Active(_) => true,
+        Op::Iter(_, _, _, _) | Op::Sync(_, _) | Op::SyncAsync(_, _) | Op::Active(_) | Op::Copy =>
+            true,
         _ => false,
     }
 }

@@ -1,11 +1,11 @@
 //! A call as it is in hand from its beginning, with the room that it takes.
 ghost use Rattle.std.specs.Prelude.{◌≡◌, None, Some, IfOk, IsSome};
 ghost use Rattle.ckpt_types.specs.Asks.{asked};
-ghost use Rattle.cluster_record.specs.Calls.{client_of};
 ghost use Rattle.ckpt_machine.specs.Driving.{driver_start};
 ghost use Rattle.ckpt_machine.specs.Due.{IsBeginEnd, kept_at_beginning, declared_at, room_at};
 ghost use Rattle.ckpt_machine.specs.Tables.{ckpt_of_handle};
 ghost use Rattle.client_calls.specs.HandRooms.{room_for, copy_room_for};
+ghost use Rattle.client_calls.specs.Names.{IsClientOf};
 
 use crate::beginning::{ckpt_of_handle, takes_room};
 use crate::drivers::Driver;
@@ -64,9 +64,10 @@ pub fn begin_hand(
     cluster: &Record,
     rooms: HandRooms,
 ) -> Result<InHand, AllocError>
-    requires goes_on { IsSome (driver_start call (asked op.now) (kept_at_beginning cluster.now (client_of call) handle.now)) }
+    requires asker { IsClientOf call.actor (asked op.now) }
+    requires goes_on { IsSome (driver_start call (asked op.now) (kept_at_beginning cluster.now call.actor handle.now)) }
     ensures hand { IfOk result (λ hand. hand ≡ record hand { call = call; op = op.now; iteration = rooms.iteration; snapshot = rooms.snapshot; made = None }) }
-    ensures driver { IfOk result (λ hand. driver_start call (asked op.now) (kept_at_beginning cluster.now (client_of call) handle.now) ≡ Some hand.driver) }
+    ensures driver { IfOk result (λ hand. driver_start call (asked op.now) (kept_at_beginning cluster.now call.actor handle.now) ≡ Some hand.driver) }
 {
     let driver = Driver::start(call, op, handle, cluster)?;
     let op = copy(op)?;

@@ -7,6 +7,7 @@ ghost use Rattle.client_calls.specs.CallStates.{step_in};
 ghost use Rattle.cluster_record.specs.Calls.{client_of};
 ghost use Rattle.cluster_record.specs.RecordState.{home_of};
 ghost use Rattle.ckpt_types.specs.Asks.{asked};
+ghost use Rattle.client_calls.specs.Names.{IsClientOf};
 ghost use Rattle.ckpt_machine.specs.Options.{is_weak};
 ghost use Rattle.cluster_record.specs.Placement.{is_all};
 ghost use Rattle.ckpt_machine.specs.Due.{declares_at, kept_at_beginning};
@@ -80,8 +81,9 @@ impl Driver {
         handle: &Option<HandleView>,
         cluster: &Record,
     ) -> Result<Driver, AllocError>
-        requires goes_on { IsSome (driver_start call (asked op.now) (kept_at_beginning cluster.now (client_of call) handle.now)) }
-        ensures { IfOk result (λ driver. driver_start call (asked op.now) (kept_at_beginning cluster.now (client_of call) handle.now) ≡ Some driver) }
+        requires asker { IsClientOf call.actor (asked op.now) }
+        requires goes_on { IsSome (driver_start call (asked op.now) (kept_at_beginning cluster.now call.actor handle.now)) }
+        ensures { IfOk result (λ driver. driver_start call (asked op.now) (kept_at_beginning cluster.now call.actor handle.now) ≡ Some driver) }
     {
         match op {
             Op::Client(r, _, _) => Ok(Driver::once(OneStep::Enter(*r))),

@@ -60,7 +60,7 @@ impl HandRooms {
                     snapshot: None,
                 })
             }
-            Op::Sync(_, _) | Op::SyncAsync(_, _) | Op::Active(_) => Ok(HandRooms {
+            Op::Sync(_, _) | Op::SyncAsync(_, _) | Op::Active(_) | Op::Copy => Ok(HandRooms {
                 iteration: None,
                 snapshot: copy_room(alloc, cluster, ckpt)?,
             }),

@@ -116,7 +116,7 @@ impl InHand {
         requires update { IsUpdate self.old.driver }
         requires node { r < nodes_max }
         ensures new { self.new ≡ hand_taken (done_of cluster.now verbs.Commit (Some ckpt) (Some r) words.Ok) self.old }
-        ensures end { ended_unless result ≡ hand_end (done_of cluster.now verbs.Commit (Some ckpt) (Some r) words.Ok) (replies.Done answers.Nothing) self.new }
+        ensures end { ended_unless result ≡ hand_end cluster.now (done_of cluster.now verbs.Commit (Some ckpt) (Some r) words.Ok) (replies.Done answers.Nothing) self.new }
     {
         let DriverKind::Update(update) = &mut self.driver.kind else {
             unreachable!()
@@ -229,7 +229,7 @@ fn look_details(end: &Outcome, made: Option<Pieces>) -> Details
 
 // A refusal of a vector tells the index of its first refused element, and any other tells none.
 #[inline(always)]
-fn index_told(op: &Op, outcome: Option<Outcome>) -> Option<Outcome>
+pub(crate) fn index_told(op: &Op, outcome: Option<Outcome>) -> Option<Outcome>
     ensures { result ≡ option_map (index_told op.now) outcome }
 {
     let Some(Outcome::Refused(error, Cause::Index(_))) = outcome else {

@@ -57,7 +57,11 @@ pub fn commit_lent(alloc: Global, slot: &Slot) -> Result<Lent, AllocError>
 }
 
 // A buffer, the elements of a read, and an update are lent, those that there are, and nothing else.
-fn lent_of(read: Option<ReadBuf>, vector: Option<SharedReads>, update: Option<SharedUpdate>) -> Lent
+pub(crate) fn lent_of(
+    read: Option<ReadBuf>,
+    vector: Option<SharedReads>,
+    update: Option<SharedUpdate>,
+) -> Lent
     ensures { result ≡ record nothing_lent { read = read; vector = vector; update = update } }
 {
     Lent {

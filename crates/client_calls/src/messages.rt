@@ -1,6 +1,7 @@
 //! How the steps of calls are told.
-ghost use Rattle.ckpt_types.specs.declared.identities.ActorName.TheVariants.{Client};
+ghost use Rattle.ckpt_types.specs.declared.identities.ActorName.TheVariants.{Client, Node};
 ghost use Rattle.ckpt_types.specs.declared.identities.Who.TheVariants.{Actor};
+ghost use Rattle.ckpt_types.specs.declared.words.OpWord.TheVariants as opwords;
 ghost use Rattle.run_labels.specs.declared.words.LineWord.TheVariants as linewords;
 ghost use Rattle.run_labels.specs.declared.words.Said.TheVariants.{Idle};
 ghost use Rattle.client_calls.specs.LineWords.{step_word};
@@ -130,6 +131,17 @@ pub fn said(c: u8, op: OpWord, said: Said) -> Label
     ensures { result ≡ labels.Word (Actor (Client c)) (linewords.Op op) said }
 {
     Label::Word(Who::Actor(ActorName::Client(c)), LineWord::Op(op), said)
+}
+
+/// A word answers the line of a node that copies.
+pub fn said_of_node(r: NodeId, said: Said) -> Label
+    ensures { result ≡ labels.Word (Actor (Node r)) (linewords.Op opwords.Copy) said }
+{
+    Label::Word(
+        Who::Actor(ActorName::Node(r)),
+        LineWord::Op(OpWord::Copy),
+        said,
+    )
 }
 
 /// No call is in hand under the name that a `step` or a `finish` line has.

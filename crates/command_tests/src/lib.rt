@@ -4,6 +4,8 @@
 #[cfg(test)]
 mod commands;
 #[cfg(test)]
+mod copying;
+#[cfg(test)]
 mod failing;
 #[cfg(test)]
 mod played;

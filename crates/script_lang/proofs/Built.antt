@@ -92,7 +92,7 @@ line_built t words.Propagate v f b n m asked = tt
 line_built t words.Show v f b n m asked = tt
 line_built t words.Fail v f b n m asked = omega (arith, f.0)
 line_built t words.Join v f b n m asked = omega (arith, f.0)
-line_built t (words.Op _) v f b n m asked = absurd (cc b)
+line_built t (words.Op calls.Copy) v f b n m asked = omega (arith, f.0)
 line_built t _ v f b n m asked = absurd (cc b)
 
 node_built : (k : FirstWord) (v : LineValues (form k).shape) → FitValues (form k).shape v → is_nodes ((form k).line v) ≡ true → AreFirstNodes ((form k).line v)
@@ -117,7 +117,7 @@ begun_asked _ = refl
 
 begun_built : (t : ℤ) (x : Line) → IsBuiltLine t x → IsBuiltLine t (only_begun x)
 begun_built t (lines.Call c o) h = h
-begun_built t (lines.Copy n) h = absurd h
+begun_built t (lines.Copy n) h = (h, tt, tt)
 begun_built t _ h = h
 
 begun_first : (x : Line) → AreFirstNodes x → AreFirstNodes (only_begun x)

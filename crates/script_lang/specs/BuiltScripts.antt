@@ -2,6 +2,7 @@
 use Rattle.std.specs.Prelude.{ℕ, ◌^◌, ◌-◌, ◌<◌, ◌≤◌, ⊤, List, [], ◌∷◌, length, ℤ, pos, nat_abs, ◌≤ℤ◌, Option, Some, None, sum_by}
 use Rattle.std.specs.List.{All}
 use Rattle.ckpt_types.specs.declared.attributes.CreationAttributes.{CreationAttributes}
+use Rattle.ckpt_types.specs.declared.identities.ActorName.{ActorName}
 use Rattle.ckpt_types.specs.declared.identities.ActorName.TheVariants as actor
 use Rattle.ckpt_types.specs.declared.identities.Who.{Who}
 use Rattle.ckpt_types.specs.declared.operation.Op.{Op}
@@ -10,8 +11,8 @@ use Rattle.ckpt_types.specs.declared.update.IoElement.{IoElement}
 use Rattle.ckpt_types.specs.declared.update.ReadElement.{ReadElement}
 use Rattle.ckpt_types.specs.declared.update.Update.{Update}
 use Rattle.ckpt_types.specs.declared.update.Update.TheVariants as updates
-use Rattle.ckpt_types.specs.Asks.{IsBuilt}
-use Rattle.ckpt_types.specs.Limits.{nodes_max, client_numbers, section_id_max, line_elements_max, line_steps_max, script_reads_max, script_lines_max, end_of_time}
+use Rattle.ckpt_types.specs.Asks.{MayAsk, asked, IsBuilt}
+use Rattle.ckpt_types.specs.Limits.{nodes_max, section_id_max, line_elements_max, line_steps_max, script_reads_max, script_lines_max, end_of_time}
 use Rattle.script_words.specs.Fitting.{IsNewId, IsTime, IsVersion, IsWho}
 use Rattle.script_lines.specs.declared.lines.Line.{Line}
 use Rattle.script_lines.specs.declared.lines.Line.TheVariants as lines
@@ -85,19 +86,20 @@ HasValuesInRange (ops.SyncAsync place invocation) = invocation < 2 ^ 64
 HasValuesInRange (ops.Dispatch flags) = flags < 2 ^ 32
 HasValuesInRange _ = ⊤
 
--- a call of a client, of an operation that is built, with its values in their ranges
-abbrev pub IsBuiltCall : ℕ → Op → Type 0
-IsBuiltCall client op = (client < client_numbers) × IsBuilt op × HasValuesInRange op
+-- a call of a client, or the copying of a node, of an operation that is built, with its values in their ranges
+abbrev pub IsBuiltCall : ActorName → Op → Type 0
+IsBuiltCall a op = MayAsk a (asked op) × IsBuilt op × HasValuesInRange op
 
 -- whose call may be stepped: a client's or a node's, for the one that it has in hand, or a call of a client by its number
 abbrev pub IsStepped : Who → Type 0
 IsStepped who = IsWho who
 
--- at this moment, a call of a client, stepped to its end or only begun; steps of a call, so many or to its end; a moment that is no earlier,
+-- at this moment, a call of a client, or the copying of a node, stepped to its end or only begun; steps of a call, so many or to its end; a moment that is no earlier,
 -- before the end of time; a snapshot pulled, put at one of the nodes, or propagated to all; the replicas of a checkpoint; or a node that fails or joins
 abbrev pub IsBuiltLine : ℤ → Line → Type 0
-IsBuiltLine t (lines.Call client op) = IsBuiltCall client op
-IsBuiltLine t (lines.Begin (actor.Client client) op) = IsBuiltCall client op
+IsBuiltLine t (lines.Call client op) = IsBuiltCall (actor.Client client) op
+IsBuiltLine t (lines.Begin a op) = IsBuiltCall a op
+IsBuiltLine t (lines.Copy r) = r < nodes_max
 IsBuiltLine t (lines.Step who steps) = IsStepped who × (0 < steps) × (steps ≤ line_steps_max)
 IsBuiltLine t (lines.Finish who) = IsStepped who
 IsBuiltLine t (lines.At u) = (t ≤ℤ u) × (u ≤ℤ pos (nat_abs end_of_time - 1))

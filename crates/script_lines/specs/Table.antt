@@ -140,8 +140,6 @@ first_word_of w = or_else (word_of_first w) (or_else (word_of_second w) (word_of
 
 -- THE WORDS WHOSE LINES ARE NOT BUILT YET, one row each
 abbrev pub is_later : FirstWord → Bool
-is_later (words.Op calls.Copy) = true
-is_later (words.Op _) = false
 is_later words.Race = true
 is_later words.End = true
 is_later _ = false

@@ -121,10 +121,7 @@ fn call_named(alloc: Global, call: OpWord, words: &[&[u8]]) -> Result<Line, Line
 pub fn is_later(word: FirstWord) -> bool
     ensures { result ≡ spec_is_later word }
 {
-    matches!(
-        word,
-        FirstWord::Op(OpWord::Copy) | FirstWord::Race | FirstWord::End
-    )
+    matches!(word, FirstWord::Race | FirstWord::End)
 }
 
 /// The first word that is spelled so.

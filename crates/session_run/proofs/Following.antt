@@ -4,14 +4,16 @@ use Rattle.std.proofs.Math.Seq.{drop-cons}
 use Rattle.std.specs.Prelude.{Option, Some, None, IfSome, is_some, is_none, Bool, true, false, if◌then◌else◌, Result, Ok, Err, OnOk}
 use Rattle.ckpt_types.specs.declared.answers.Outcome.{Outcome}
 use Rattle.ckpt_types.specs.declared.answers.Outcome.TheVariants.{Done}
-use Rattle.ckpt_types.specs.declared.identities.ActorName.TheVariants.{Client}
+use Rattle.ckpt_types.specs.declared.identities.ActorName.{ActorName}
+use Rattle.ckpt_types.specs.declared.identities.ActorName.TheVariants.{Client, Node}
 use Rattle.ckpt_types.specs.declared.identities.Who.{Who}
 use Rattle.ckpt_types.specs.declared.identities.Who.TheVariants.{Actor, Call}
 use Rattle.ckpt_types.specs.declared.identities.CallId.{CallId}
 use Rattle.ckpt_types.specs.declared.operation.Op.{Op}
 use Rattle.ckpt_types.specs.declared.operation.Op.TheVariants as ops
 use Rattle.ckpt_types.specs.declared.words.OpWord.{OpWord}
-use Rattle.ckpt_types.specs.Limits.{built_line_labels}
+use Rattle.ckpt_types.specs.Asks.{MayAsk, asked}
+use Rattle.ckpt_types.specs.Limits.{built_line_labels, nodes_max}
 use Rattle.ckpt_types.specs.OpWord.{word_of_op, is_async, stepped_as}
 use Rattle.node_msgs.specs.declared.details.Details.{Details}
 use Rattle.run_labels.specs.declared.labels.Label.{Label}
@@ -22,7 +24,6 @@ use Rattle.run_labels.specs.declared.words.LineWord.TheVariants as linewords
 use Rattle.script_lines.specs.declared.lines.Line.{Line}
 use Rattle.client_calls.specs.declared.in_hand.InHand.{InHand}
 use Rattle.world_core.specs.declared.world.World.{World}
-use Rattle.cluster_record.specs.Calls.{number_of}
 use Rattle.cluster_record.specs.RecordState.{is_up}
 use Rattle.ckpt_machine.specs.Machine.{Machine, CallState, empty_cluster}
 use Rattle.ckpt_machine.specs.Runs.{last, last_from, IsRun}
@@ -80,10 +81,12 @@ stepping_zero None = refl
 stepping_zero (Some h) = refl
 
 -- what a word says of the world, it says of the machine's state that the world shows
-SaysTrueIn-shown : (op : Op) (said : Said) (w : World) (m : Machine) → m.cluster ≡ w.cluster → SaysTrue op said w → SaysTrueIn op said m
-SaysTrueIn-shown (ops.Client r version callbacks) Down w m same true_of = ap (is_up r) same ∙ true_of
-SaysTrueIn-shown op Down w m same true_of = absurd true_of
-SaysTrueIn-shown op said w m same true_of = tt
+SaysTrueIn-shown : (a : ActorName) (op : Op) (said : Said) (w : World) (m : Machine) → m.cluster ≡ w.cluster → SaysTrue a op said w → SaysTrueIn a op said m
+SaysTrueIn-shown a (ops.Client r version callbacks) Down w m same true_of = ap (is_up r) same ∙ true_of
+SaysTrueIn-shown (Client c) ops.Copy Down w m same true_of = absurd true_of
+SaysTrueIn-shown (Node r) ops.Copy Down w m same true_of = ap (is_up r) same ∙ true_of
+SaysTrueIn-shown a op Down w m same true_of = absurd true_of
+SaysTrueIn-shown a op said w m same true_of = tt
 
 -- ---- a beginning
 
@@ -100,17 +103,17 @@ none_shown w log v run none = by_hand (hand_at w.hands v) refl
 -- a call that begins under its own name leaves what its actor has in hand: none
 begun_beside : (m : Machine) (call : CallId) (op : Op) (end : Option Outcome) (details : Details) → is_async (word_of_op op) ≡ true → (after m (labels.Began call op end details)).in_hand (Actor call.actor) ≡ m.in_hand (Actor call.actor)
 begun_beside m call op end details alone =
-    let begun = call_begun end call op (kept_at_beginning m.cluster (number_of call.actor) (asked_handle m call.actor op)) in
+    let begun = call_begun end call op (kept_at_beginning m.cluster call.actor (asked_handle m call.actor op)) in
     ap (λ b. put_who m.in_hand (if b then Call call else Actor call.actor) begun (Actor call.actor)) alone
 
--- so nothing is in hand under the name of its client
-none_beside : (c : ℕ) (old new : World) (log longer : List Label) (call : CallId) (op : Op) (end : Option Outcome) (details : Details) → IsRunTo old log → IsRunTo new longer → longer ≡ log ++ labels.Began call op end details ∷ [] → call.actor ≡ Client c →
-    is_async (word_of_op op) ≡ true → hand_at old.hands (Actor (Client c)) ≡ None → hand_at new.hands (Actor (Client c)) ≡ None
-none_beside c old new log longer call op end details run later grows own alone idle =
+-- so nothing is in hand under the name of its actor
+none_beside : (a : ActorName) (old new : World) (log longer : List Label) (call : CallId) (op : Op) (end : Option Outcome) (details : Details) → IsRunTo old log → IsRunTo new longer → longer ≡ log ++ labels.Began call op end details ∷ [] → call.actor ≡ a →
+    is_async (word_of_op op) ≡ true → hand_at old.hands (Actor a) ≡ None → hand_at new.hands (Actor a) ≡ None
+none_beside a old new log longer call op end details run later grows own alone idle =
     let l = labels.Began call op end details in
-    let here : (after (last log) l).in_hand (Actor (Client c)) ≡ (last log).in_hand (Actor (Client c)) = subst (λ a. (after (last log) l).in_hand (Actor a) ≡ (last log).in_hand (Actor a)) own (begun_beside (last log) call op end details alone) in
-    let before : (last log).in_hand (Actor (Client c)) ≡ None = ap (λ (m : Machine). m.in_hand (Actor (Client c))) run.shows.same ∙ none_in_hand old run.shows.history (Actor (Client c)) idle in
-    none_shown new longer (Actor (Client c)) later (ap (λ (xs : List Label). (last xs).in_hand (Actor (Client c))) grows ∙ (ap (λ (m : Machine). m.in_hand (Actor (Client c))) (last-push log l) ∙ (here ∙ before)))
+    let here : (after (last log) l).in_hand (Actor a) ≡ (last log).in_hand (Actor a) = subst (λ b. (after (last log) l).in_hand (Actor b) ≡ (last log).in_hand (Actor b)) own (begun_beside (last log) call op end details alone) in
+    let before : (last log).in_hand (Actor a) ≡ None = ap (λ (m : Machine). m.in_hand (Actor a)) run.shows.same ∙ none_in_hand old run.shows.history (Actor a) idle in
+    none_shown new longer (Actor a) later (ap (λ (xs : List Label). (last xs).in_hand (Actor a)) grows ∙ (ap (λ (m : Machine). m.in_hand (Actor a)) (last-push log l) ∙ (here ∙ before)))
 
 -- of a call that is not asynchronous, a beginning leaves what a step would
 left_plain : (word : OpWord) (end : Option Outcome) → is_async word ≡ false → goes_on word end ≡ is_none end
@@ -119,51 +122,56 @@ left_plain word (Some (Done answer)) plain = plain
 left_plain word (Some _) plain = refl
 
 -- behind a beginning come the steps of what is then in hand under the actor's name
-steps_behind : (c : ℕ) (new : World) (call : CallId) (op : Op) (end : Option Outcome) (more : List Label) → call.actor ≡ Client c → GoesOn call op end (hand_at new.hands (stepped_as call (word_of_op op))) →
-    (is_async (word_of_op op) ≡ true → hand_at new.hands (Actor (Client c)) ≡ None) → IsFinish (hand_at new.hands (Actor (Client c))) more → AreStepsBehind (is_async (word_of_op op)) call end more
-steps_behind c new call op end more own goes none f = by_name (is_async (word_of_op op)) refl
+steps_behind : (a : ActorName) (new : World) (call : CallId) (op : Op) (end : Option Outcome) (more : List Label) → call.actor ≡ a → GoesOn call op end (hand_at new.hands (stepped_as call (word_of_op op))) →
+    (is_async (word_of_op op) ≡ true → hand_at new.hands (Actor a) ≡ None) → IsFinish (hand_at new.hands (Actor a)) more → AreStepsBehind (is_async (word_of_op op)) call end more
+steps_behind a new call op end more own goes none f = by_name (is_async (word_of_op op)) refl
   where
     by_name : (b : Bool) → is_async (word_of_op op) ≡ b → AreStepsBehind b call end more
     by_name true alone = subst (λ (o : Option InHand). IsFinish o more) (none alone) f
     by_name false plain =
-        let name : stepped_as call (word_of_op op) ≡ Actor (Client c) = ap (λ b. if b then Call call else Actor call.actor) plain ∙ ap Actor own in
-        let there : GoesOn call op end (hand_at new.hands (Actor (Client c))) = subst (λ v. GoesOn call op end (hand_at new.hands v)) name goes in
-        steps_of_hand call op end (hand_at new.hands (Actor (Client c))) more (subst (λ b. IsThereIf b call op (hand_at new.hands (Actor (Client c)))) (left_plain (word_of_op op) end plain) there) f
+        let name : stepped_as call (word_of_op op) ≡ Actor a = ap (λ b. if b then Call call else Actor call.actor) plain ∙ ap Actor own in
+        let there : GoesOn call op end (hand_at new.hands (Actor a)) = subst (λ v. GoesOn call op end (hand_at new.hands v)) name goes in
+        steps_of_hand call op end (hand_at new.hands (Actor a)) more (subst (λ b. IsThereIf b call op (hand_at new.hands (Actor a))) (left_plain (word_of_op op) end plain) there) f
 
 -- the label that answers a beginning stands before the steps that are then left
-pub begin_grows : (c : ℕ) (op : Op) (old new : World) (log longer : List Label) (l : Label) (more : List Label) → IsRunTo old log → IsRunTo new longer → longer ≡ log ++ l ∷ [] → AnswersBegin (Client c) op old new l →
-    hand_at old.hands (Actor (Client c)) ≡ None → IsFinish (hand_at new.hands (Actor (Client c))) more → IsWholeCall (last log) (Client c) op (l ∷ more)
-begin_grows c op old new log longer (labels.Began call begun end details) more run later grows answers idle f =
+pub begin_grows : (a : ActorName) (op : Op) (old new : World) (log longer : List Label) (l : Label) (more : List Label) → IsRunTo old log → IsRunTo new longer → longer ≡ log ++ l ∷ [] → AnswersBegin a op old new l →
+    hand_at old.hands (Actor a) ≡ None → IsFinish (hand_at new.hands (Actor a)) more → IsWholeCall (last log) a op (l ∷ more)
+begin_grows a op old new log longer (labels.Began call begun end details) more run later grows answers idle f =
     let is : longer ≡ log ++ labels.Began call op end details ∷ [] = grows ∙ ap (λ o. log ++ labels.Began call o end details ∷ []) answers.1 in
-    (answers.0, answers.1, steps_behind c new call op end more answers.0 answers.2 (λ alone. none_beside c old new log longer call op end details run later is answers.0 alone idle) f)
-begin_grows c op old new log longer (labels.Word who word said) more run later grows answers idle f =
+    (answers.0, answers.1, steps_behind a new call op end more answers.0 answers.2 (λ alone. none_beside a old new log longer call op end details run later is answers.0 alone idle) f)
+begin_grows a op old new log longer (labels.Word who word said) more run later grows answers idle f =
     let same : (last log).cluster ≡ old.cluster = ap (λ (m : Machine). m.cluster) run.shows.same in
-    (answers.0, answers.1, SaysTrueIn-shown op said old (last log) same answers.3, subst (λ (o : Option InHand). IsFinish o more) (ap (λ hands. hand_at hands (Actor (Client c))) answers.2 ∙ idle) f)
-begin_grows c op old new log longer l more run later grows answers idle f = absurd answers
+    (answers.0, answers.1, SaysTrueIn-shown a op said old (last log) same answers.3, subst (λ (o : Option InHand). IsFinish o more) (ap (λ hands. hand_at hands (Actor a)) answers.2 ∙ idle) f)
+begin_grows a op old new log longer l more run later grows answers idle f = absurd answers
 
 -- the label that answers a line by which a call only begins
-pub begin_alone : (c : ℕ) (op : Op) (old new : World) (log : List Label) (l : Label) → IsRunTo old log → AnswersBegin (Client c) op old new l → IsBegunCall (last log) (Client c) op (l ∷ [])
-begin_alone c op old new log (labels.Began call begun end details) run answers = (answers.0, answers.1, refl)
-begin_alone c op old new log (labels.Word who word said) run answers =
+pub begin_alone : (a : ActorName) (op : Op) (old new : World) (log : List Label) (l : Label) → IsRunTo old log → AnswersBegin a op old new l → IsBegunCall (last log) a op (l ∷ [])
+begin_alone a op old new log (labels.Began call begun end details) run answers = (answers.0, answers.1, refl)
+begin_alone a op old new log (labels.Word who word said) run answers =
     let same : (last log).cluster ≡ old.cluster = ap (λ (m : Machine). m.cluster) run.shows.same in
-    (answers.0, answers.1, SaysTrueIn-shown op said old (last log) same answers.3, refl)
-begin_alone c op old new log l run answers = absurd answers
+    (answers.0, answers.1, SaysTrueIn-shown a op said old (last log) same answers.3, refl)
+begin_alone a op old new log l run answers = absurd answers
 
--- no call begins where its client has one in hand
-not_begun : (c : ℕ) (old new : World) (log longer : List Label) (call : CallId) (op : Op) (end : Option Outcome) (details : Details) → IsRunTo old log → IsRunTo new longer → longer ≡ log ++ labels.Began call op end details ∷ [] → call.actor ≡ Client c →
-    is_some (hand_at old.hands (Actor (Client c))) ≡ true → ⊥
-not_begun c old new log longer call op end details run later grows own held =
+-- a node asks for its copying alone, and is one of the nodes
+pub node_copies : (r : ℕ) (op : Op) → MayAsk (Node r) (asked op) → (r < nodes_max) × (op ≡ ops.Copy)
+node_copies r ops.Copy may = (may, refl)
+node_copies r op may = absurd may
+
+-- no call begins where its actor has one in hand
+not_begun : (a : ActorName) (old new : World) (log longer : List Label) (call : CallId) (op : Op) (end : Option Outcome) (details : Details) → IsRunTo old log → IsRunTo new longer → longer ≡ log ++ labels.Began call op end details ∷ [] → call.actor ≡ a →
+    is_some (hand_at old.hands (Actor a)) ≡ true → ⊥
+not_begun a old new log longer call op end details run later grows own held =
     let (before, allowed, due) = run_before _ log (labels.Began call op end details) (subst IsRun grows later.run) in
-    let none = none_shown old log (Actor (Client c)) run (ap (λ a. (last log).in_hand (Actor a)) (sym own) ∙ due.none_in_hand) in
+    let none = none_shown old log (Actor a) run (ap (λ b. (last log).in_hand (Actor b)) (sym own) ∙ due.none_in_hand) in
     let is : false ≡ true = sym (ap is_some none) ∙ held in
     cc
 
 -- so the one label that answers its line is a word
-pub busy_alone : (c : ℕ) (op : Op) (old new : World) (log longer : List Label) (l : Label) → IsRunTo old log → IsRunTo new longer → longer ≡ log ++ l ∷ [] → AnswersBegin (Client c) op old new l →
-    is_some (hand_at old.hands (Actor (Client c))) ≡ true → IsWholeCall (last log) (Client c) op (l ∷ [])
-busy_alone c op old new log longer (labels.Began call begun end details) run later grows answers held = absurd (not_begun c old new log longer call begun end details run later grows answers.0 held)
-busy_alone c op old new log longer (labels.Word who word said) run later grows answers held = begin_alone c op old new log (labels.Word who word said) run answers
-busy_alone c op old new log longer l run later grows answers held = absurd answers
+pub busy_alone : (a : ActorName) (op : Op) (old new : World) (log longer : List Label) (l : Label) → IsRunTo old log → IsRunTo new longer → longer ≡ log ++ l ∷ [] → AnswersBegin a op old new l →
+    is_some (hand_at old.hands (Actor a)) ≡ true → IsWholeCall (last log) a op (l ∷ [])
+busy_alone a op old new log longer (labels.Began call begun end details) run later grows answers held = absurd (not_begun a old new log longer call begun end details run later grows answers.0 held)
+busy_alone a op old new log longer (labels.Word who word said) run later grows answers held = begin_alone a op old new log (labels.Word who word said) run answers
+busy_alone a op old new log longer l run later grows answers held = absurd answers
 
 -- the label that answers a show
 pub listing_alone : (k : ℕ) (l : Label) → IsShownOf k l → IsListing k (l ∷ [])

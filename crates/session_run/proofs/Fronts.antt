@@ -3,10 +3,12 @@ use Rattle.std.proofs.Common.{◌≡◌, ℕ, zero, suc, ◌+◌, ◌<◌, ◌�
 use Rattle.std.specs.Prelude.{Bool, true, false, Option, Some, None, Result, Ok, Err, OnOk, OnErr}
 use Rattle.ckpt_types.specs.declared.answers.Outcome.{Outcome}
 use Rattle.ckpt_types.specs.declared.answers.Outcome.TheVariants.{NoMemory}
+use Rattle.ckpt_types.specs.declared.identities.ActorName.{ActorName}
 use Rattle.ckpt_types.specs.declared.identities.ActorName.TheVariants.{Client, Node}
 use Rattle.ckpt_types.specs.declared.identities.CallId.{CallId}
 use Rattle.ckpt_types.specs.declared.identities.Who.{Who}
 use Rattle.ckpt_types.specs.declared.operation.Op.{Op}
+use Rattle.ckpt_types.specs.declared.operation.Op.TheVariants as ops
 use Rattle.run_labels.specs.declared.words.LineWord.{LineWord}
 use Rattle.run_labels.specs.declared.words.LineWord.TheVariants as linewords
 use Rattle.ckpt_types.specs.declared.words.OpWord.{OpWord}
@@ -40,17 +42,17 @@ use Rattle.session_run.specs.Playable.{IsPlayableLine, ArePlayable}
 
 -- ---- labels that could come
 
--- a call of this client and operation that ends at once
-abbrev pub could_begin : ℕ → Op → Label
-could_begin c op = labels.Began (record { actor = Client c; number = 0 }) op (Some NoMemory) beside.Nothing
+-- a call of this actor and operation that ends at once
+abbrev pub could_begin : ActorName → Op → Label
+could_begin a op = labels.Began (record { actor = a; number = 0 }) op (Some NoMemory) beside.Nothing
 
 -- it is all of the line
 nothing_behind : (b : Bool) (call : CallId) (end : Outcome) → AreStepsBehind b call (Some end) []
 nothing_behind true call end = refl
 nothing_behind false call end = refl
 
-pub could_begin-whole : (m : Machine) (c : ℕ) (op : Op) → IsWholeCall m (Client c) op (could_begin c op ∷ [])
-could_begin-whole m c op = (refl, refl, nothing_behind (is_async (word_of_op op)) _ NoMemory)
+pub could_begin-whole : (m : Machine) (a : ActorName) (op : Op) → IsWholeCall m a op (could_begin a op ∷ [])
+could_begin-whole m a op = (refl, refl, nothing_behind (is_async (word_of_op op)) _ NoMemory)
 
 -- a step by which a call could end
 abbrev could_end : CallId → OpWord → Label
@@ -64,8 +66,9 @@ could_step (Some s) who word = could_end s.call (word_of_op s.op)
 -- a label with which a line could be answered
 abbrev pub could_answer : Machine → Line → Label
 could_answer m (lines.Nodes n) = labels.Nodes n
-could_answer m (lines.Call c op) = could_begin c op
-could_answer m (lines.Begin (Client c) op) = could_begin c op
+could_answer m (lines.Call c op) = could_begin (Client c) op
+could_answer m (lines.Begin a op) = could_begin a op
+could_answer m (lines.Copy r) = could_begin (Node r) ops.Copy
 could_answer m (lines.Step who n) = could_step (stepped_call m who) who linewords.Step
 could_answer m (lines.Finish who) = could_step (stepped_call m who) who linewords.Finish
 could_answer m (lines.At t) = labels.Moved t
@@ -88,9 +91,9 @@ could_step-finishes None who = refl
 could_step-finishes (Some s) who = (refl, refl)
 
 could_answer-answers : (m : Machine) (t : ℤ) (line : Line) → IsPlayableLine t line → AnswersLine m line (could_answer m line ∷ [])
-could_answer-answers m t (lines.Call c op) playable = could_begin-whole m c op
-could_answer-answers m t (lines.Begin (Client c) op) playable = (refl, refl, refl)
-could_answer-answers m t (lines.Begin (Node r) op) playable = absurd playable.0
+could_answer-answers m t (lines.Call c op) playable = could_begin-whole m (Client c) op
+could_answer-answers m t (lines.Begin a op) playable = (refl, refl, refl)
+could_answer-answers m t (lines.Copy r) playable = could_begin-whole m (Node r) ops.Copy
 could_answer-answers m t (lines.Step who n) playable = could_step-steps (stepped_call m who) who n playable.1
 could_answer-answers m t (lines.Finish who) playable = could_step-finishes (stepped_call m who) who
 could_answer-answers m t (lines.At u) playable = refl

@@ -25,8 +25,8 @@ is_stepped (Call call) is = tt
 
 is_playable : (t : ℤ) (line : Line) → IsBuiltLine t line → IsPlayableLine t line
 is_playable t (lines.Call client op) built = (built.0, built.1)
-is_playable t (lines.Begin (Client client) op) built = (built.0, built.1)
-is_playable t (lines.Begin (Node r) op) built = absurd built
+is_playable t (lines.Begin a op) built = (built.0, built.1)
+is_playable t (lines.Copy r) built = built
 is_playable t (lines.Step who steps) built = (is_stepped who built.0, built.1)
 is_playable t (lines.Finish who) built = is_stepped who built
 is_playable t (lines.Pull k) built = tt

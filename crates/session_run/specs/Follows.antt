@@ -2,7 +2,7 @@
 use Rattle.std.specs.Prelude.{◌≡◌, ℕ, zero, suc, ◌≤◌, List, [], ◌∷◌, ◌++◌, length, Option, Some, None, Bool, true, false}
 use Rattle.ckpt_types.specs.declared.answers.Outcome.{Outcome}
 use Rattle.ckpt_types.specs.declared.identities.ActorName.{ActorName}
-use Rattle.ckpt_types.specs.declared.identities.ActorName.TheVariants.{Client}
+use Rattle.ckpt_types.specs.declared.identities.ActorName.TheVariants.{Client, Node}
 use Rattle.ckpt_types.specs.declared.identities.CallId.{CallId}
 use Rattle.ckpt_types.specs.declared.identities.Who.{Who}
 use Rattle.ckpt_types.specs.declared.identities.Who.TheVariants.{Actor}
@@ -31,11 +31,17 @@ StepsToEnd call None [] = ⊥
 StepsToEnd call None (labels.Stepped other op verb k r reply end details ∷ rest) = (other ≡ call) × StepsToEnd call end rest
 StepsToEnd call None (label ∷ rest) = ⊥
 
--- a word that says DOWN is said of a node that is not up
-abbrev pub SaysTrueIn : Op → Said → Machine → Type 0
-SaysTrueIn (ops.Client r version callbacks) Down m = is_up r m.cluster ≡ false
-SaysTrueIn op Down m = ⊥
-SaysTrueIn op said m = Unit {0}
+-- the actor is a node that is not up
+abbrev pub IsDownIn : ActorName → Machine → Type 0
+IsDownIn (Client c) m = ⊥
+IsDownIn (Node r) m = is_up r m.cluster ≡ false
+
+-- a word that says DOWN is said of a node that is not up: the one that an Initialize names, or the one that is to copy
+abbrev pub SaysTrueIn : ActorName → Op → Said → Machine → Type 0
+SaysTrueIn a (ops.Client r version callbacks) Down m = is_up r m.cluster ≡ false
+SaysTrueIn a ops.Copy Down m = IsDownIn a m
+SaysTrueIn a op Down m = ⊥
+SaysTrueIn a op said m = Unit {0}
 
 -- what comes behind the beginning of a call in its line: its steps to the end, where it goes on under its actor's name; nothing, where it is
 -- asynchronous and goes on under its own
@@ -43,17 +49,17 @@ abbrev pub AreStepsBehind : Bool → CallId → Option Outcome → List Label �
 AreStepsBehind true call end rest = rest ≡ []
 AreStepsBehind false call end rest = StepsToEnd call end rest
 
--- a call of this actor with this operation, its beginning and what comes behind it; or the one word that answers its line,
+-- a call of this actor with this operation, of a node its copying: its beginning and what comes behind it; or the one word that answers its line,
 -- and is true in the state before it
 abbrev pub IsWholeCall : Machine → ActorName → Op → List Label → Type 0
 IsWholeCall m a op (labels.Began call begun end details ∷ rest) = (call.actor ≡ a) × (begun ≡ op) × AreStepsBehind (is_async (word_of_op op)) call end rest
-IsWholeCall m a op (labels.Word who word said ∷ rest) = (who ≡ Actor a) × (word ≡ linewords.Op (word_of_op op)) × SaysTrueIn op said m × (rest ≡ [])
+IsWholeCall m a op (labels.Word who word said ∷ rest) = (who ≡ Actor a) × (word ≡ linewords.Op (word_of_op op)) × SaysTrueIn a op said m × (rest ≡ [])
 IsWholeCall m a op log = ⊥
 
 -- the beginning of a call of this actor with this operation, and no step; or the one word that answers its line, and is true in the state before it
 abbrev pub IsBegunCall : Machine → ActorName → Op → List Label → Type 0
 IsBegunCall m a op (labels.Began call begun end details ∷ rest) = (call.actor ≡ a) × (begun ≡ op) × (rest ≡ [])
-IsBegunCall m a op (labels.Word who word said ∷ rest) = (who ≡ Actor a) × (word ≡ linewords.Op (word_of_op op)) × SaysTrueIn op said m × (rest ≡ [])
+IsBegunCall m a op (labels.Word who word said ∷ rest) = (who ≡ Actor a) × (word ≡ linewords.Op (word_of_op op)) × SaysTrueIn a op said m × (rest ≡ [])
 IsBegunCall m a op log = ⊥
 
 -- so many steps of a call and nothing else, fewer only where the last one ends it; none where it has ended
@@ -77,11 +83,12 @@ abbrev pub IsListing : ℕ → List Label → Type 0
 IsListing k (labels.Shown other replicas ∷ rest) = (other ≡ k) × (rest ≡ [])
 IsListing k log = ⊥
 
--- in this state the labels answer the line; the other lines are not built yet
+-- in this state the labels answer the line; a race is not built yet
 abbrev pub AnswersLine : Machine → Line → List Label → Type 0
 AnswersLine m (lines.Nodes n) log = log ≡ labels.Nodes n ∷ []
 AnswersLine m (lines.Call c op) log = IsWholeCall m (Client c) op log
 AnswersLine m (lines.Begin a op) log = IsBegunCall m a op log
+AnswersLine m (lines.Copy r) log = IsWholeCall m (Node r) ops.Copy log
 AnswersLine m (lines.Step who n) log = AreSteps (stepped_call m who) who linewords.Step (λ call. StepsUpTo call n None) log
 AnswersLine m (lines.Finish who) log = AreSteps (stepped_call m who) who linewords.Finish (λ call. StepsToEnd call None) log
 AnswersLine m (lines.At t) log = log ≡ labels.Moved t ∷ []

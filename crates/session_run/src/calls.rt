@@ -1,19 +1,20 @@
-//! The lines of calls: a call begins, is stepped, and is finished.
-ghost use Rattle.std.specs.Prelude.{◌≡◌, ◌≢◌, ◌+◌, ◌-◌, ◌<◌, ◌≤◌, ◌^◌, length, None, OnOk, OnErr, false};
-ghost use Rattle.ckpt_types.specs.declared.identities.ActorName.TheVariants.{Client};
+//! The lines of calls and copyings: each begins, is stepped, and is finished.
+ghost use Rattle.std.specs.Prelude.{◌≡◌, ◌+◌, ◌-◌, ◌<◌, ◌≤◌, ◌^◌, length, None, OnOk, OnErr, false};
+ghost use Rattle.ckpt_types.specs.declared.identities.ActorName.TheVariants.{Client, Node};
+ghost use Rattle.ckpt_types.specs.declared.operation.Op.TheVariants as ops;
 ghost use Rattle.ckpt_types.specs.declared.identities.Who.TheVariants.{Actor};
-ghost use Rattle.ckpt_types.specs.Asks.{IsBuilt};
-ghost use Rattle.ckpt_types.specs.Limits.{built_line_labels, client_numbers};
+ghost use Rattle.ckpt_types.specs.Asks.{MayAsk, asked, IsBuilt};
+ghost use Rattle.ckpt_types.specs.Limits.{built_line_labels, nodes_max};
 ghost use Rattle.run_labels.specs.declared.words.LineWord.TheVariants as linewords;
 ghost use Rattle.ckpt_machine.specs.Runs.{last};
 ghost use Rattle.world_core.specs.declared.world.Event.TheVariants as happenings;
-ghost use Rattle.world_core.specs.Runs.{IsRunTo, IsScriptClient, Happens, MayBeStepped};
+ghost use Rattle.world_core.specs.Runs.{IsRunTo, Happens, MayBeStepped};
 ghost use Rattle.world_core.specs.StepsLeft.{ComesNearer, left_of};
 ghost use Rattle.world_core.specs.HandsState.{hand_at};
 ghost use Rattle.session_run.specs.Follows.{AreSteps, IsBegunCall, IsWholeCall, StepsToEnd, StepsUpTo, stepped_call};
 ghost use Rattle.session_run.specs.Growing.{GrowsBy, GrowsTowards, IsFinish, IsStepping};
 
-use ckpt_types::{ActorName, Op, Who};
+use ckpt_types::{ActorName, NodeId, Op, Who};
 use run_labels::RunLog;
 use std::alloc::{AllocError, Global};
 use world_core::{Cluster, Event, world_law};
@@ -28,7 +29,7 @@ pub(crate) fn play_call<W: Cluster>(
     world: &mut W,
 ) -> Result<(), AllocError>
     requires run { IsRunTo (W.shown world.old) log.old.labels }
-    requires client { client < client_numbers }
+    requires asker { MayAsk (Client client) (asked op.now) }
     requires built { IsBuilt op.now }
     requires room { length log.old.labels + built_line_labels < 2 ^ 32 - 2 }
     ensures run { IsRunTo (W.shown world.new) log.new.labels }
@@ -46,7 +47,33 @@ pub(crate) fn play_call<W: Cluster>(
     finish(alloc, who, log, world)
 }
 
-/// The beginning of a call, or the word that answers its line. Only clients begin calls yet.
+/// The copying of a node, from its beginning to its end; where one is in hand, or the node is not up, the word that says
+/// so.
+pub(crate) fn play_copy<W: Cluster>(
+    alloc: Global,
+    node: NodeId,
+    log: &mut RunLog,
+    world: &mut W,
+) -> Result<(), AllocError>
+    requires run { IsRunTo (W.shown world.old) log.old.labels }
+    requires node { node < nodes_max }
+    requires room { length log.old.labels + built_line_labels < 2 ^ 32 - 2 }
+    ensures run { IsRunTo (W.shown world.new) log.new.labels }
+    ensures few { length log.new.labels ≤ length log.old.labels + built_line_labels }
+    ensures moment { OnOk result ((W.shown world.new).cluster.moment ≡ (W.shown world.old).cluster.moment) }
+    ensures answers { OnOk result (GrowsBy log.old.labels log.new.labels (IsWholeCall (last log.old.labels) (Node node) ops.Copy)) }
+    ensures front { GrowsTowards log.old.labels log.new.labels (IsWholeCall (last log.old.labels) (Node node) ops.Copy) }
+{
+    let who = Who::Actor(ActorName::Node(node));
+    if world.in_hand(who) {
+        return begin_copy(alloc, node, log, world);
+    }
+    world_law();
+    begin_copy(alloc, node, log, world)?;
+    finish(alloc, who, log, world)
+}
+
+/// The beginning of a call, or the word that answers its line.
 pub(crate) fn begin_of<W: Cluster>(
     alloc: Global,
     actor: ActorName,
@@ -55,7 +82,7 @@ pub(crate) fn begin_of<W: Cluster>(
     world: &mut W,
 ) -> Result<(), AllocError>
     requires run { IsRunTo (W.shown world.old) log.old.labels }
-    requires client { IsScriptClient actor }
+    requires asker { MayAsk actor (asked op.now) }
     requires built { IsBuilt op.now }
     requires room { length log.old.labels + built_line_labels < 2 ^ 32 - 2 }
     ensures run { IsRunTo (W.shown world.new) log.new.labels }
@@ -64,10 +91,28 @@ pub(crate) fn begin_of<W: Cluster>(
     ensures answers { OnOk result (GrowsBy log.old.labels log.new.labels (IsBegunCall (last log.old.labels) actor op.now)) }
     ensures front { GrowsTowards log.old.labels log.new.labels (IsBegunCall (last log.old.labels) actor op.now) }
 {
-    let ActorName::Client(client) = actor else {
-        unreachable!()
-    };
-    begin(alloc, client, op, log, world)
+    match actor {
+        ActorName::Client(client) => begin(alloc, client, op, log, world),
+        ActorName::Node(node) => begin_copy(alloc, node, log, world),
+    }
+}
+
+// The copying of a node begins.
+fn begin_copy<W: Cluster>(
+    alloc: Global,
+    node: NodeId,
+    log: &mut RunLog,
+    world: &mut W,
+) -> Result<(), AllocError>
+    requires run { IsRunTo (W.shown world.old) log.old.labels }
+    requires node { node < nodes_max }
+    requires room { length log.old.labels < 2 ^ 32 - 2 }
+    ensures run { IsRunTo (W.shown world.new) log.new.labels }
+    ensures happens { OnOk result (Happens (happenings.Begin (Node node) ops.Copy) (W.shown world.old) (W.shown world.new) log.old.labels log.new.labels) }
+    ensures err { OnErr result (log.new.labels ≡ log.old.labels) }
+{
+    let event = Event::Begin(ActorName::Node(node), Op::Copy);
+    world.event(alloc, event, log)
 }
 
 // A call begins, of an operation that shares what the line has. The most used are told apart, so that each is known where
@@ -81,7 +126,7 @@ fn begin<W: Cluster>(
     world: &mut W,
 ) -> Result<(), AllocError>
     requires run { IsRunTo (W.shown world.old) log.old.labels }
-    requires client { client < client_numbers }
+    requires asker { MayAsk (Client client) (asked op.now) }
     requires built { IsBuilt op.now }
     requires room { length log.old.labels < 2 ^ 32 - 2 }
     ensures run { IsRunTo (W.shown world.new) log.new.labels }
@@ -120,7 +165,7 @@ fn begin_with<W: Cluster>(
     world: &mut W,
 ) -> Result<(), AllocError>
     requires run { IsRunTo (W.shown world.old) log.old.labels }
-    requires client { client < client_numbers }
+    requires asker { MayAsk (Client client) (asked op) }
     requires built { IsBuilt op }
     requires room { length log.old.labels < 2 ^ 32 - 2 }
     ensures run { IsRunTo (W.shown world.new) log.new.labels }

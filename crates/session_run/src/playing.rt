@@ -9,7 +9,7 @@ ghost use Rattle.session_run.specs.Follows.{AnswersLine, Follows, FollowsFront};
 ghost use Rattle.session_run.specs.Growing.{CanPlay, GrowsBy, GrowsTowards};
 ghost use Rattle.session_run.specs.Playable.{IsPlayable};
 
-use crate::calls::{begin_of, finish_of, play_call, steps_of};
+use crate::calls::{begin_of, finish_of, play_call, play_copy, steps_of};
 use crate::propagation::propagate;
 use ckpt_machine::machine_law;
 use outside_io::Gate;
@@ -99,6 +99,7 @@ fn play_line<W: Cluster>(
         Line::Put(ckpt, node) => world.event(alloc, Event::Put(*ckpt, *node), log),
         Line::Propagate(ckpt) => propagate(alloc, *ckpt, log, world),
         Line::Show(ckpt) => world.event(alloc, Event::Show(*ckpt), log),
+        Line::Copy(node) => play_copy(alloc, *node, log, world),
         Line::Fail(node) => world.event(alloc, Event::Fail(*node), log),
         Line::Join(node) => world.event(alloc, Event::Join(*node), log),
         _ => unreachable!(),

@@ -1,6 +1,7 @@
 -- What becomes of asynchronous calls where a handle is closed or a client leaves: the world that the code makes is the one of the machine.
 use Rattle.std.proofs.Common.{◌≡◌, ℕ, Bool, true, false, Option, Some, None, refl, sym, ap, subst, ◌∙◌, cond}
-use Rattle.ckpt_types.specs.declared.identities.ActorName.TheVariants.{Client}
+use Rattle.ckpt_types.specs.declared.identities.ActorName.{ActorName}
+use Rattle.ckpt_types.specs.declared.identities.ActorName.TheVariants.{Client, Node}
 use Rattle.ckpt_types.specs.declared.identities.Who.{Who}
 use Rattle.ckpt_types.specs.declared.identities.Who.TheVariants.{Actor, Call}
 use Rattle.call_dispatch.specs.PendingCalls.{PendingCalls, no_pending}
@@ -95,16 +96,19 @@ gone_here w c handle All (Call call) may = absurd may
 pub gone_set : (w : World) (c : ℕ) (handle : Option ℕ) (going : Going) (v : Who) (o : Option InHand) → MayGo going handle v → gone_with going c handle (record w { hands = set_at w.hands v o }) ≡ record (gone_with going c handle w) { hands = set_at (hands_behind going c handle w) v o }
 gone_set w c handle Nothing v o may = refl
 gone_set w c None Syncs v o may = let none = none_closed (pending_by w.tables c) c in ap (λ hands. record (gone_with Syncs c None w) { hands = hands }) (none (set_at w.hands v o) ∙ ap (λ hands. set_at hands v o) (sym (none w.hands)))
-gone_set w c (Some handle) Syncs (Actor a) o may = refl
+gone_set w c (Some handle) Syncs (Actor (Client d)) o may = refl
+gone_set w c (Some handle) Syncs (Actor (Node r)) o may = refl
 gone_set w c (Some handle) Syncs (Call call) o may = absurd may
-gone_set w c handle All (Actor a) o may = refl
+gone_set w c handle All (Actor (Client d)) o may = refl
+gone_set w c handle All (Actor (Node r)) o may = refl
 gone_set w c handle All (Call call) o may = absurd may
 
 module _ (w : World) (c : ℕ) (handle : Option ℕ) where
-  -- what each client waits for is in hand
-  pub gone_clients : (going : Going) (d : ℕ) → hand_at (hands_behind going c handle w) (Actor (Client d)) ≡ hand_at w.hands (Actor (Client d))
-  gone_clients Nothing d = refl
-  gone_clients going d = refl
+  -- what each actor waits for is in hand
+  pub gone_waited : (going : Going) (b : ActorName) → hand_at (hands_behind going c handle w) (Actor b) ≡ hand_at w.hands (Actor b)
+  gone_waited Nothing b = refl
+  gone_waited going (Client d) = refl
+  gone_waited going (Node r) = refl
 
   -- it does not matter that the record has changed before
   pub gone_record : (R : RecordState) (going : Going) → record (gone_with going c handle w) { cluster = R } ≡ gone_with going c handle (record w { cluster = R })

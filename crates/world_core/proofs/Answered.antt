@@ -16,7 +16,6 @@ use Rattle.call_dispatch.specs.PendingCalls.{PendingCalls, callback_of, given_by
 use Rattle.node_msgs.specs.declared.details.Details.{Details}
 use Rattle.node_msgs.specs.declared.details.Details.TheVariants as beside
 use Rattle.client_handles.specs.declared.handle_view.HandleView.{HandleView}
-use Rattle.cluster_record.specs.Calls.{client_of}
 use Rattle.cluster_record.specs.RecordState.{is_live_client}
 use Rattle.ckpt_machine.specs.Beginning.{Standing, begin_end, callbacks_told}
 use Rattle.ckpt_machine.specs.BeginRows.{has_bad_handle, HasPlaceFor, IsGivenBy, BeginRow}
@@ -40,12 +39,12 @@ use Rattle.world_core.proofs.NewCalls.{new_pending}
 -- ---- what goes on is driven
 
 pub starts : (w : World) (c : ℕ) (call : CallId) (op : Op) (h : Option HandleView) (end : Option Outcome) (details : Details) → IsShown w → IsNextBegun w c call op h end → details ≡ callbacks_told end (asked op) (pending_by w.tables c) → goes_on (word_of_op op) end ≡ true
-    → IsSome (driver_start call (asked op) (kept_at_beginning w.cluster (client_of call) h))
+    → IsSome (driver_start call (asked op) (kept_at_beginning w.cluster call.actor h))
 starts w c call op h end details shown is told goes =
     let m = machine_of w shown.shows.history in
-    let (d, driven) = goes_on_driven w.cluster (client_of call) (standing_of m call.actor op) call (asked op) (begun_passed m call op end details (is_begun w c call op h end details is told shown.shows.history) goes) in
+    let (d, driven) = goes_on_driven w.cluster call.actor (standing_of m call.actor op) call (asked op) (begun_passed m call op end details (is_begun w c call op h end details is told shown.shows.history) goes) in
     let same : handle_asked (asked op) (m.tables call.actor) ≡ h = ap (λ (x : CallId). handle_asked (asked op) (m.tables x.actor)) is.call_is ∙ sym is.handle in
-    ap is_some (ap (λ o. driver_start call (asked op) (kept_at_beginning w.cluster (client_of call) o)) (sym same) ∙ driven)
+    ap is_some (ap (λ o. driver_start call (asked op) (kept_at_beginning w.cluster call.actor o)) (sym same) ∙ driven)
 
 -- ---- an operation that is no asynchronous one
 

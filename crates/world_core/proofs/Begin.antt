@@ -61,11 +61,12 @@ pub none_put : (hands : HandsState) (v : Who) → hand_at hands v ≡ None → H
 none_put hands v none u = sym (put_who-same (hand_at hands) v None (sym none) u)
 
 -- the room that was taken for a copy is for what was declared then
+pub roomed : (declares : Option CreationAttributes) → option_map (λ (t : Snapshot). t.attributes) (copy_room declares) ≡ declares
+roomed None = refl
+roomed (Some a) = refl
+
 room_to_copy : (ask : Ask) (declares : Option CreationAttributes) → IsRoomToCopy ask declares (copy_room_for ask declares)
-room_to_copy ask declares = elim (takes_copy ask) as (λ b. option_map (λ (t : Snapshot). t.attributes) (cond b (copy_room declares) None) ≡ cond b declares None) [ true ↦ roomed declares | false ↦ refl ] where
-  roomed : (d : Option CreationAttributes) → option_map (λ (t : Snapshot). t.attributes) (copy_room d) ≡ d
-  roomed None = refl
-  roomed (Some a) = refl
+room_to_copy ask declares = elim (takes_copy ask) as (λ b. option_map (λ (t : Snapshot). t.attributes) (cond b (copy_room declares) None) ≡ cond b declares None) [ true ↦ roomed declares | false ↦ refl ]
 
 -- its beginning, where it is in hand
 abbrev began_as : Kept → Option InHand → Driver → Beginning
@@ -90,7 +91,7 @@ module _ (w : World) (call : CallId) (op : Op) (kept : Kept) (end : Option Outco
   call_shown true None driver goes is = absurd is
   call_shown true (Some hand) driver goes is = driven_begun end call op kept hand.driver goes is.driven ∙ (λ i. Some (record { call = sym is.call_is i; op = sym is.op_is i; kept = kept; begun = hand.driver; steps = []; created = None; snapshot = None }))
 
-  hands_are : (o : Option InHand) (h : History) → IsBegunAs (goes_on (word_of_op op) end) call op kept o → HasUnder w.hands name o new → (u : Who) → put_who (hand_of h w.hands) name (call_begun end call op kept) u ≡ hand_of (later o h) new u
+  pub hands_are : (o : Option InHand) (h : History) → IsBegunAs (goes_on (word_of_op op) end) call op kept o → HasUnder w.hands name o new → (u : Who) → put_who (hand_of h w.hands) name (call_begun end call op kept) u ≡ hand_of (later o h) new u
   hands_are o h is under u =
       ap (λ x. put_who (hand_of h w.hands) name x u) (call_shown (goes_on (word_of_op op) end) o (h.beginnings name).driver refl is) ∙ put_hand h w.hands new name o under (its o h) [] None None u
 
@@ -106,7 +107,7 @@ module _ (w : World) (call : CallId) (op : Op) (kept : Kept) (end : Option Outco
     made = λ has creates. ap made_told is.made;
   }
 
-  fit_behind : (o : Option InHand) (h : History) → IsBegunAs (goes_on (word_of_op op) end) call op kept o → HasUnder w.hands name o new → HistoryFits w h → (u : Who) → FitsHand ((later o h).beginnings u) ((later o h).steps u) ((later o h).created u) ((later o h).pulled u) (hand_at new u)
+  pub fit_behind : (o : Option InHand) (h : History) → IsBegunAs (goes_on (word_of_op op) end) call op kept o → HasUnder w.hands name o new → HistoryFits w h → (u : Who) → FitsHand ((later o h).beginnings u) ((later o h).steps u) ((later o h).created u) ((later o h).pulled u) (hand_at new u)
   fit_behind o h is under fits = fits_hand h w.hands new name o under (its o h) [] None None (call_fits (goes_on (word_of_op op) end) o (h.beginnings name).driver is) fits.hands
 
   -- the call is in hand just where it goes on
@@ -123,7 +124,7 @@ module _ (w : World) (call : CallId) (op : Op) (kept : Kept) (end : Option Outco
 -- it is due
 pub is_begun : (w : World) (c : ℕ) (call : CallId) (op : Op) (h : Option HandleView) (end : Option Outcome) (details : Details) → IsNextBegun w c call op h end → details ≡ callbacks_told end (asked op) (pending_by w.tables c) → (history : History) → IsBegun (machine_of w history) call op end details
 is_begun w c call op h end details is told history = subst (λ (x : CallId). IsBegun (machine_of w history) x op end details) (sym is.call_is) (record {
-  client = is.client;
+  asker = is.asker;
   built = is.built;
   number = refl;
   none_in_hand = ap (shown_hand (history.beginnings (Actor (Client c))) (history.steps (Actor (Client c))) (history.created (Actor (Client c))) (history.pulled (Actor (Client c)))) is.none;
@@ -137,7 +138,7 @@ module _ (w : World) (c : ℕ) (op : Op) (end : Option Outcome) (t : TableState)
   found = handle_asked (asked op) (kept_by w.tables c)
 
   abbrev kept : Kept
-  kept = kept_at_beginning w.cluster c found
+  kept = kept_at_beginning w.cluster (Client c) found
 
   abbrev call : CallId
   call = record { actor = Client c; number = next_in (slice_get w.tables c) }
@@ -148,7 +149,7 @@ module _ (w : World) (c : ℕ) (op : Op) (end : Option Outcome) (t : TableState)
   abbrev w' : World
   w' = record w { tables = slice_set w.tables c t'; hands = new }
 
-  nexts : (h : History) (a : ActorName) → put_actor (machine_of w h).next (Client c) ((machine_of w h).next (Client c) + 1) a ≡ next_of w'.tables a
+  nexts : (h : History) (a : ActorName) → put_actor (machine_of w h).next (Client c) ((machine_of w h).next (Client c) + 1) a ≡ next_of w' a
   nexts h (Client d) = field_put w c t t' table next_in (next_in (slice_get w.tables c) + 1) (ap (λ o. next_in o + 1) table) d
   nexts h (Node r) = refl
 
@@ -182,9 +183,9 @@ module _ (w : World) (c : ℕ) (op : Op) (end : Option Outcome) (t : TableState)
     }
 
     other_hands : KeepsOther (stepped_as call (word_of_op op)) w w'
-    other_hands d apart = under_other w.hands new (stepped_as call (word_of_op op)) o under (Actor (Client d)) apart
+    other_hands b apart = under_other w.hands new (stepped_as call (word_of_op op)) o under (Actor b) apart
 
-    begins_so : Begins c op w w' label
+    begins_so : Begins (Client c) op w w' label
     begins_so = record {
       begins = record { actor = refl; op_is = refl; here = begun_here w call op kept end new o begun under; others = other_hands };
       does = begin_does;
@@ -192,13 +193,13 @@ module _ (w : World) (c : ℕ) (op : Op) (end : Option Outcome) (t : TableState)
 
 -- A CALL OF A CLIENT BEGINS, with the parts as the code names them
 pub call_begins : (w : World) (c : ℕ) (call : CallId) (op : Op) (h : Option HandleView) (end : Option Outcome) (details : Details) (o : Option InHand) (tables : List TableState) (hands : HandsState) →
-    IsNextBegun w c call op h end → details ≡ callbacks_told end (asked op) (pending_by w.tables c) → IsBegunAs (goes_on (word_of_op op) end) call op (kept_at_beginning w.cluster c h) o → HasUnder w.hands (stepped_as call (word_of_op op)) o hands →
-    tables ≡ at_client c (begun_with end call op h) w.tables → Begins c op w (record w { tables = tables; hands = hands }) (Began call op end details)
+    IsNextBegun w c call op h end → details ≡ callbacks_told end (asked op) (pending_by w.tables c) → IsBegunAs (goes_on (word_of_op op) end) call op (kept_at_beginning w.cluster (Client c) h) o → HasUnder w.hands (stepped_as call (word_of_op op)) o hands →
+    tables ≡ at_client c (begun_with end call op h) w.tables → Begins (Client c) op w (record w { tables = tables; hands = hands }) (Began call op end details)
 call_begins w c call op h end details o tables hands is told begun under tables_are =
     let (t, table) = there_is w.tables c is.table in
     let b : slice_set w.tables c (begun_with end call op h t) ≡ tables = ap (table_changed c (begun_with end call op h) w.tables) (sym table) ∙ sym tables_are in
-    subst (λ (x : List TableState). Begins c op w (record w { tables = x; hands = hands }) (Began call op end details)) b
-    (subst (λ (z : CallId × Option HandleView). IsNextBegun w c z.0 op z.1 end → IsBegunAs (goes_on (word_of_op op) end) z.0 op (kept_at_beginning w.cluster c z.1) o → HasUnder w.hands (stepped_as z.0 (word_of_op op)) o hands → Begins c op w (record w { tables = slice_set w.tables c (begun_with end z.0 op z.1 t); hands = hands }) (Began z.0 op end details))
+    subst (λ (x : List TableState). Begins (Client c) op w (record w { tables = x; hands = hands }) (Began call op end details)) b
+    (subst (λ (z : CallId × Option HandleView). IsNextBegun w c z.0 op z.1 end → IsBegunAs (goes_on (word_of_op op) end) z.0 op (kept_at_beginning w.cluster (Client c) z.1) o → HasUnder w.hands (stepped_as z.0 (word_of_op op)) o hands → Begins (Client c) op w (record w { tables = slice_set w.tables c (begun_with end z.0 op z.1 t); hands = hands }) (Began z.0 op end details))
     (λ i. (sym is.call_is i, sym is.handle i)) (λ is begun under. begins_so w c op end t table o hands details is told begun under) is begun under)
 
 -- ---- one that is answered at once, and does not go on
@@ -209,9 +210,9 @@ idle w c next word shown next_is none = subst (λ (x : CallId). hand_at w.hands 
 
 -- so it is over with its beginning
 pub answered_begins : (w : World) (c : ℕ) (call : CallId) (op : Op) (h : Option HandleView) (end : Outcome) (details : Details) (new : World) → IsShown w → IsAnsweredAtOnce w c call op h end → details ≡ callbacks_told (Some end) (asked op) (pending_by w.tables c) → goes_on (word_of_op op) (Some end) ≡ false
-    → new ≡ record w { tables = at_client c (begun_with (Some end) call op h) w.tables } → Begins c op w new (Began call op (Some end) details)
+    → new ≡ record w { tables = at_client c (begun_with (Some end) call op h) w.tables } → Begins (Client c) op w new (Began call op (Some end) details)
 answered_begins w c call op h end details new shown is told ends new_is =
     let none = idle w c call (word_of_op op) shown is.call_is is.none in
-    subst (λ x. Begins c op w x (Began call op (Some end) details)) (sym new_is)
+    subst (λ x. Begins (Client c) op w x (Began call op (Some end) details)) (sym new_is)
     (call_begins w c call op h (Some end) details None (at_client c (begun_with (Some end) call op h) w.tables) w.hands is told
-    (subst (λ b. IsBegunAs b call op (kept_at_beginning w.cluster c h) None) (sym ends) refl) (none_put w.hands (stepped_as call (word_of_op op)) none) refl)
+    (subst (λ b. IsBegunAs b call op (kept_at_beginning w.cluster (Client c) h) None) (sym ends) refl) (none_put w.hands (stepped_as call (word_of_op op)) none) refl)

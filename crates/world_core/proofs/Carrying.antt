@@ -1,7 +1,6 @@
 -- What a call lends to a request carries what the request uses, as the machine's call does.
 use Rattle.std.proofs.Common.{◌≡◌, ℕ, List, refl, sym, ap, subst}
 use Rattle.std.specs.Prelude.{Option, Some, None, IfSome, IsSome, IsSomeAnd}
-use Rattle.ckpt_types.specs.declared.operation.Op.{Op}
 use Rattle.ckpt_types.specs.Asks.{asked, update_of, elements_of}
 use Rattle.client_handles.specs.ClientState.{ClientState}
 use Rattle.section_iter.specs.KeptIds.{KeptIds}

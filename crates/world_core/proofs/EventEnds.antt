@@ -33,7 +33,8 @@ use Rattle.world_core.specs.Shows.{History, IsShown, machine_of}
 use Rattle.client_calls.specs.Taking.{hand_outcome, hand_told}
 use Rattle.world_core.proofs.CallSteps.{IsKnown, known}
 use Rattle.world_core.proofs.Held.{driver_is, in_hand_is, state_in}
-use Rattle.world_core.proofs.RecordEvent.{event_ready}
+use Rattle.ckpt_machine.proofs.Going.{CompletesNone}
+use Rattle.world_core.proofs.RecordEvent.{event_ready, step_ends}
 use Rattle.ckpt_types.specs.declared.identities.Who.{Who}
 use Rattle.ckpt_machine.proofs.StepTaking.{TakesDone, granted_is, is_done, takes_done, takes_refused}
 
@@ -64,9 +65,11 @@ module _ (w : World) (v : Who) (step : RecordStep) (hand : InHand) (held : hand_
   done_is : event_refusal w.cluster step hand.driver ≡ None → TakesDone w.cluster hand.driver step (event_after hand.call hand.driver step w.cluster)
   done_is granted = takes_done (machine_of w h) (state_in h v hand) its_facts.facts.rises its_facts.facts.stay (rooms_at w (client_by v)) hand.driver step drives next granted (event_ready w v step hand held next shown)
 
-  pub done_ends : event_refusal w.cluster step hand.driver ≡ None → (N : RecordState) (k : Option ℕ) → N ≡ event_after hand.call hand.driver step w.cluster → k ≡ event_ckpt w.cluster hand.driver step → hand_outcome N is_done hand ≡ event_end step k
-  done_ends granted N k N_is k_is =
-      ap (λ S. hand_outcome S is_done hand) N_is ∙ ap (option_map (index_told hand.op)) (done_is granted).outcome ∙ done_alike hand.op step (event_ckpt w.cluster hand.driver step) ∙ sym (ap (event_end step) k_is)
+  pub done_ends : CompletesNone step → event_refusal w.cluster step hand.driver ≡ None → (N : RecordState) (k : Option ℕ) → N ≡ event_after hand.call hand.driver step w.cluster → k ≡ event_ckpt w.cluster hand.driver step → hand_outcome N is_done hand ≡ event_end step k
+  done_ends none granted N k N_is k_is =
+      let N_so = event_after hand.call hand.driver step w.cluster in
+      let done = done_of w.cluster (event_verb step) (event_ckpt w.cluster hand.driver step) (event_node hand.driver step) words.Ok in
+      ap (λ S. hand_outcome S is_done hand) N_is ∙ ap (option_map (index_told hand.op)) ((done_is granted).outcome ∙ step_ends (machine_of w h) (state_in h v hand) hand.driver step (event_ckpt w.cluster hand.driver step) none (event_ready w v step hand held next shown) N_so done) ∙ done_alike hand.op step (event_ckpt w.cluster hand.driver step) ∙ sym (ap (event_end step) k_is)
 
   pub done_keeps : event_refusal w.cluster step hand.driver ≡ None → (N : RecordState) (k r : Option ℕ) → N ≡ event_after hand.call hand.driver step w.cluster → k ≡ event_ckpt w.cluster hand.driver step → r ≡ event_node hand.driver step →
       hand_told N is_done hand ≡ hand_taken (done_of N (event_verb step) k r words.Ok) hand

@@ -1,8 +1,8 @@
 -- An event that came is answered by its label, which adds to the run.
-use Rattle.std.proofs.Common.{◌≡◌, ◌≢◌, inl, inr, ℕ, Bool, true, false, List, [], ◌∷◌, ◌++◌, refl, sym, ap, subst, ◌∙◌, cond}
+use Rattle.std.proofs.Common.{◌≡◌, ◌≢◌, inl, inr, Bool, true, false, List, [], ◌∷◌, ◌++◌, refl, sym, ap, subst, ◌∙◌, cond}
 use Rattle.std.specs.Prelude.{◌<◌, Option, Some, None, IfSome}
 use Rattle.ckpt_types.specs.declared.answers.Outcome.{Outcome}
-use Rattle.ckpt_types.specs.declared.identities.ActorName.TheVariants.{Client, Node}
+use Rattle.ckpt_types.specs.declared.identities.ActorName.{ActorName}
 use Rattle.ckpt_types.specs.declared.identities.CallId.{CallId}
 use Rattle.ckpt_types.specs.declared.identities.Who.{Who}
 use Rattle.ckpt_types.specs.declared.identities.Who.TheVariants.{Actor, Call}
@@ -39,23 +39,23 @@ idle_hands whose finish old new label is = absurd is
 
 -- ---- the label of a beginning
 
--- a call that begins is in hand by its client's name or by its own
-other_name : (c d : ℕ) (call : CallId) (word : OpWord) → call.actor ≡ Client c → d ≢ c → Actor (Client d) ≢ stepped_as call word
-other_name c d call word actor apart = by_word (is_async word) where
-  by_word : (b : Bool) → Actor (Client d) ≡ cond b (Call call) (Actor call.actor) → ⊥
+-- a call that begins is in hand by its actor's name or by its own
+other_name : (a b : ActorName) (call : CallId) (word : OpWord) → call.actor ≡ a → b ≢ a → Actor b ≢ stepped_as call word
+other_name a b call word actor apart = by_word (is_async word) where
+  by_word : (async : Bool) → Actor b ≡ cond async (Call call) (Actor call.actor) → ⊥
   by_word true same = cc same
-  by_word false same = apart (let one : Actor (Client d) ≡ Actor (Client c) = same ∙ ap Actor actor in cc one)
+  by_word false same = apart (let one : Actor b ≡ Actor a = same ∙ ap Actor actor in cc one)
 
-module _ (c : ℕ) (op : Op) (old new : World) where
-  begin_does_answer : (label : Label) → BeginsOrSays c op old new label → AnswersBegin (Client c) op old new label
+module _ (a : ActorName) (op : Op) (old new : World) where
+  begin_does_answer : (label : Label) → BeginsOrSays a op old new label → AnswersBegin a op old new label
   begin_does_answer (labels.Began call begun end details) is = (is.actor, is.op_is, is.here)
   begin_does_answer (labels.Word who word said) is = is
   begin_does_answer label is = absurd is
 
-  begin_others : (label : Label) (d : ℕ) → BeginsOrSays c op old new label → d ≢ c → hand_at new.hands (Actor (Client d)) ≡ hand_at old.hands (Actor (Client d))
-  begin_others (labels.Began call begun end details) d is apart = is.others d (other_name c d call (word_of_op op) is.actor apart)
-  begin_others (labels.Word who word said) d is apart = ap (λ hands. hand_at hands (Actor (Client d))) is.2
-  begin_others label d is apart = absurd is
+  begin_others : (label : Label) (b : ActorName) → BeginsOrSays a op old new label → b ≢ a → hand_at new.hands (Actor b) ≡ hand_at old.hands (Actor b)
+  begin_others (labels.Began call begun end details) b is apart = is.others b (other_name a b call (word_of_op op) is.actor apart)
+  begin_others (labels.Word who word said) b is apart = ap (λ hands. hand_at hands (Actor b)) is.2
+  begin_others label b is apart = absurd is
 
 -- ---- the label of a step
 
@@ -68,14 +68,12 @@ step_answers v finish old new label step =
 -- ---- any event
 
 pub does_label : (event : Event) (old new : World) (label : Label) → IsAnswered event old new label → Does old new label
-does_label (happenings.Begin (Node r) op) old new label is = absurd is
 does_label (happenings.Step who finish) old new label (inl step) = step.does
 does_label (happenings.Step who finish) old new label (inr idle) = idle.does
 does_label event old new label is = is.does
 
 answers_label : (event : Event) (old new : World) (label : Label) → IsAnswered event old new label → Answers event old new label
-answers_label (happenings.Begin (Client c) op) old new label is = begin_does_answer c op old new label is.begins
-answers_label (happenings.Begin (Node r) op) old new label is = absurd is
+answers_label (happenings.Begin a op) old new label is = begin_does_answer a op old new label is.begins
 answers_label (happenings.Step who finish) old new label (inl step) = step_answers who finish old new label step
 answers_label (happenings.Step who finish) old new label (inr idle) = subst (λ p. AnswersStep who finish p old new label) (sym idle.none) idle.word
 answers_label (happenings.Show k) old new label is = (is.label_is, ap (λ (w : World). w.hands) is.same)
@@ -84,10 +82,9 @@ answers_label (happenings.Join r) old new label is = (is.label_is, is.hands, is.
 answers_label event old new label is = (is.label_is, is.hands)
 
 keeps_others : (event : Event) (old new : World) (label : Label) → IsAnswered event old new label → KeepsOthers event old new
-keeps_others (happenings.Begin (Client c) op) old new label is = λ d apart. begin_others c op old new label d is.begins apart
-keeps_others (happenings.Begin (Node r) op) old new label is = absurd is
+keeps_others (happenings.Begin a op) old new label is = λ b apart. begin_others a op old new label b is.begins apart
 keeps_others (happenings.Step who finish) old new label (inl step) = step.others
-keeps_others (happenings.Step who finish) old new label (inr idle) = λ d apart. ap (λ hands. hand_at hands (Actor (Client d))) (idle_hands who finish old new label idle.word)
+keeps_others (happenings.Step who finish) old new label (inr idle) = λ b apart. ap (λ hands. hand_at hands (Actor b)) (idle_hands who finish old new label idle.word)
 keeps_others event old new label is = tt
 
 -- ---- by the law of the machine

@@ -1,6 +1,6 @@
 -- What the failure of a node leaves of tables, of calls in hand and of background snapshots: what the machine has behind it.
 use Rattle.std.proofs.Common.{◌≡◌, ℕ, Bool, true, false, List, [], Option, Some, None, refl, sym, ap, subst, ◌∙◌, cond}
-use Rattle.std.specs.Prelude.{is_some, ◌||◌, ◌==◌, slice_get}
+use Rattle.std.specs.Prelude.{is_some, map, ◌||◌, ◌==◌, slice_get}
 use Rattle.std.specs.Option.{option_map}
 use Rattle.std.proofs.lemmas.Option.{slice_get-map}
 use Rattle.ckpt_types.specs.declared.identities.ActorName.{ActorName}
@@ -35,7 +35,7 @@ use Rattle.world_core.specs.Backgrounds.{background_in, backgrounds_left, HasRoo
 use Rattle.world_core.specs.Failing.{hands_left, tables_left}
 use Rattle.world_core.specs.HandsState.{HandsState, hand_at}
 use Rattle.world_core.specs.LiveRooms.{LiveHaveRoom, room_is_taken}
-use Rattle.world_core.specs.Shows.{FitsHand, Beginning, next_of, pending_of, shown_hand, snapshot_shown, tables_of}
+use Rattle.world_core.specs.Shows.{FitsHand, Beginning, pending_of, shown_hand, snapshot_shown, tables_of}
 use Rattle.cluster_record.specs.StepDone.{StepDone}
 use Rattle.ckpt_machine.specs.Machine.{Effect}
 use Rattle.world_core.specs.declared.snapshots.Background.{Background}
@@ -66,10 +66,9 @@ module _ (R : RecordState) (r : ℕ) (tables : List TableState) where
   pending_are (Client c) = sym (told_left pending_in (λ p. no_pending) refl (λ t. refl) c)
   pending_are (Node q) = elim (q == r) as (λ b. cond b no_pending no_pending ≡ no_pending) [ true ↦ refl | false ↦ refl ]
 
-  -- numbers
-  pub next_are : (a : ActorName) → next_of tables a ≡ next_of (tables_left goes tables) a
-  next_are (Client c) = sym (told_left next_in (λ n. n) refl (λ t. refl) c ∙ elim (goes c) as (λ b. cond b (next_in (slice_get tables c)) (next_in (slice_get tables c)) ≡ next_in (slice_get tables c)) [ true ↦ refl | false ↦ refl ])
-  next_are (Node q) = refl
+  -- numbers of calls
+  pub next_left : (c : ℕ) → next_in (slice_get tables c) ≡ next_in (slice_get (tables_left goes tables) c)
+  next_left c = sym (told_left next_in (λ n. n) refl (λ t. refl) c ∙ elim (goes c) as (λ b. cond b (next_in (slice_get tables c)) (next_in (slice_get tables c)) ≡ next_in (slice_get tables c)) [ true ↦ refl | false ↦ refl ])
 
   -- rooms
   pub rooms_then : (counts : ℕ → ℕ → ℕ) → LiveHaveRoom R tables → LiveHaveRoom (swept (failed counts r R)) (tables_left goes tables)
@@ -109,13 +108,17 @@ module _ (R : RecordState) (r : ℕ) (hands : HandsState) where
           elim (goes_with_node R r c) as (λ b. found_alone (call_of c n) (cond b [] xs) ≡ cond (b || false) None (Some h)) [ true ↦ refl | false ↦ is ]
           ∙ sym (ap (λ b. cond b None (Some h)) test)
 
-  -- the call in hand under each name
-  pub hand_left_at : ((call : CallId) (h : InHand) → hand_at hands (Call call) ≡ Some h → enters_on r (asked h.op) ≡ false) → (v : Who) → hand_at (hands_left R r hands) v ≡ place_left R r (hand_at hands v)
-  hand_left_at alone (Actor (Client c)) = ap or_none (slice_get-map (place_left R r) hands.clients c) ∙ by_place (slice_get hands.clients c) where
+  -- what waits in a place behind it
+  waits_left : (places : List (Option InHand)) (i : ℕ) → or_none (slice_get (map (place_left R r) places) i) ≡ place_left R r (or_none (slice_get places i))
+  waits_left places i = ap or_none (slice_get-map (place_left R r) places i) ∙ by_place (slice_get places i) where
     by_place : (o : Option (Option InHand)) → or_none (option_map (place_left R r) o) ≡ place_left R r (or_none o)
     by_place None = refl
     by_place (Some place) = refl
-  hand_left_at alone (Actor (Node q)) = refl
+
+  -- the call in hand under each name
+  pub hand_left_at : ((call : CallId) (h : InHand) → hand_at hands (Call call) ≡ Some h → enters_on r (asked h.op) ≡ false) → (v : Who) → hand_at (hands_left R r hands) v ≡ place_left R r (hand_at hands v)
+  hand_left_at alone (Actor (Client c)) = waits_left hands.clients c
+  hand_left_at alone (Actor (Node q)) = waits_left hands.nodes q
   hand_left_at alone (Call call) = by_actor call.actor call.number (alone call) where
     by_actor : (a : ActorName) (n : ℕ) → ((h : InHand) → hand_at hands (Call (record { actor = a; number = n })) ≡ Some h → enters_on r (asked h.op) ≡ false)
         → hand_at (hands_left R r hands) (Call (record { actor = a; number = n })) ≡ place_left R r (hand_at hands (Call (record { actor = a; number = n })))

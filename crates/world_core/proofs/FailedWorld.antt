@@ -5,6 +5,8 @@ use Rattle.std.specs.Prelude.{if◌then◌else◌, ◌==◌}
 use Rattle.ckpt_types.specs.Asks.{asked}
 use Rattle.ckpt_types.specs.Limits.{nodes_max}
 use Rattle.ckpt_types.specs.OpWord.{is_async, word_of_op}
+use Rattle.ckpt_types.specs.declared.identities.ActorName.{ActorName}
+use Rattle.ckpt_types.specs.declared.identities.ActorName.TheVariants.{Client, Node}
 use Rattle.ckpt_types.specs.declared.identities.CallId.{CallId}
 use Rattle.ckpt_types.specs.declared.identities.Who.{Who}
 use Rattle.ckpt_types.specs.declared.identities.Who.TheVariants.{Actor, Call}
@@ -30,9 +32,9 @@ use Rattle.world_core.specs.Backgrounds.{HaveRooms}
 use Rattle.world_core.specs.Failing.{failed_world, record_left}
 use Rattle.world_core.specs.HandsState.{hand_at}
 use Rattle.world_core.specs.Happenings.{Fails}
-use Rattle.world_core.specs.Shows.{Does, FitsHand, HasNumbersLeft, History, HistoryFits, IsShown, machine_of, shown_hand}
+use Rattle.world_core.specs.Shows.{Does, FitsHand, HasNumbersLeft, History, HistoryFits, IsShown, machine_of, next_of, shown_hand}
 use Rattle.world_core.specs.declared.world.World.{World}
-use Rattle.world_core.proofs.FailedParts.{tables_are, pending_are, next_are, rooms_then, no_enter, hand_left_at, shown_abandoned, fits_abandoned, snapshots_are, rooms_are}
+use Rattle.world_core.proofs.FailedParts.{tables_are, pending_are, next_left, rooms_then, no_enter, hand_left_at, shown_abandoned, fits_abandoned, snapshots_are, rooms_are}
 use Rattle.world_core.proofs.Freeing.{fits_left as copies_fit}
 use Rattle.world_core.proofs.Held.{in_hand_is, state_in}
 
@@ -73,6 +75,11 @@ module _ (w : World) (r : ℕ) (h : History) (fits : HistoryFits w h) (facts : F
       shown_abandoned w.cluster r (h.beginnings v) (h.steps v) (h.created v) (h.pulled v) (hand_at w.hands v)
       ∙ ap (shown_hand (h.beginnings v) (h.steps v) (h.created v) (h.pulled v)) (sym (hand_left_at w.cluster r w.hands alone v))
 
+  -- the numbers of the next calls stay
+  next_are : (a : ActorName) → next_of w a ≡ next_of (failed_world r w) a
+  next_are (Client c) = next_left w.cluster r w.tables c
+  next_are (Node q) = refl
+
   -- the machine behind it is the one that the world shows
   pub failed_is : failed_at r (machine_of w h) ≡ machine_of (failed_world r w) then_history
   failed_is =
@@ -83,7 +90,7 @@ module _ (w : World) (r : ℕ) (h : History) (fits : HistoryFits w h) (facts : F
         snapshots = λ k. snapshots_are told r w.cluster w.snapshots facts.rises keeps k (h.copied k) i;
         tables = λ a. tables_are w.cluster r w.tables a i;
         pending = λ a. pending_are w.cluster r w.tables a i;
-        next = λ a. next_are w.cluster r w.tables a i;
+        next = λ a. next_are a i;
         in_hand = λ v. hands_are v i;
       })
 
@@ -105,7 +112,7 @@ failed_does w r node up = record {
     history = then_history w r s.history s.fits facts s.holds s.keeps;
     same = ap (failed_at r) s.same ∙ failed_is w r s.history s.fits facts s.holds s.keeps;
     fits = failed_fits w r s.history s.fits facts s.holds s.keeps;
-    holds = holds_left (count_told (counts_of w.nodes w.cluster.entries)) r w.cluster w.nodes facts.rises s.holds facts.unled;
+    holds = holds_left (count_told (counts_of w.nodes w.cluster.entries)) r w.cluster w.nodes facts.rises s.holds facts.led;
     keeps = rooms_are (count_told (counts_of w.nodes w.cluster.entries)) r w.cluster w.snapshots facts.rises s.keeps;
     rooms = rooms_then w.cluster r w.tables (count_told (counts_of w.nodes w.cluster.entries)) s.rooms;
   };

@@ -1,6 +1,6 @@
 -- What a due request finds on its node: for all but a reservation the replica that the machine has there.
 use Rattle.std.proofs.Common.{◌≡◌, ℕ, ◌<◌, ◌==◌, Bool, true, false, not, cond, List, length, refl, sym, ap, subst, ◌∙◌}
-use Rattle.std.specs.Prelude.{Option, Some, None, IsSome, IsSomeAnd, slice_index}
+use Rattle.std.specs.Prelude.{Option, Some, None, IfSome, IsSome, IsSomeAnd, slice_index}
 use Rattle.std.specs.Option.{option_and_then}
 use Rattle.ckpt_types.specs.declared.identities.ActorName.TheVariants.{Client}
 use Rattle.ckpt_types.specs.declared.attributes.CreationAttributes.{CreationAttributes}
@@ -15,6 +15,7 @@ use Rattle.cluster_record.specs.DueActive.{weak_request, request_by}
 use Rattle.cluster_record.specs.declared.calls.MarksMade.{MarksMade}
 use Rattle.cluster_record.specs.declared.calls.ActiveKind.{ActiveKind}
 use Rattle.cluster_record.specs.declared.calls.ActiveKind.TheVariants as kinds
+use Rattle.cluster_record.specs.declared.copying.Copying.{Copying}
 use Rattle.cluster_record.specs.declared.entries.Entry.{Entry}
 use Rattle.replica.specs.Replicas.{Replica}
 use Rattle.weak_marks.specs.Marks.{Marked}
@@ -30,13 +31,12 @@ use Rattle.ckpt_machine.specs.Nodes.{node_at, replica_in}
 use Rattle.ckpt_machine.specs.Drivers.{Driver}
 use Rattle.ckpt_machine.specs.Drivers as drivers
 use Rattle.ckpt_machine.specs.Driving.{driver_next}
-use Rattle.ckpt_machine.specs.Machine.{Machine, Effect, ReplicaState, CallState}
+use Rattle.ckpt_machine.specs.Machine.{Machine, Effect, CallState}
 use Rattle.ckpt_machine.specs.Tables.{handle_asked}
 use Rattle.ckpt_machine.specs.Due.{due, payload_due, room_in}
 use Rattle.ckpt_machine.specs.Seen.{seen_by, seen_at, seen_slot, seen_snapshot}
 use Rattle.cluster_record.specs.LookUps.{declared_in}
-use Rattle.ckpt_types.specs.Asks.{asked, update_of}
-use Rattle.ckpt_types.specs.declared.update.Update.{Update}
+use Rattle.ckpt_types.specs.Asks.{asked}
 use Rattle.client_handles.specs.ClientState.{ClientState, iteration_at}
 use Rattle.client_handles.specs.declared.handle_view.HandleView.{HandleView}
 use Rattle.section_iter.specs.KeptIds.{KeptIds}
@@ -47,13 +47,14 @@ use Rattle.ckpt_machine.specs.Facts.{Facts, HasCopyRoom, IsServable}
 use Rattle.world_core.specs.Shows.{HistoryFits, History, machine_of, tables_of}
 use Rattle.ckpt_machine.specs.Shown.{FitsReplica, FitsSlot, FitsCopy, shown_replica, shown_slot, shown_copy, where_complete, complete_replica}
 use Rattle.client_calls.specs.HandRooms.{room_for}
-use Rattle.ckpt_machine.proofs.NextOf.{OfAsked, next_of}
+use Rattle.ckpt_machine.proofs.NextOf.{OfAsked, OfCopying, next_of}
 use Rattle.ckpt_machine.proofs.OptionLemmas.{IsSomeAnd-at}
 use Rattle.ckpt_machine.proofs.LentReplicas.{has_one}
 use Rattle.world_core.proofs.Carrying.{IsOfCall, payload_with}
 use Rattle.ckpt_machine.proofs.Carried.{GoesToReplica, IsSameCopy}
 use Rattle.ckpt_machine.proofs.CopySteps.{HasCopyRoomFor, room_is}
-use Rattle.world_core.proofs.Held.{state_in, in_hand_is, actor_is, iteration_is, due_is, copy_stays}
+use Rattle.ckpt_machine.proofs.Askers.{IsCopyAsk}
+use Rattle.world_core.proofs.Held.{client_asks, state_in, in_hand_is, iteration_is, due_is, copy_stays}
 use Rattle.world_core.proofs.IterationSteps.{TablesReady, goes_on_with, asked_is, room_for_declared}
 use Rattle.world_core.specs.HandsState.{hand_at}
 use Rattle.client_calls.specs.Names.{client_by}
@@ -87,6 +88,10 @@ asked_goes : (x : Driver) → OfAsked AsksSo x
 asked_goes (drivers.Update u) = (λ r t. tt, λ r. tt, λ r. tt, λ r. tt)
 asked_goes (drivers.Active a) = λ r. kind_goes a.call a.ckpt a.kind a.marks
 asked_goes (drivers.Sync u) = (λ r. tt, λ r. tt, λ r. tt, λ r. tt)
+asked_goes (drivers.Copy c) = by_copying c.copying where
+  by_copying : (o : Option Copying) → IfSome o (OfCopying AsksSo c)
+  by_copying None = tt
+  by_copying (Some at) = record { update = (λ r t. tt, λ r. tt, λ r. tt, λ r. tt); pulls = λ r. tt; completes = λ moment. tt }
 asked_goes x = tt
 
 -- ---- the replica that is there
@@ -222,7 +227,7 @@ module _ (w : World) (h : History) (v : Who) (r : ℕ) (hand : InHand) (facts : 
       (starting, iteration_is w h v hand held fits ∙ ap (λ a. room_for a s.kept.room) starting.asks)
   tables_ready (requests.Next call k) is =
       let going = facts.goes_on v s r call k (in_hand_is w h v hand held) is in
-      let caller = actor_is w h v hand held facts in
+      let caller : hand.call.actor ≡ Client (client_by v) = client_asks w h v hand held facts (λ copies. subst IsCopyAsk going.asks copies) in
       goes_on_with (asked hand.op) kept going.iteration going.asks going.within
       (from_there _ (iteration_at going.iteration kept) (subst (λ (o : Option HandleView). IsSome o) (λ i. handle_asked (going.asks i) (tables_of w.tables (caller i))) going.handle))
       (facts.rest (Client (client_by v)))

@@ -163,6 +163,12 @@ client_set hands c x there o (Actor (Client d)) = ap or_none (get_set hands.clie
 client_set hands c x there o (Actor (Node r)) = refl
 client_set hands c x there o (Call call) = refl
 
+-- and where that of a node is
+pub node_set : (hands : HandsState) (r : ℕ) (x : Option InHand) → slice_get hands.nodes r ≡ Some x → (o : Option InHand) (u : Who) → hand_at (set_at hands (Actor (Node r)) o) u ≡ put_who (hand_at hands) (Actor (Node r)) o u
+node_set hands r x there o (Actor (Node q)) = ap or_none (get_set hands.nodes r o x q there) ∙ elim (q == r) as (λ b. or_none (cond b (Some o) (slice_get hands.nodes q)) ≡ cond b o (or_none (slice_get hands.nodes q))) [ true ↦ refl | false ↦ refl ]
+node_set hands r x there o (Actor (Client c)) = refl
+node_set hands r x there o (Call call) = refl
+
 module _ (call : CallId) (hands : HandsState) where
   abbrev its : List (Option InHand)
   its = alone_in hands.alone call.actor
@@ -232,15 +238,15 @@ none_over handle c p none hands = sym (ap (λ p. without_those c (λ v. goes_wit
 
 -- ---- a place that was lent comes back
 
-client_same : (xs : List (Option InHand)) (c : ℕ) (place : Option InHand) → or_none (slice_get xs c) ≡ place → slice_set xs c place ≡ xs
-client_same [] c place is = refl
-client_same (x ∷ xs) zero place is = ap (λ (z : Option InHand). z ∷ xs) (sym is)
-client_same (x ∷ xs) (suc c) place is = ap (λ zs. x ∷ zs) (client_same xs c place is)
+place_same : (xs : List (Option InHand)) (c : ℕ) (place : Option InHand) → or_none (slice_get xs c) ≡ place → slice_set xs c place ≡ xs
+place_same [] c place is = refl
+place_same (x ∷ xs) zero place is = ap (λ (z : Option InHand). z ∷ xs) (sym is)
+place_same (x ∷ xs) (suc c) place is = ap (λ zs. x ∷ zs) (place_same xs c place is)
 
 -- as it was
 come_back_same : (hands : HandsState) (v : Who) (place : Option InHand) → hand_at hands v ≡ place → set_at hands v place ≡ hands
-come_back_same hands (Actor (Client c)) place is = ap (λ xs. record hands { clients = xs }) (client_same hands.clients c place is)
-come_back_same hands (Actor (Node r)) place is = refl
+come_back_same hands (Actor (Client c)) place is = ap (λ xs. record hands { clients = xs }) (place_same hands.clients c place is)
+come_back_same hands (Actor (Node r)) place is = ap (λ xs. record hands { nodes = xs }) (place_same hands.nodes r place is)
 come_back_same hands (Call call) place is = ap (λ lists. record hands { alone = lists }) (alone_same call.actor (changed_alone call place) hands.alone (changed-same call (alone_in hands.alone call.actor) place is))
 
 -- so the world is as it was

@@ -33,7 +33,7 @@ use Rattle.ckpt_machine.specs.Drivers as drivers
 use Rattle.ckpt_machine.specs.Driving.{driver_next, index_told}
 use Rattle.ckpt_machine.specs.Facts.{HasLiveMarker, IsEventReady}
 use Rattle.ckpt_machine.specs.Machine.{Machine, CallState}
-use Rattle.ckpt_machine.specs.Due.{IsEventAnswer, kept_off, marks_on}
+use Rattle.ckpt_machine.specs.Due.{IsEventAnswer, Told, event_done, kept_off, marks_on}
 use Rattle.client_calls.specs.declared.in_hand.InHand.{InHand}
 use Rattle.world_core.specs.declared.world.World.{World}
 use Rattle.world_core.specs.Alone.{ended_at}
@@ -54,7 +54,7 @@ use Rattle.world_core.proofs.Held.{copy_stays, state_in}
 use Rattle.world_core.proofs.MadeIds.{made_stays}
 use Rattle.world_core.proofs.LiveRooms.{rooms_after}
 use Rattle.world_core.proofs.Maps.{HasUnder, ended_going, hand_left}
-use Rattle.world_core.proofs.RecordEvent.{done_beside, done_does, ended_does, event_asks, event_ready, fits_recorded, recorded, told_so}
+use Rattle.world_core.proofs.RecordEvent.{done_beside, done_does, ended_does, ends_so, event_asks, event_ready, fits_recorded, recorded, told_so}
 use Rattle.world_core.proofs.Recording.{with_effects}
 use Rattle.ckpt_machine.proofs.OptionLemmas.{IsSomeAnd-at}
 use Rattle.world_core.specs.HandsState.{hand_at, set_at}
@@ -83,6 +83,7 @@ by_sync P hand k one each = by_driver hand.driver refl one where
   by_driver (drivers.Open o) is one = absurd (cc one)
   by_driver (drivers.Update u) is one = absurd (cc one)
   by_driver (drivers.Active a) is one = absurd (cc one)
+  by_driver (drivers.Copy c) is one = absurd (cc one)
 
 -- ---- a hold
 
@@ -147,9 +148,10 @@ module _ (w : World) (v : Who) (r : ℕ) (base : InHand) (u : SyncState) where
         shown_held : length w.nodes ≡ 8 → call_of x.marks ≡ None → (t : copies.Snapshot) → hand.snapshot ≡ Some t →
             IsShownBehind w v hand held (recorded w v step hand held next) (with_effects w) verbs.Hold (Some k) (Some r) words.Ok None beside.Nothing 0 (Some (pulled_from x t)) hand.made (λ h. Some (h.effects k r)) (Event step) h
         shown_held eight unmarked t had = record {
-          done = told_so w v step hand held next h is words.Ok None (subst (λ o. IsEventAnswer o None step (record { verb = verbs.Hold; ckpt = Some k; node = Some r; reply = words.Ok; end = None; details = beside.Nothing })) (sym unmarked ∙ marks_are) (inl (refl, refl)));
-          change = done_beside w v step hand held next h is eight refl;
-          fits = fits_recorded w v step hand held next h is eight refl;
+          done = let told : Told = record { verb = verbs.Hold; ckpt = Some k; node = Some r; reply = words.Ok; end = None; details = beside.Nothing } in
+              told_so w v step hand held next h is words.Ok None (subst (λ o. IsEventAnswer o None (event_done (machine_of w h) (state_in h v hand) step told) step told) (sym unmarked ∙ marks_are) (inl (refl, sym (ends_so w v step hand held next h is tt words.Ok None))));
+          change = done_beside w v step hand held next h is tt eight refl;
+          fits = fits_recorded w v step hand held next h is tt eight refl;
           count_is = refl;
           copy_is =
               let has = copy_stays w h v hand held is.fits in
@@ -175,10 +177,14 @@ module _ (w : World) (v : Who) (r : ℕ) (base : InHand) (u : SyncState) where
           room = room;
           kept_off = λ by marked. ap (option_map (index_told hand.op)) (takes_kept_off w.cluster u r by next (marker_live h is x complete by marked));
           kept_off_does = λ by marked. ended_does w v step hand held next (words.Held by) (Refused TryAgain (Holder by)) tt
-              (λ h is. (refl, subst (λ o. IsEventAnswer o None step (record { verb = verbs.Hold; ckpt = Some k; node = Some r; reply = words.Held by; end = Some (Refused TryAgain (Holder by)); details = beside.Nothing })) (sym marked ∙ marks_are h is x complete) (refl, refl)));
-          goes_on = done_ends w v step hand held next shown refl (swept (hold_set k hand.call w.cluster)) (Some k) refl refl;
+              (λ h is. (
+                refl,
+                let told : Told = record { verb = verbs.Hold; ckpt = Some k; node = Some r; reply = words.Held by; end = Some (Refused TryAgain (Holder by)); details = beside.Nothing } in
+                    subst (λ o. IsEventAnswer o None (event_done (machine_of w h) (state_in h v hand) step told) step told) (sym marked ∙ marks_are h is x complete) (refl, refl),
+              ));
+          goes_on = done_ends w v step hand held next shown tt refl (swept (hold_set k hand.call w.cluster)) (Some k) refl refl;
           keeps = done_keeps w v step hand held next shown refl (swept (hold_set k hand.call w.cluster)) (Some k) (Some r) refl refl refl;
-          does = λ eight unmarked. done_does w v step hand held next w.hands w.tables (Some (pulled_from x t)) (λ h. Some (h.effects k r)) eight refl held (λ h is. shown_held h is x complete eight unmarked t had) (rooms_after hand.call hand.driver step w.cluster w.tables tt);
+          does = λ eight unmarked. done_does w v step hand held next w.hands w.tables (Some (pulled_from x t)) (λ h. Some (h.effects k r)) tt eight refl held (λ h is. shown_held h is x complete eight unmarked t had) (rooms_after hand.call hand.driver step w.cluster w.tables tt);
         }
 
 module _ (w : World) (v : Who) (r : ℕ) (hand : InHand) (held : hand_at w.hands v ≡ Some hand) (next : driver_next w.cluster (rooms_at w (client_by v)) hand.driver ≡ Event (events.Hold r)) (shown : IsShown w) where

@@ -46,6 +46,7 @@ use Rattle.cluster_record.specs.Calls.{left}
 use Rattle.cluster_record.specs.StepDone.{StepDone}
 use Rattle.client_calls.specs.HandSteps.{hand_taken, end_by}
 use Rattle.cluster_record.specs.RecordState.{RecordState}
+use Rattle.ckpt_machine.proofs.Askers.{IsCopyAsk}
 use Rattle.world_core.specs.LiveRooms.{LiveHaveRoom}
 use Rattle.world_core.specs.Shows.{History, machine_of}
 use Rattle.client_calls.specs.TableState.{TableState, kept_in, with_client}
@@ -160,7 +161,7 @@ abbrev pub HasIterationRoom : Request → ClientState → Type 0
 HasIterationRoom (requests.Iterate call k choice) t = has_iteration_room t ≡ true
 HasIterationRoom request t = Unit {0}
 
-module _ (w : World) (h : History) (m : Machine) (s : CallState) (c : ℕ) (hand : InHand) (actor : s.call.actor ≡ Client c) (op : s.op ≡ hand.op) (ids : List (List ℕ)) (seen : RecordSeen) (x : Replica) where
+module _ (w : World) (h : History) (m : Machine) (s : CallState) (c : ℕ) (hand : InHand) (actor : (IsCopyAsk (asked hand.op) → ⊥) → s.call.actor ≡ Client c) (op : s.op ≡ hand.op) (ids : List (List ℕ)) (seen : RecordSeen) (x : Replica) where
   abbrev kept : ClientState
   kept = kept_by w.tables c
 
@@ -172,7 +173,8 @@ module _ (w : World) (h : History) (m : Machine) (s : CallState) (c : ℕ) (hand
       with_tables s.call.actor (started (asked s.op) s.kept.room (λ choice. chosen choice seen.moment x.sections)) (machine_of w h) ≡
       over (at_client c (with_client (started (asked hand.op) s.kept.room (λ other. chosen choice seen.moment x.sections))) w.tables)
   iterate_move k choice starting taken =
-      (λ i. with_tables (actor i) (started (asked s.op) s.kept.room (λ choice. chosen choice seen.moment x.sections)) (machine_of w h))
+      let own : s.call.actor ≡ Client c = actor (λ copies. subst IsCopyAsk (sym (ap asked op) ∙ starting.asks) copies) in
+      (λ i. with_tables (own i) (started (asked s.op) s.kept.room (λ choice. chosen choice seen.moment x.sections)) (machine_of w h))
       ∙ ap (λ f. with_tables (Client c) f (machine_of w h)) (starts_by (asked s.op) starting.iteration starting.place starting.chosen starting.time choice s.kept.room (λ choice. chosen choice seen.moment x.sections) starting.asks starting.choice_is)
       ∙ ap (λ o. with_tables (Client c) (started (asked o) s.kept.room (λ other. chosen choice seen.moment x.sections)) (machine_of w h)) op
       ∙ change_is w h c (started (asked hand.op) s.kept.room (λ other. chosen choice seen.moment x.sections)) (λ none. starts_none (asked hand.op) s.kept.room (λ other. chosen choice seen.moment x.sections))
@@ -184,7 +186,8 @@ module _ (w : World) (h : History) (m : Machine) (s : CallState) (c : ℕ) (hand
     next_move : with_tables s.call.actor (gone_on (asked s.op) (given ids seen.moment x.sections)) (machine_of w h) ≡
         over (at_client c (with_client (come_back (asked hand.op) (kept_after goes.kept gives))) (at_client c (with_client (lending (asked hand.op))) w.tables))
     next_move =
-        (λ i. with_tables (actor i) (gone_on (asked (op i)) (given (ids_are i) seen.moment x.sections)) (machine_of w h))
+        let own : s.call.actor ≡ Client c = actor (λ copies. subst IsCopyAsk goes.asks copies) in
+        (λ i. with_tables (own i) (gone_on (asked (op i)) (given (ids_are i) seen.moment x.sections)) (machine_of w h))
         ∙ change_is w h c (gone_on (asked hand.op) gives) (λ none. goes_none (asked hand.op) gives)
         ∙ sym (ap over (at_twice c w.tables (with_client (lending (asked hand.op))) (with_client (come_back (asked hand.op) (kept_after goes.kept gives))) (slice_get w.tables c) refl
         ∙ at_same c w.tables (λ t. come_back (asked hand.op) (kept_after goes.kept gives) (lending (asked hand.op) t)) (gone_on (asked hand.op) gives) (back_is (asked hand.op) kept goes valid gives) (slice_get w.tables c) refl))
@@ -246,6 +249,6 @@ pub lent_op : (request : Request) (hand : InHand) → (hand_lending request hand
 lent_op (requests.Iterate call k choice) hand = refl
 lent_op request hand = refl
 
-pub lent_end : (request : Request) (hand : InHand) (d : StepDone) (reply : Reply) → end_by d reply (hand_lending request hand) ≡ end_by d reply hand
-lent_end (requests.Iterate call k choice) hand d reply = refl
-lent_end request hand d reply = refl
+pub lent_end : (R : RecordState) (request : Request) (hand : InHand) (d : StepDone) (reply : Reply) → end_by R d reply (hand_lending request hand) ≡ end_by R d reply hand
+lent_end R (requests.Iterate call k choice) hand d reply = refl
+lent_end R request hand d reply = refl

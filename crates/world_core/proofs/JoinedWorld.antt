@@ -3,6 +3,7 @@ use Rattle.std.proofs.Common.{◌≡◌, ◌≢◌, ◌⊎◌, ℕ, ◌<◌, Boo
 use Rattle.std.specs.Prelude.{IsSomeAnd, nat_lt, not, ◌&&◌, ◌==◌, slice_index}
 use Rattle.std.proofs.lemmas.List.{get_or-set_other}
 use Rattle.ckpt_types.specs.Limits.{nodes_max}
+use Rattle.ckpt_types.specs.declared.identities.ActorName.TheVariants.{Node}
 use Rattle.cluster_record.specs.Joining.{next_incarnation, node_joined}
 use Rattle.cluster_record.specs.RecordState.{RecordState, entry_of, is_up}
 use Rattle.cluster_record.specs.declared.entries.Entry.{Entry}
@@ -18,7 +19,7 @@ use Rattle.ckpt_machine.specs.Under.{reservation_under}
 use Rattle.ckpt_machine.proofs.HoldingLaws.{held_at}
 use Rattle.world_core.specs.Happenings.{Joins}
 use Rattle.world_core.specs.NodeJoins.{joined_world, behind_join}
-use Rattle.world_core.specs.Shows.{Does, machine_of}
+use Rattle.world_core.specs.Shows.{Does, machine_of, next_of}
 use Rattle.world_core.specs.declared.world.World.{World}
 
 -- ---- what the nodes hold behind it
@@ -61,9 +62,9 @@ joined_does w r node down =
       due_is = λ m s f. subst (λ (m : Machine). IsDue m (labels.Joined r (Some next))) (sym s.same) (node, ap (λ b. cond b None (Some next)) (sym down));
       shows = λ m s f. record {
         history = s.history;
-        same = ap (joined_at r) s.same ∙ (λ i. record (machine_of (joined_world r w) s.history) { reserved = λ k q. reserved_still w.cluster r 1 down w.nodes s.holds k q i });
+        same = ap (joined_at r) s.same ∙ (λ i. record (machine_of (joined_world r w) s.history) { reserved = λ k q. reserved_still w.cluster r (next_of w (Node r)) down w.nodes s.holds k q i });
         fits = record { replicas = s.fits.replicas; copies = s.fits.copies; hands = s.fits.hands };
-        holds = held_behind w.cluster r 1 down w.nodes s.holds;
+        holds = held_behind w.cluster r (next_of w (Node r)) down w.nodes s.holds;
         keeps = s.keeps;
         rooms = s.rooms;
       };

@@ -52,7 +52,7 @@ use Rattle.ckpt_machine.proofs.Leads.{HeldAs, held_as, held_is_there}
 use Rattle.world_core.proofs.LiveRooms.{rooms_after, rooms_ended}
 use Rattle.world_core.proofs.Maps.{hand_left}
 use Rattle.world_core.proofs.ReplicaChanged.{IsShownBy}
-use Rattle.world_core.proofs.RecordEvent.{done_beside, event_asks, event_ready, fits_recorded, goes, holds_after, told_so}
+use Rattle.world_core.proofs.RecordEvent.{done_beside, ends_so, event_asks, event_ready, fits_recorded, goes, holds_after, told_so}
 use Rattle.world_core.proofs.Recording.{with_effects}
 use Rattle.ckpt_machine.proofs.GoesAt.{GoesAt, NodeGoes}
 use Rattle.world_core.specs.HandsState.{hand_at, set_at}
@@ -134,7 +134,7 @@ module _ (w : World) (v : Who) (r : ℕ) (base : InHand) (u : SyncState) where
 
       -- it has it where it is complete behind the step, and takes over what is held
       at_rest : (f : Entry) → entry_of k R.entries ≡ Some f → (slice_index f.complete r == 0) ≡ false → IsSome s.snapshot → (x : Replica) × AtRest x
-      at_rest f found complete some = by_goes (subst (λ (z : Option Entry × Option Entry). GoesAt w.cluster.up k z.0 z.1 r (replica_in w.nodes k r) (replica_in w.nodes k r)) (λ i. (there.1 i, found i)) (goes w v step hand held next h is eight refl k r)) where
+      at_rest f found complete some = by_goes (subst (λ (z : Option Entry × Option Entry). GoesAt w.cluster.up k z.0 z.1 r (replica_in w.nodes k r) (replica_in w.nodes k r)) (λ i. (there.1 i, found i)) (goes w v step hand held next h is tt eight refl k r)) where
         by_node : f.attributes ≡ e.attributes → NodeGoes w.cluster.up k e f r (replica_in w.nodes k r) (replica_in w.nodes k r) → (x : Replica) × AtRest x
         by_node same (inl stays) =
             let complete_then : (slice_index e.complete r == 0) ≡ false = ap (λ n. n == 0) (sym stays.0) ∙ complete in
@@ -165,12 +165,12 @@ module _ (w : World) (v : Who) (r : ℕ) (base : InHand) (u : SyncState) where
 
       -- what the world shows where the node leads
       leads : IsShownBy (led_from s.snapshot k r (machine_of cleared (with_effects w h))) (led_world w hand k r) (later h)
-      leads = shown_led cleared (with_effects w h) (Fits-freed (record w { cluster = R }) (with_effects w h) (fits_recorded w v step hand held next h is eight refl)) (holds_after w v step hand held next h is eight refl) k r s.snapshot copy has can_lead
+      leads = shown_led cleared (with_effects w h) (Fits-freed (record w { cluster = R }) (with_effects w h) (fits_recorded w v step hand held next h is tt eight refl)) (holds_after w v step hand held next h is tt eight refl) k r s.snapshot copy has can_lead
 
       leads_here : IsShownBehind w v hand held (led_world w hand k r) later verbs.Activate (Some k) (Some r) words.Ok (Some (Done answers.Nothing)) beside.Nothing 0 hand.snapshot hand.made (pulled_by_client v) (Event step) h
       leads_here = record {
-        done = told_so w v step hand held next h is words.Ok (Some (Done answers.Nothing)) (inl (refl, refl));
-        change = done_beside w v step hand held next h is eight refl ∙ ap (led_from s.snapshot k r) (sym (machine_of-freed (record w { cluster = R }) (with_effects w h))) ∙ leads.same;
+        done = told_so w v step hand held next h is words.Ok (Some (Done answers.Nothing)) (inl (refl, sym (ends_so w v step hand held next h is tt words.Ok (Some (Done answers.Nothing)))));
+        change = done_beside w v step hand held next h is tt eight refl ∙ ap (led_from s.snapshot k r) (sym (machine_of-freed (record w { cluster = R }) (with_effects w h))) ∙ leads.same;
         fits = leads.fits;
         count_is = refl;
         copy_is = let has = copy_stays w h v hand held is.fits in record { same = has.same; room = has.room; counts = has.counts };
@@ -201,7 +201,7 @@ module _ (w : World) (v : Who) (r : ℕ) (hand : InHand) (held : hand_at w.hands
         let next_so : driver_next w.cluster (rooms_at w (client_by v)) (drivers.Sync u) ≡ Event (events.Activate r) = ap (driver_next w.cluster (rooms_at w (client_by v))) (sym is) ∙ next in
         record {
           on_node = (event_ready w v (events.Activate r) its held_so next_so shown).0;
-          ends = done_ends w v (events.Activate r) its held_so next_so shown refl (active_record w u.ckpt r) (Some u.ckpt) refl refl;
+          ends = done_ends w v (events.Activate r) its held_so next_so shown tt refl (active_record w u.ckpt r) (Some u.ckpt) refl refl;
           can = λ eight. can_lead w v r hand u held_so next_so eight shown.shows.history (known w shown);
           does = lead_does w v r hand u held_so next_so;
         })

@@ -66,7 +66,7 @@ module _ (v : World) (h : History) (fitting : HistoryFits v h) (standing : Holds
         let complete_is : complete_replica v.cluster v.nodes k r ≡ Some x = complete_as ∙ there in
         let its : FitsReplica k (Some e) E (Some x) = subst (λ (z : Option Entry × Option Replica). FitsReplica k z.0 E z.1) (λ i. (found i, complete_is i)) (fitting.replicas k r) in
         let free : IsSome held → x.slot ≡ None = led_free r held x e complete (subst (λ (z : Option Replica × Option Entry). CanLead r held z.0 z.1) (λ i. (there i, found i)) can) in
-        let shown = replica_changed v h fitting standing k r e found complete f (leads_key held e.generation) x there (effects_led snapshot E) (led_fits snapshot held has.effects has.same has.counts k e E x e.generation free its) in
+        let shown = replica_changed v h fitting k r e found complete x there (effects_led snapshot E) o standing f (leads_key held e.generation) (led_fits snapshot held has.effects has.same has.counts k e E x e.generation free its) in
         record {
           same = (λ i. change_replica m k r (shown_replica E o (complete_is i)) (with_lead snapshot (generation_in (found i))))
               ∙ ap (λ y. record m { replicas = put2 m.replicas k r y }) (led_state snapshot held has.effects has.same E o x e.generation) ∙ shown.same;

@@ -1,5 +1,6 @@
 pub mod AloneSteps
 pub mod Begin
+pub mod BeginCopy
 pub mod CallSteps
 pub mod Answered
 mod Carrying
@@ -12,9 +13,13 @@ pub mod HoldSteps
 pub mod IterationSteps
 pub mod Leading
 pub mod LeadSteps
+pub mod Completing
+pub mod CopiedNodes
+pub mod CompleteSteps
 pub mod Listings
 pub mod LiveRooms
 pub mod Look
+pub mod LookCopy
 pub mod LookedEnds
 pub mod MadeIds
 pub mod Maps
@@ -23,6 +28,7 @@ pub mod Moving
 pub mod Named
 pub mod New
 pub mod NewCalls
+pub mod NoCompletion
 pub mod NoneGone
 pub mod Openings
 pub mod Pulling
@@ -31,12 +37,14 @@ pub mod RecordEvent
 pub mod Recording
 pub mod ReplicaChanged
 pub mod Reserve
+pub mod ReserveCopy
 pub mod Rows
 pub mod Running
 pub mod Serve
 pub mod ServedSteps
 pub mod SnapshotPlaces
 pub mod SnapshotRooms
+pub mod StepCopy
 pub mod Stepping
 pub mod TableFields
 pub mod TablePlaces
@@ -54,3 +62,4 @@ pub mod ByNumber
 pub mod FailedParts
 pub mod FailedWorld
 pub mod JoinedWorld
+mod CopyServed

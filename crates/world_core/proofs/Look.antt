@@ -3,7 +3,6 @@ use Rattle.std.proofs.Common.{◌≡◌, ℕ, Bool, true, false, cond, List, ref
 use Rattle.std.specs.Prelude.{Option, Some, None, IsSomeAnd}
 use Rattle.ckpt_types.specs.declared.answers.Outcome.{Outcome}
 use Rattle.ckpt_types.specs.declared.answers.Outcome.TheVariants.{Done}
-use Rattle.ckpt_types.specs.declared.identities.ActorName.TheVariants.{Client}
 use Rattle.ckpt_types.specs.declared.identities.CallId.{CallId}
 use Rattle.node_msgs.specs.declared.next.Next.{Next}
 use Rattle.node_msgs.specs.declared.next.Next.TheVariants.{Event, End}
@@ -42,12 +41,12 @@ use Rattle.world_core.specs.Shows.{IsShown, Does, History, machine_of}
 use Rattle.client_calls.specs.TableState.{TableState}
 use Rattle.world_core.specs.TablesState.{kept_by}
 use Rattle.world_core.specs.Alone.{ended_at, ended_hands, going_with_look, gone_with}
-use Rattle.world_core.proofs.AloneSteps.{MayGo, gone_clients, gone_fits, gone_here, gone_record, gone_set, rooms_gone}
+use Rattle.world_core.proofs.AloneSteps.{MayGo, gone_fits, gone_here, gone_record, gone_set, gone_waited, rooms_gone}
 use Rattle.world_core.proofs.CallSteps.{pulled_by_client, IsKnown, known, known_by, behind_step, step_before, step_told}
 use Rattle.world_core.proofs.Freeing.{does_before, does_freed}
 use Rattle.ckpt_machine.proofs.FreedNodes.{holds_behind}
 use Rattle.ckpt_machine.proofs.Going.{unmade_goes}
-use Rattle.world_core.proofs.Held.{copy_stays, state_in, in_hand_is, driver_is, name_is, actor_is}
+use Rattle.world_core.proofs.Held.{client_is, copy_stays, state_in, in_hand_is, driver_is, name_is}
 use Rattle.world_core.proofs.LookedEnds.{ends_as, tells_as, word_as}
 use Rattle.world_core.proofs.MadeIds.{made_stays}
 use Rattle.world_core.proofs.LiveRooms.{rooms_ended, rooms_looked}
@@ -57,7 +56,7 @@ use Rattle.world_core.proofs.TableFields.{client_same}
 use Rattle.world_core.proofs.Recording.{with_effects, record_is, record_fits}
 use Rattle.ckpt_machine.proofs.GoesAt.{GoesAt}
 use Rattle.world_core.specs.HandsState.{HandsState, hand_at, set_at}
-use Rattle.client_calls.specs.Names.{client_by}
+use Rattle.client_calls.specs.Names.{IsClientName, client_by}
 use Rattle.ckpt_types.specs.declared.identities.Who.{Who}
 use Rattle.ckpt_types.specs.declared.identities.Who.TheVariants.{Actor}
 use Rattle.world_core.proofs.SnapshotRooms.{unmade_has}
@@ -92,7 +91,8 @@ undone_made : (k : ℕ) (R : RecordState) (call : CallId) (e : Option Entry) →
 undone_made k R call None made = absurd made
 undone_made k R call (Some e) made = ap (λ o. undone_by o k R) made
 
-module _ (w : World) (v : Who) (o : Outcome) (hand : InHand) (held : hand_at w.hands v ≡ Some hand) (next : driver_next w.cluster (rooms_at w (client_by v)) hand.driver ≡ End o) where
+-- of a client's call
+module _ (w : World) (v : Who) (named : IsClientName v) (o : Outcome) (hand : InHand) (held : hand_at w.hands v ≡ Some hand) (next : driver_next w.cluster (rooms_at w (client_by v)) hand.driver ≡ End o) where
   -- how it ends the call, and what is told beside that
   abbrev e : Outcome
   e = looked_end hand.op o
@@ -136,7 +136,7 @@ module _ (w : World) (v : Who) (o : Outcome) (hand : InHand) (held : hand_at w.h
   -- ---- where the call is making nothing
 
   look_changes : (h : History) → IsKnown w h → making_in hand.driver ≡ None → (end : Outcome) → changed (machine_of w h) (state_in h v hand) verbs.Look None None (look_word end) ≡ machine_of (looked_world end) h
-  look_changes h is none (Done answer) = closing_shown w h (client_by v) (state_in h v hand) (actor_is w h v hand held is.facts)
+  look_changes h is none (Done answer) = closing_shown w h (client_by v) (state_in h v hand) (client_is w h v hand held is.facts named)
   look_changes h is none end = ap (λ (making : Option ℕ). without_making making (machine_of w h)) (makes h is ∙ none) ∙ ap (λ tables. machine_of (record w { tables = tables }) h) (sym (client_same w.tables (client_by v) (λ t. t) (λ t. refl)))
 
   -- the world behind it
@@ -234,7 +234,7 @@ module _ (w : World) (v : Who) (o : Outcome) (hand : InHand) (held : hand_at w.h
       let new = ended_at v (Some e) (without_making_of making ended_world) in
       step_told v w new hand hand (word_of_op hand.op) verbs.Look None None (look_word e) (Some e) told held refl refl
       (under_own (looked_world e).hands new.hands v None (under making shown))
-      (λ d other. under_other (looked_world e).hands new.hands v None (under making shown) (Actor (Client d)) other ∙ gone_clients (settled e) (client_by v) closed (going_with_look e) d)
+      (λ b other. under_other (looked_world e).hands new.hands v None (under making shown) (Actor b) other ∙ gone_waited (settled e) (client_by v) closed (going_with_look e) b)
       (look_ends making making_is shown)
 
   -- the call ends by a look at the record, and what it is making is undone, with the parts as the code names them

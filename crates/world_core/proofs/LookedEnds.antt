@@ -37,8 +37,13 @@ use Rattle.cluster_record.specs.DueOnce.{OneStep, once_next, close_of, unlink_of
 use Rattle.cluster_record.specs.DueOnce as once
 use Rattle.cluster_record.specs.DueOpen.{OpenState, accepts, by_making, create_next, entry_by, entry_next, in_time, on_making, on_named, reserve_or_finish, targets_of}
 use Rattle.cluster_record.specs.DueSync.{SyncState, first_unserved, install_next, kind_next, lead_next, sync_on, synchronize_next, unless_held, unless_stale}
-use Rattle.cluster_record.specs.DueUpdate.{UpdateState, by_phase, claim_at, commit_at, commit_first, stage_at, update_led, update_on}
-use Rattle.cluster_record.specs.RecordState.{RecordState, entry_of, named}
+use Rattle.cluster_record.specs.declared.copying.CopyPhase.{CopyPhase}
+use Rattle.cluster_record.specs.declared.copying.CopyPhase.TheVariants as phases
+use Rattle.cluster_record.specs.declared.copying.Copying.{Copying}
+use Rattle.cluster_record.specs.DueCopy.{CopyState, copy_at, copy_on, next_to_copy, onward, phase_next, pull_at, reserve_next, reserved_next, staged_next, staging_next, unless_done}
+use Rattle.cluster_record.specs.Placement.{is_all}
+use Rattle.cluster_record.specs.DueUpdate.{UpdateState, all_staged, by_phase, claim_at, commit_at, stage_at, update_led, update_next, update_on}
+use Rattle.cluster_record.specs.RecordState.{RecordState, entry_of, first_complete, named}
 use Rattle.cluster_record.specs.StepDone.{StepDone, first_lacking, last_having}
 use Rattle.ckpt_machine.specs.Drivers.{Driver, Rooms}
 use Rattle.ckpt_machine.specs.Drivers as drivers
@@ -241,12 +246,55 @@ module _ (P : Next → Type 0) (refused : (error : AisError) (cause : Cause) →
       by_active None = refused _ _
       by_active (Some active) = of_each u now (first_lacking 0 e.complete u.owned) (last_having 0 e.complete u.owned) u.phase
 
+    -- and of a copying
+    of_lacked : (c : CopyState) (first : Option ℕ) → P (reserve_next c.node first)
+    of_lacked c None = none
+    of_lacked c (Some k) = serves c.node _
+
+    of_onward : (R : RecordState) (c : CopyState) → P (onward R c)
+    of_onward R c = of_lacked c (next_to_copy c.node R.entries)
+
+    of_pull : (c : CopyState) (k : ℕ) (r : Option ℕ) → P (pull_at c.call k r)
+    of_pull c k None = refused _ _
+    of_pull c k (Some r) = serves r _
+
+    of_done : (behind next : Next) → P behind → P next → P (unless_done behind next)
+    of_done behind (End (Done answer)) goes its = goes
+    of_done behind next goes its = its
+
+    of_staging : (R : RecordState) (c : CopyState) → P (staging_next R c)
+    of_staging R c = of_done (onward R c) (update_next R c.staging) (of_onward R c) (of_whole c.staging R.moment (entry_of c.staging.ckpt R.entries))
+
+    of_reserved : (R : RecordState) (c : CopyState) (k : ℕ) (e : Entry) (all : Bool) → P (reserved_next R c k e all)
+    of_reserved R c k e true = of_staging R c
+    of_reserved R c k e false = of_pull c k e.active
+
+    of_staged : (R : RecordState) (c : CopyState) (k : ℕ) (e : Entry) (all : Bool) → P (staged_next R c k e all)
+    of_staged R c k e true = of_pull c k (first_complete 0 e.complete)
+    of_staged R c k e false = of_staging R c
+
+    of_copy_phase : (R : RecordState) (c : CopyState) (k : ℕ) (e : Entry) (phase : CopyPhase) → P (phase_next R c k e phase)
+    of_copy_phase R c k e phases.Reserved = of_reserved R c k e (is_all e.attributes)
+    of_copy_phase R c k e phases.Staging = of_staged R c k e (all_staged R c.staging)
+    of_copy_phase R c k e (phases.PulledActive generation) = either (generation == e.generation) _ _ (steps _) (refused _ _)
+    of_copy_phase R c k e phases.PulledStaged = steps _
+    of_copy_phase R c k e phases.Committing = of_staging R c
+
+    of_copy_on : (R : RecordState) (c : CopyState) (at : Copying) (e : Option Entry) → P (copy_on R c at e)
+    of_copy_on R c at None = of_onward R c
+    of_copy_on R c at (Some e) = of_copy_phase R c at.ckpt e at.phase
+
+    of_copy : (R : RecordState) (c : CopyState) (at : Option Copying) → P (copy_at R c at)
+    of_copy R c None = of_onward R c
+    of_copy R c (Some at) = of_copy_on R c at (entry_of at.ckpt R.entries)
+
     of_next : (R : RecordState) (rooms : Rooms) (x : Driver) → P (driver_next R rooms x)
     of_next R rooms (drivers.Once x) = of_once R x
     of_next R rooms (drivers.Open o) = of_open R rooms.handles o o.making
     of_next R rooms (drivers.Update u) = of_whole u R.moment (entry_of u.ckpt R.entries)
     of_next R rooms (drivers.Active a) = of_active rooms.iterations a (entry_of a.ckpt R.entries)
     of_next R rooms (drivers.Sync u) = of_sync R u (entry_of u.ckpt R.entries)
+    of_next R rooms (drivers.Copy c) = of_copy R c c.copying
 
 -- ---- no look says by itself that a section was made
 

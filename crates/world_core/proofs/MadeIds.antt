@@ -108,6 +108,7 @@ committed_before d (drivers.Once x) none is = absurd is
 committed_before d (drivers.Open o) none is = absurd is
 committed_before d (drivers.Active a) none is = absurd is
 committed_before d (drivers.Sync s) none is = absurd is
+committed_before d (drivers.Copy c) none is = absurd is
 
 -- so what a creation has kept, it keeps
 pub made_stays : (w : World) (h : History) (v : Who) (hand : InHand) → hand_at w.hands v ≡ Some hand → HistoryFits w h → (verb : Verb) (k r : Option ℕ) (d : StepDone) → d.verb ≡ verb → IsNoCommit verb →
@@ -136,6 +137,7 @@ own_committed s d (drivers.Once x) slot verb has own = absurd has
 own_committed s d (drivers.Open o) slot verb has own = absurd has
 own_committed s d (drivers.Active a) slot verb has own = absurd has
 own_committed s d (drivers.Sync x) slot verb has own = absurd has
+own_committed s d (drivers.Copy c) slot verb has own = absurd has
 
 -- the commit of a creation of its own tells what it makes
 commit_makes : (op : Op) (call : CallId) (k : ℕ) (slot : Slot) (c : CallId) (before : Option (List ℕ)) (kept : Option (List (List ℕ))) (sections : List Section) → slot.update ≡ update_of op → is_creation (update_of op) ≡ true →

@@ -8,7 +8,7 @@ use Rattle.cluster_record.specs.StepDone.{StepDone}
 use Rattle.ckpt_machine.specs.Machine.{Effect}
 use Rattle.world_core.specs.Shows.{Beginning, History, shown_hand, hand_of, FitsHand}
 use Rattle.world_core.specs.HandsState.{HandsState, hand_at, set_at}
-use Rattle.world_core.proofs.HandLaws.{client_set, ended-at, next_set}
+use Rattle.world_core.proofs.HandLaws.{client_set, ended-at, next_set, node_set}
 use Rattle.world_core.specs.Alone.{ended_at, ended_hands}
 use Rattle.world_core.specs.declared.world.World.{World}
 use Rattle.ckpt_types.specs.declared.answers.Outcome.{Outcome}
@@ -32,7 +32,7 @@ under_own old new v p under = under v ∙ put_who-here (hand_at old) v p
 pub under_other : (old new : HandsState) (v : Who) (p : Option InHand) → HasUnder old v p new → (u : Who) → u ≢ v → hand_at new u ≡ hand_at old u
 under_other old new v p under u other = under u ∙ put_who-other (hand_at old) v p u (same_who-false u v other)
 
--- a client whose call is in hand has a place
+-- an actor whose call is in hand has a place
 place_there : (o : Option (Option InHand)) (hand : InHand) → or_none o ≡ Some hand → o ≡ Some (Some hand)
 place_there None hand held = absurd (cc held)
 place_there (Some x) hand held = ap Some held
@@ -40,7 +40,7 @@ place_there (Some x) hand held = ap Some held
 -- a call that goes on, or has ended, is so behind its step, under its name
 pub hand_left : (hands : HandsState) (v : Who) (hand next : InHand) (end : Option Outcome) → hand_at hands v ≡ Some hand → next.call ≡ hand.call → HasUnder hands v (left end next) (ended_hands v end (set_at hands v (left end next)))
 hand_left hands (Actor (Client c)) hand next end held same = client_set hands c (Some hand) (place_there (slice_get hands.clients c) hand held) (left end next)
-hand_left hands (Actor (Node r)) hand next end held same = absurd (cc held)
+hand_left hands (Actor (Node r)) hand next end held same = node_set hands r (Some hand) (place_there (slice_get hands.nodes r) hand held) (left end next)
 hand_left hands (Call call) hand next None held same = next_set call hands hand next held same
 hand_left hands (Call call) hand next (Some end) held same = ended-at call hands
 

@@ -39,9 +39,9 @@ module _ (w : World) (new : IsNew w) where
   keeps (Client c) = sym (new.tables c)
   keeps (Node r) = refl
 
-  nexts : (a : ActorName) → 1 ≡ next_of w.tables a
+  nexts : (a : ActorName) → 1 ≡ next_of w a
   nexts (Client c) = sym (new.next c)
-  nexts (Node r) = refl
+  nexts (Node r) = sym (new.numbers r)
 
   pendings : (a : ActorName) → no_pending ≡ pending_of w.tables a
   pendings (Client c) = sym (new.pending c)

@@ -159,10 +159,10 @@ module _ (w : World) (h : History) (is : IsKnown w h) (k r : ℕ) where
       by_tests true true present_is old_is =
           let is_taken : installed s x ≡ taken_from s x = ap (λ b. cond b (taken_from s x) x) old_is in
           let taken_fits : FitsReplica k (Some e) C (Some (taken_from s x)) = (its.0, its.1, counted, subst (FitsSlot s.count x.marks) (sym free.0) tt) in
-          let shown = replica_changed w h is.fits is.holds k r e found complete (installed s) (installed_key s) x there.1 C (subst (λ y. FitsReplica k (Some e) C (Some y)) (sym is_taken) taken_fits) in
+          let shown = replica_changed w h is.fits k r e found complete x there.1 C (h.origins k r) is.holds (installed s) (installed_key s) (subst (λ y. FitsReplica k (Some e) C (Some y)) (sym is_taken) taken_fits) in
           record {
             due = due_at true true present_is old_is;
-            history = with_effects_of w h is.fits is.holds k r e found complete (installed s) (installed_key s) x there.1 C;
+            history = with_effects_of w h is.fits k r e found complete x there.1 C (h.origins k r);
             shown = record { same = (λ i. record before { replicas = put2 before.replicas k r (shown_replica C (h.origins k r) (Some (sym is_taken i))) }) ∙ shown.same; fits = shown.fits; holds = shown.holds };
           }
       by_tests true false present_is old_is = subst (ShownPut e.generation (Some S) (Some X) (puts.Old x.generation x.count)) (sym (not_installed old_is)) (unchanged e.generation (Some S) (Some X) (puts.Old x.generation x.count) (due_at true false present_is old_is) refl)

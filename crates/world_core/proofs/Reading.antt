@@ -105,9 +105,9 @@ module _ (w : World) (v : Who) (r k : ℕ) (hand : InHand) (held : hand_at w.han
     nodes_are : w.nodes ≡ nodes_after w.cluster w.nodes r asks p reply
     nodes_are = sym (nodes_stay k r w.nodes) ∙ its_nodes w v r asks hand held next shown tt p reply
 
-    pub read_is : (taken : InHand) (place : Option InHand) (end : Option Outcome) (word : OpWord) (details : Details) → taken ≡ hand_taken (served_done w.cluster asks r reply) hand → end ≡ hand_end (served_done w.cluster asks r reply) reply taken → place ≡ left end taken → word ≡ word_of_op hand.op →
+    pub read_is : (taken : InHand) (place : Option InHand) (end : Option Outcome) (word : OpWord) (details : Details) → taken ≡ hand_taken (served_done w.cluster asks r reply) hand → end ≡ hand_end w.cluster (served_done w.cluster asks r reply) reply taken → place ≡ left end taken → word ≡ word_of_op hand.op →
         details ≡ ended_details end (read_told reply buffer) → IsStep v w (ended_at v end (record w { hands = set_at w.hands v place })) (Stepped hand.call word (verb_of asks) (Some k) (Some r) (word_of reply) end details)
     read_is taken place end word details taken_is end_is place_is word_is details_are =
-        let ends : end ≡ its_end w v r asks hand p reply = end_is ∙ ap (hand_end (served_done w.cluster asks r reply) reply) taken_is in
+        let ends : end ≡ its_end w v r asks hand p reply = end_is ∙ ap (hand_end w.cluster (served_done w.cluster asks r reply) reply) taken_is in
         named_is w v r asks hand held next shown tt p elements_are tt w.nodes word word_is reply (set_at w.hands v place) end details answered nodes_are refl ends (ap (set_at w.hands v) (place_is ∙ ap (left end) taken_is)) (copy_kept asks (λ x s. refl) (replica_served (record_seen w.cluster k r) (node_at w.nodes r) k) hand.snapshot) refl
         (details_are ∙ (λ i. ended_details (ends i) (told i)))

@@ -3,6 +3,7 @@ use Rattle.std.proofs.Common.{◌≡◌, inl, ℕ, List, length, true, false, re
 use Rattle.std.specs.Prelude.{Option, Some, None, IsSome, slice_get}
 use Rattle.ckpt_types.specs.declared.answers.Outcome.{Outcome}
 use Rattle.ckpt_types.specs.declared.identities.ActorName.{ActorName}
+use Rattle.ckpt_machine.specs.Shown.{IsRoomToCopy}
 use Rattle.ckpt_types.specs.declared.identities.ActorName.TheVariants.{Client}
 use Rattle.node_msgs.specs.declared.next.RecordStep.{RecordStep}
 use Rattle.node_msgs.specs.declared.next.RecordStep.TheVariants as events
@@ -25,12 +26,13 @@ use Rattle.ckpt_types.specs.Asks.{Ask, asked}
 use Rattle.ckpt_types.specs.Asks as asks
 use Rattle.ckpt_machine.specs.Drivers.{Driver}
 use Rattle.ckpt_machine.specs.Drivers as drivers
-use Rattle.ckpt_machine.specs.Driving.{driver_next, event_ckpt, event_node, event_end, event_refusal}
+use Rattle.ckpt_machine.specs.Driving.{Kept, driver_next, driver_taken, event_ckpt, event_node, event_end, event_refusal, step_end}
 use Rattle.ckpt_machine.specs.Facts.{IsEventReady}
 use Rattle.ckpt_machine.specs.Machine.{Machine, CallState, Effect, no_tables}
 use Rattle.snap_copy.specs.Snapshots as copies
-use Rattle.ckpt_machine.specs.After.{changed, pulled_by, with_closed, with_tables, without_calls, without_syncs}
-use Rattle.ckpt_machine.specs.Due.{Told, IsDone, IsEventAnswer, IsRecordAnswer, kept_off, driver_of}
+use Rattle.ckpt_machine.specs.After.{changed, pulled_by, with_closed, with_record, with_tables, without_calls, without_syncs}
+use Rattle.ckpt_machine.specs.Due as dues
+use Rattle.ckpt_machine.specs.Due.{Told, IsDone, IsEventAnswer, IsRecordAnswer, event_done, kept_off, driver_of}
 use Rattle.replica.specs.Replicas.{Replica}
 use Rattle.ckpt_machine.specs.Nodes.{replica_in, freed}
 use Rattle.ckpt_machine.specs.Tables.{handle_closed, handle_given, closing, registering}
@@ -49,14 +51,14 @@ use Rattle.world_core.specs.Shows.{Does, IsShown, History, HistoryFits, machine_
 use Rattle.world_core.specs.TablesState.{kept_by, at_client}
 use Rattle.client_calls.specs.TableState.{TableState, with_client}
 use Rattle.world_core.specs.Alone.{calls_gone, ended_at, going_with, gone_with, syncs_gone}
-use Rattle.world_core.proofs.AloneSteps.{MayGo, all_gone, gone_fits, gone_here, rooms_gone, syncs_are, gone_clients, gone_set}
+use Rattle.world_core.proofs.AloneSteps.{MayGo, all_gone, gone_fits, gone_here, gone_waited, rooms_gone, syncs_are, gone_set}
 use Rattle.world_core.proofs.WaitedFor.{may_go_with}
-use Rattle.world_core.proofs.CallSteps.{pulled_by_client, event_counts, event_pulls, IsKnown, known, known_by, behind_step, IsShownBehind, step_before, step_told, step_under}
+use Rattle.world_core.proofs.CallSteps.{pulled_by_client, event_counts, event_keeps, event_pulls, IsKnown, known, known_by, behind_step, IsShownBehind, step_before, step_told, step_under}
 use Rattle.world_core.proofs.Freeing.{does_before, does_freed}
 use Rattle.ckpt_machine.proofs.FreedNodes.{holds_behind}
-use Rattle.ckpt_machine.proofs.Going.{event_goes, event_once, event_free}
+use Rattle.ckpt_machine.proofs.Going.{CompletesNone, event_goes, event_once, event_free, plain_completes}
 use Rattle.ckpt_machine.proofs.KeptEntries.{event_up}
-use Rattle.world_core.proofs.Held.{copy_stays, state_in, in_hand_is, driver_is, name_is, actor_is, due_is}
+use Rattle.world_core.proofs.Held.{client_asks, copy_drives, copy_stays, number_by, state_in, in_hand_is, driver_is, name_is, actor_is, due_is}
 use Rattle.world_core.proofs.MadeIds.{event_commits_none, made_stays}
 use Rattle.world_core.specs.LiveRooms.{LiveHaveRoom, room_is_taken}
 use Rattle.world_core.proofs.LiveRooms.{EntersWithRoom, rooms_ended, rooms_settled, rooms_after}
@@ -69,7 +71,8 @@ use Rattle.ckpt_types.specs.declared.identities.Who.{Who}
 use Rattle.world_core.proofs.TableFields.{change_is, client_same}
 use Rattle.ckpt_types.specs.declared.words.OpWord.{OpWord}
 use Rattle.cluster_record.specs.Makings.{makings_of}
-use Rattle.cluster_record.specs.StepDone.{counting, done_of}
+use Rattle.cluster_record.specs.DueCopy.{CopyState}
+use Rattle.cluster_record.specs.StepDone.{StepDone, counting, done_of}
 use Rattle.client_calls.specs.HandSteps.{hand_taken}
 use Rattle.ckpt_machine.proofs.Granted.{has_found}
 use Rattle.ckpt_machine.proofs.OpenRoom.{open_room}
@@ -83,6 +86,22 @@ use Rattle.ckpt_machine.proofs.StepDone.{IsNotOk, besides, change_done, finishab
 pub closing-none : (ask : Ask) → closing ask no_tables ≡ no_tables
 closing-none (asks.Close place) = refl
 closing-none ask = refl
+
+-- ---- whose a step is
+
+-- a copying's is a completion
+copies_none : (m : Machine) (s : CallState) (c : CopyState) (step : RecordStep) → CompletesNone step → IsEventReady m s (drivers.Copy c) step → ⊥
+copies_none m s c (events.Complete k r moment) none ready = none
+copies_none m s c step none ready = ready
+
+-- so any other step ends its call by itself
+pub step_ends : (m : Machine) (s : CallState) (x : Driver) (step : RecordStep) (k : Option ℕ) → CompletesNone step → IsEventReady m s x step → (N : RecordState) (d : StepDone) → step_end N (driver_taken d x) step k ≡ event_end step k
+step_ends m s (drivers.Copy c) step k none ready N d = absurd (copies_none m s c step none ready)
+step_ends m s (drivers.Once x) step k none ready N d = refl
+step_ends m s (drivers.Open o) step k none ready N d = refl
+step_ends m s (drivers.Update u) step k none ready N d = refl
+step_ends m s (drivers.Active a) step k none ready N d = refl
+step_ends m s (drivers.Sync u) step k none ready N d = refl
 
 -- s is the call of the client
 module _ (w : World) (h : History) (c : ℕ) (s : CallState) (actor : s.call.actor ≡ Client c) where
@@ -124,6 +143,7 @@ module _ (w : World) (h : History) (c : ℕ) (s : CallState) (actor : s.call.act
   settles events.Leave k plain can = leaving_shown
   settles (events.Hold r) k plain can = absurd plain
   settles (events.Activate r) k plain can = absurd plain
+  settles (events.Complete q r moment) k plain can = absurd plain
   settles step k plain can = table_stays (λ t. t) (λ t. refl)
 
 -- ---- the step as it is told
@@ -190,6 +210,7 @@ module _ (w : World) (v : Who) (step : RecordStep) (hand : InHand) (held : hand_
     driver : hand.driver ≡ driver_of s
     driver = driver_is w h v hand held is.fits
 
+    -- what due of the record asks
     pub event_asks : IsEventReady m s hand.driver step
     event_asks = subst (λ (x : Driver). IsEventReady m s x step) (sym driver) (is.facts.events v s step (in_hand_is w h v hand held) (due_is w h v hand held is.facts is.fits (Event step) next))
 
@@ -200,14 +221,22 @@ module _ (w : World) (v : Who) (step : RecordStep) (hand : InHand) (held : hand_
     pulled : (j : ℕ) → pulled_in backgrounds j ≡ pulled_in w.snapshots j
     pulled = behind-pulled hand.call hand.driver step w.cluster w.snapshots
 
-    module _ (eight : length w.nodes ≡ 8) (granted : event_refusal w.cluster step hand.driver ≡ None) where
+    -- its call is a client's, unless it is a completion
+    pub client_steps : CompletesNone step → hand.call.actor ≡ Client (client_by v)
+    client_steps none = client_asks w h v hand held is.facts (λ copies. let (c, drives) = copy_drives w h v hand held is.facts is.fits copies in copies_none m s c step none (subst (λ (x : Driver). IsEventReady m s x step) drives event_asks))
+
+    -- and ends by it as the step does
+    pub ends_so : CompletesNone step → (reply : StepReply) (end : Option Outcome) → event_done m s step (parts reply end) ≡ event_end step k
+    ends_so none reply end = step_ends m s (driver_of s) step k none (subst (λ (x : Driver). IsEventReady m s x step) driver event_asks) (event_after s.call (driver_of s) step m.cluster) (dues.step_told m (parts reply end))
+
+    module _ (none : CompletesNone step) (eight : length w.nodes ≡ 8) (granted : event_refusal w.cluster step hand.driver ≡ None) where
       -- each entry goes on
       pub goes : (j q : ℕ) → GoesAt w.cluster.up j (entry_of j w.cluster.entries) (entry_of j R.entries) q (replica_in w.nodes j q) (replica_in nodes j q)
-      goes = event_goes (machine_of w h) w.nodes (λ k r. refl) is.facts is.holds hand.call s hand.driver step eight granted event_asks
+      goes = event_goes (machine_of w h) w.nodes (λ k r. refl) is.facts is.holds hand.call s hand.driver step none eight granted event_asks
 
       -- and the nodes that are freed of the others hold only what stands
       pub holds_after : HoldsOnlyWhatStands R (freed R.entries nodes)
-      holds_after = holds_behind w.cluster R w.nodes nodes up goes is.holds (event_once (machine_of w h) w.nodes (λ k r. refl) is.facts is.holds hand.call s hand.driver step eight granted event_asks)
+      holds_after = holds_behind w.cluster R w.nodes nodes up goes is.holds (event_once (machine_of w h) w.nodes (λ k r. refl) is.facts is.holds hand.call s hand.driver step none eight granted event_asks)
 
     -- no marks keep a plain one off
     plain_kept : (k : Option ℕ) (step : RecordStep) → IsPlain step → kept_off m k step ≡ None
@@ -215,36 +244,39 @@ module _ (w : World) (v : Who) (step : RecordStep) (hand : InHand) (held : hand_
     plain_kept None step plain = refl
     plain_kept (Some k) step plain = refl
 
-    pub told_so : (reply : StepReply) (end : Option Outcome) → IsEventAnswer (kept_off m k step) (event_refusal w.cluster step hand.driver) step (parts reply end) → IsDone m s (Event step) (parts reply end)
+    -- how it is told, and how it ends its call where it is done
+    pub told_so : (reply : StepReply) (end : Option Outcome) → IsEventAnswer (kept_off m k step) (event_refusal w.cluster step hand.driver) (event_done m s step (parts reply end)) step (parts reply end) → IsDone m s (Event step) (parts reply end)
     told_so reply end answer = record {
       verb = refl;
       ckpt = ap (λ x. event_ckpt w.cluster x step) driver;
       node = ap (λ x. event_node x step) driver;
       details = refl;
-      answer = subst (λ o. IsEventAnswer (kept_off m k step) o step (parts reply end)) (ap (event_refusal w.cluster step) driver) answer;
+      answer = subst (λ o. IsEventAnswer (kept_off m k step) o (event_done m s step (parts reply end)) step (parts reply end)) (ap (event_refusal w.cluster step) driver) answer;
     }
 
-    plain_answer : (reply : StepReply) (end : Option Outcome) → IsPlain step → IsRecordAnswer (event_refusal w.cluster step hand.driver) step (parts reply end) → IsEventAnswer (kept_off m k step) (event_refusal w.cluster step hand.driver) step (parts reply end)
-    plain_answer reply end plain answer = subst (λ o. IsEventAnswer o (event_refusal w.cluster step hand.driver) step (parts reply end)) (sym (plain_kept k step plain)) answer
+    plain_answer : (reply : StepReply) (end : Option Outcome) → IsPlain step → let finish = event_done m s step (parts reply end) in IsRecordAnswer (event_refusal w.cluster step hand.driver) finish step (parts reply end) → IsEventAnswer (kept_off m k step) (event_refusal w.cluster step hand.driver) finish step (parts reply end)
+    plain_answer reply end plain answer = subst (λ o. IsEventAnswer o (event_refusal w.cluster step hand.driver) (event_done m s step (parts reply end)) step (parts reply end)) (sym (plain_kept k step plain)) answer
 
-    module _ (eight : length w.nodes ≡ 8) (granted : event_refusal w.cluster step hand.driver ≡ None) where
+    -- what it makes of the machine, where the record has taken it
+    pub done_changes : changed m s verb k r words.Ok ≡ besides s step k (with_record m (event_after hand.call hand.driver step w.cluster))
+    done_changes = change_done m s is.facts.rises hand.driver step event_asks (subst (DrivesFor s.call (asked s.op)) (sym driver) (state_drives s (is.facts.driven v s (in_hand_is w h v hand held))))
+
+    module _ (none : CompletesNone step) (eight : length w.nodes ≡ 8) (granted : event_refusal w.cluster step hand.driver ≡ None) where
       -- so the machine is shown where the record has taken the step
       pub done_beside : changed m s verb k r words.Ok ≡ besides s step k (machine_of recorded (with_effects w h))
-      done_beside =
-          change_done m s hand.driver step event_asks (subst (DrivesFor s.call (asked s.op)) (sym driver) (state_drives s (is.facts.driven v s (in_hand_is w h v hand held))))
-          ∙ ap (besides s step k) (record_is w h R nodes backgrounds (goes eight granted) up is.keeps pulled)
+      done_beside = done_changes ∙ ap (besides s step k) (record_is w h R nodes backgrounds (goes none eight granted) up is.keeps pulled)
 
       pub fits_recorded : HistoryFits recorded (with_effects w h)
-      fits_recorded = record_fits w h R nodes backgrounds (goes eight granted) up is.keeps pulled is.fits
+      fits_recorded = record_fits w h R nodes backgrounds (goes none eight granted) up is.keeps pulled is.fits
 
     shown_done : length w.nodes ≡ 8 → event_refusal w.cluster step hand.driver ≡ None → IsPlain step → CanSettle (client_by v) hand.op step w.tables →
         IsShownBehind w v hand held (settled_world w v hand step) (with_effects w) verb k r words.Ok end beside.Nothing 0 hand.snapshot hand.made (pulled_by_client v) (Event step) h
     shown_done eight granted plain can = record {
-      done = told_so words.Ok end (plain_answer words.Ok end plain (subst (λ o. IsRecordAnswer o step (parts words.Ok end)) (sym granted) (inl (refl, refl))));
-      change = done_beside eight granted ∙ settles recorded (with_effects w h) (client_by v) s (actor_is w h v hand held is.facts) step k plain can;
-      fits = let f = fits_recorded eight granted in gone_fits (settled_alone w v hand step) (client_by v) (closed_in w v hand) (going_with step) (with_effects w h) (record { replicas = f.replicas; copies = f.copies; hands = f.hands });
+      done = told_so words.Ok end (plain_answer words.Ok end plain (subst (λ o. IsRecordAnswer o (event_done m s step (parts words.Ok end)) step (parts words.Ok end)) (sym granted) (inl (refl, sym (ends_so (plain_completes step plain) words.Ok end)))));
+      change = done_beside (plain_completes step plain) eight granted ∙ settles recorded (with_effects w h) (client_by v) s (client_steps (plain_completes step plain)) step k plain can;
+      fits = let f = fits_recorded (plain_completes step plain) eight granted in gone_fits (settled_alone w v hand step) (client_by v) (closed_in w v hand) (going_with step) (with_effects w h) (record { replicas = f.replicas; copies = f.copies; hands = f.hands });
       count_is = event_counts m step k r words.Ok;
-      copy_is = let copy = copy_stays w h v hand held is.fits in record { same = event_pulls m s step k r words.Ok plain; room = copy.room; counts = copy.counts };
+      copy_is = let copy = copy_stays w h v hand held is.fits in record { same = event_pulls m s step k r words.Ok plain; room = subst (λ (kept : Kept). IsRoomToCopy (asked hand.op) kept.declares hand.snapshot) (sym (event_keeps m s step k words.Ok)) copy.room; counts = copy.counts };
       made_is = made_stays w h v hand held is.fits verb k r (counting 0 (done_of (settled_world w v hand step).cluster verb k r words.Ok)) refl (event_commits_none step);
     }
 
@@ -255,16 +287,16 @@ module _ (w : World) (v : Who) (step : RecordStep) (hand : InHand) (held : hand_
     abbrev behind : World
     behind = record recorded { hands = hands; tables = tables }
 
-    pub done_does : length w.nodes ≡ 8 → event_refusal w.cluster step hand.driver ≡ None → hand_at hands v ≡ Some hand → ((h : History) → IsKnown w h → IsShownBehind w v hand held behind (with_effects w) verb k r words.Ok end beside.Nothing 0 copy hand.made pulled (Event step) h) →
+    pub done_does : CompletesNone step → length w.nodes ≡ 8 → event_refusal w.cluster step hand.driver ≡ None → hand_at hands v ≡ Some hand → ((h : History) → IsKnown w h → IsShownBehind w v hand held behind (with_effects w) verb k r words.Ok end beside.Nothing 0 copy hand.made pulled (Event step) h) →
         (LiveHaveRoom w.cluster w.tables → LiveHaveRoom R tables) → Does w (freed_world (behind_step w v hand held behind (with_effects w) verb k r words.Ok end beside.Nothing 0 copy hand.made pulled)) (told words.Ok end)
-    done_does eight granted still shown rooms = does_freed w (behind_step w v hand held behind (with_effects w) verb k r words.Ok end beside.Nothing 0 copy hand.made pulled) (told words.Ok end)
+    done_does none eight granted still shown rooms = does_freed w (behind_step w v hand held behind (with_effects w) verb k r words.Ok end beside.Nothing 0 copy hand.made pulled) (told words.Ok end)
         (step_before w v hand held behind (with_effects w) verb k r words.Ok end beside.Nothing 0 copy hand.made pulled (Event step) next still (λ h. refl) shown)
-        (λ m s f. holds_after s.history (known_by w m s f) eight granted)
+        (λ m s f. holds_after s.history (known_by w m s f) none eight granted)
         (λ m s f. let is = known_by w m s f in event_has w.cluster w.snapshots is.keeps is.facts.rises is.facts.up_to hand.call hand.driver step)
         (λ m s f. rooms_ended behind R v end (rooms s.rooms))
 
   -- it is not done, and the call ends: nothing else changes
-  pub ended_does : (reply : StepReply) (end : Outcome) → IsNotOk reply → ((h : History) → IsKnown w h → let m = machine_of w h in let s = state_in h v hand in (pulled_by m s verb k r reply ≡ s.snapshot) × IsEventAnswer (kept_off m k step) (event_refusal w.cluster step hand.driver) step (parts reply (Some end))) →
+  pub ended_does : (reply : StepReply) (end : Outcome) → IsNotOk reply → ((h : History) → IsKnown w h → let m = machine_of w h in let s = state_in h v hand in (pulled_by m s verb k r reply ≡ s.snapshot) × IsEventAnswer (kept_off m k step) (event_refusal w.cluster step hand.driver) (event_done m s step (parts reply (Some end))) step (parts reply (Some end))) →
       Does w (ended_at v (Some end) (record w { hands = set_at w.hands v None })) (told reply (Some end))
   ended_does reply end not_ok answers = does_before w (ended_at v (Some end) (record w { hands = set_at w.hands v None })) (told reply (Some end))
       (step_before w v hand held w (λ h. h) verb k r reply (Some end) beside.Nothing 0 hand.snapshot hand.made (pulled_by_client v) (Event step) next held (λ h. refl) (λ h is. record {
@@ -272,7 +304,7 @@ module _ (w : World) (v : Who) (step : RecordStep) (hand : InHand) (held : hand_
         change = refused_leaves (machine_of w h) (state_in h v hand) step k r reply not_ok;
         fits = is.fits;
         count_is = event_counts (machine_of w h) step k r reply;
-        copy_is = let copy = copy_stays w h v hand held is.fits in record { same = (answers h is).0; room = copy.room; counts = copy.counts };
+        copy_is = let copy = copy_stays w h v hand held is.fits in record { same = (answers h is).0; room = subst (λ (kept : Kept). IsRoomToCopy (asked hand.op) kept.declares hand.snapshot) (sym (event_keeps (machine_of w h) (state_in h v hand) step k reply)) copy.room; counts = copy.counts };
         made_is = made_stays w h v hand held is.fits verb k r (counting 0 (done_of w.cluster verb k r reply)) refl (event_commits_none step);
       }))
       (λ m s f. s.holds) (λ m s f. s.keeps) (λ m s f. rooms_ended w w.cluster v (Some end) s.rooms)
@@ -295,7 +327,7 @@ module _ (w : World) (v : Who) (step : RecordStep) (hand : InHand) (held : hand_
     its = state_in shown.shows.history v hand
 
     client : client_of hand.call ≡ client_by v
-    client = ap number_of (actor_is w shown.shows.history v hand held (known w shown).facts)
+    client = ap number_of (actor_is w shown.shows.history v hand held (known w shown).facts) ∙ number_by v
 
     by_driver : (step : RecordStep) (x : Driver) → IsEventReady (machine_of w shown.shows.history) its x step → (step ≡ events.Enter → room_is_taken (slice_get w.tables (client_by v)) ≡ true) → EntersWithRoom hand.call x w.tables
     by_driver events.Enter (drivers.Once (once.Enter r)) _ roomy = subst (λ d. room_is_taken (slice_get w.tables d) ≡ true) (sym client) (roomy refl)
@@ -310,13 +342,13 @@ module _ (w : World) (v : Who) (step : RecordStep) (hand : InHand) (held : hand_
   pub event_does : IsShown w → length w.nodes ≡ 8 → event_refusal w.cluster step hand.driver ≡ None → IsPlain step → CanSettle (client_by v) hand.op step w.tables → (step ≡ events.Enter → room_is_taken (slice_get w.tables (client_by v)) ≡ true) → Does w (freed_world done_world) (told words.Ok end)
   event_does shown eight granted plain can roomy =
       let behind = settled_world w v hand step in
-      done_does behind.hands behind.tables hand.snapshot (pulled_by_client v) eight granted (gone_here (settled_alone w v hand step) (client_by v) (closed_in w v hand) (going_with step) v (goes_own shown) ∙ held) (λ h is. shown_done h is eight granted plain can)
+      done_does behind.hands behind.tables hand.snapshot (pulled_by_client v) (plain_completes step plain) eight granted (gone_here (settled_alone w v hand step) (client_by v) (closed_in w v hand) (going_with step) v (goes_own shown) ∙ held) (λ h is. shown_done h is eight granted plain can)
       (λ rooms. rooms_gone (settled_alone w v hand step) (client_by v) (closed_in w v hand) R (going_with step) (rooms_settled w R (client_by v) R hand.op step k (rooms_after hand.call hand.driver step w.cluster w.tables (enters shown roomy) rooms)))
 
   -- it is refused, and the call ends
   pub refused_does : (reply : StepReply) (end : Outcome) → IsPlain step → IsRefusedWith (event_refusal w.cluster step hand.driver) step reply end → Does w (ended_at v (Some end) (record w { hands = set_at w.hands v None })) (told reply (Some end))
-  refused_does reply end plain refused = let so = refused_so (event_refusal w.cluster step hand.driver) step verb k r reply end refused in ended_does reply end so.0
-      (λ h is. (event_pulls (machine_of w h) (state_in h v hand) step k r reply plain, plain_answer h is reply (Some end) plain so.1))
+  refused_does reply end plain refused = let so = λ (finish : Option Outcome). refused_so (event_refusal w.cluster step hand.driver) finish step verb k r reply end refused in ended_does reply end (so None).0
+      (λ h is. (event_pulls (machine_of w h) (state_in h v hand) step k r reply plain, plain_answer h is reply (Some end) plain (so (event_done (machine_of w h) (state_in h v hand) step (parts reply (Some end)))).1))
 
   -- ---- what the step asks, and what it makes of the world with the parts as the code names them
 
@@ -327,7 +359,7 @@ module _ (w : World) (v : Who) (step : RecordStep) (hand : InHand) (held : hand_
         let h = shown.shows.history in
         let is : IsKnown w h = known w shown in
         let facts = is.facts.opens v (state_in h v hand) o (in_hand_is w h v hand held) (sym (driver_is w h v hand held is.fits) ∙ drives) in
-        let actor : hand.call.actor ≡ Client (client_by v) = actor_is w h v hand held is.facts in
+        let actor : hand.call.actor ≡ Client (client_by v) = client_asks w h v hand held is.facts (λ copies. let (c, copying) = copy_drives w h v hand held is.facts is.fits copies in let other : drivers.Open o ≡ drivers.Copy c = sym drives ∙ copying in cc other) in
         (λ making. ap (λ (a : ActorName). has_handle_room (tables_of w.tables a)) (sym actor) ∙ facts.0 making, shown.shows.rooms (client_by v) (ap (λ (a : ActorName). is_live_client (number_of a) w.cluster) (sym actor) ∙ facts.1))
 
     can_give : (o : OpenState) → hand.driver ≡ drivers.Open o → HasNumbersLeft w → has_handle_room (kept_by w.tables (client_by v)) ≡ true → CanGive (client_by v) hand.op w.tables
@@ -400,7 +432,7 @@ module _ (w : World) (v : Who) (step : RecordStep) (hand : InHand) (held : hand_
         let under : HasUnder G v (left its_end its_taken) its_world.hands = hand_left G v hand its_taken its_end stays_held refl in
         step_told v w its_world hand its_taken (word_of_op hand.op) verb k r words.Ok end beside.Nothing held refl refl
         (under_own G its_world.hands v (left its_end its_taken) under)
-        (λ d other. under_other G its_world.hands v (left its_end its_taken) under (Actor (Client d)) other ∙ gone_clients (settled_alone w v hand step) (client_by v) (closed_in w v hand) (going_with step) d)
+        (λ b other. under_other G its_world.hands v (left its_end its_taken) under (Actor b) other ∙ gone_waited (settled_alone w v hand step) (client_by v) (closed_in w v hand) (going_with step) b)
         (event_does shown eight granted plain (can_settle granted roomy has_room) has_room)
 
     -- it is done, and the nodes are freed of what is gone

@@ -1,12 +1,12 @@
 -- A run goes on by one label, and what the code may rely on in the world after it: by the law of the machine.
-use Rattle.std.proofs.Common.{◌≡◌, ℕ, ◌-◌, ◌<◌, ◌≤◌, ◌^◌, List, [], ◌∷◌, ◌++◌, length, Option, Some, None, refl, sym, ap, subst, ◌∙◌, arith}
+use Rattle.std.proofs.Common.{◌≡◌, ℕ, ◌+◌, ◌*◌, ◌-◌, ◌<◌, ◌≤◌, ◌^◌, List, [], ◌∷◌, ◌++◌, length, Option, Some, None, refl, sym, ap, subst, ◌∙◌, arith}
 use Rattle.std.specs.Option.{option_map}
 use Rattle.std.proofs.lemmas.Option.{same_Some}
 use Rattle.ckpt_types.specs.declared.identities.CallId.{CallId}
 use Rattle.replica.specs.Replicas.{Replica}
 use Rattle.stage_slot.specs.Slots.{Slot}
 use Rattle.ckpt_types.specs.declared.answers.Outcome.{Outcome}
-use Rattle.ckpt_types.specs.declared.identities.ActorName.TheVariants.{Client}
+use Rattle.ckpt_types.specs.declared.identities.ActorName.TheVariants.{Client, Node}
 use Rattle.ckpt_types.specs.declared.identities.Who.{Who}
 use Rattle.node_msgs.specs.declared.details.Details.{Details}
 use Rattle.ckpt_types.specs.declared.words.OpWord.{OpWord}
@@ -17,6 +17,12 @@ use Rattle.run_labels.specs.declared.labels.Label.{Label}
 use Rattle.run_labels.specs.declared.labels.Label.TheVariants.{Stepped}
 use Rattle.client_calls.specs.declared.in_hand.InHand.{InHand}
 use Rattle.cluster_record.specs.Calls.{left}
+use Rattle.cluster_record.specs.declared.copying.Copying.{Copying}
+use Rattle.cluster_record.specs.declared.copying.CopyPhase.{CopyPhase}
+use Rattle.cluster_record.specs.declared.entries.Entry.{Entry}
+use Rattle.cluster_record.specs.DueCopy.{CopyState}
+use Rattle.cluster_record.specs.DueUpdate.{UpdateState}
+use Rattle.cluster_record.specs.Placement.{is_all}
 use Rattle.cluster_record.specs.RecordState.{RecordState, complete_of, entry_of}
 use Rattle.cluster_record.specs.StepDone.{done_of, counting, first_lacking}
 use Rattle.ckpt_machine.specs.Driving.{driver_taken}
@@ -24,7 +30,7 @@ use Rattle.ckpt_machine.specs.Drivers.{Driver}
 use Rattle.ckpt_machine.specs.Drivers as drivers
 use Rattle.ckpt_machine.specs.Invariant.{Invariant}
 use Rattle.ckpt_machine.specs.Laws.{IsLawful, EachRunHas, GivesFacts, BringsNearer, StepsAreFew}
-use Rattle.ckpt_machine.specs.Left.{having, lacking, most_steps, owner_met, slot_owner, steps_left, update_left_by}
+use Rattle.ckpt_machine.specs.Left.{at_ckpt_left, copied_within, copying_left, having, lacked_besides, lacking, most_steps, or_one, owner_met, phase_left, slot_owner, steps_left, update_left, update_left_by}
 use Rattle.ckpt_machine.specs.Machine.{Machine, CallState, Effect, ReplicaState, Staged, who}
 use Rattle.ckpt_machine.specs.Runs.{Counts, last}
 use Rattle.ckpt_machine.specs.After.{changed, kept_behind, step_of, after}
@@ -66,14 +72,25 @@ met_same : (a b : ℕ → Option ReplicaState) → ((r : ℕ) → slot_owner (a 
 met_same a b same None = refl
 met_same a b same (Some r) = same r
 
+update_same : (complete : List ℕ) (a b : ℕ → Option ReplicaState) (u : UpdateState) → ((r : ℕ) → slot_owner (a r) ≡ slot_owner (b r)) → update_left complete a u ≡ update_left complete b u
+update_same complete a b u same = ap (λ met. update_left_by (lacking complete u.owned) (having complete u.owned) u.owner met u.phase) (met_same a b same (first_lacking 0 complete u.owned))
+
+-- so it is at the checkpoint that a copying is at
+copied_same : (e : Option Entry) (a b : ℕ → Option ReplicaState) (c : CopyState) (phase : CopyPhase) → ((r : ℕ) → slot_owner (a r) ≡ slot_owner (b r)) → at_ckpt_left e a c phase ≡ at_ckpt_left e b c phase
+copied_same None a b c phase same = refl
+copied_same (Some e) a b c phase same = ap (λ left. phase_left (is_all e.attributes) left (having e.complete c.staging.owned) phase) (update_same e.complete a b c.staging same)
+
+copying_same : (R : RecordState) (a b : ℕ → ℕ → Option ReplicaState) → ((k r : ℕ) → slot_owner (a k r) ≡ slot_owner (b k r)) → (c : CopyState) (at : Option Copying) → copying_left R a c at ≡ copying_left R b c at
+copying_same R a b same c None = refl
+copying_same R a b same c (Some at) = ap (λ left. or_one (left + copied_within * lacked_besides c.node (Some at.ckpt) R.entries)) (copied_same (entry_of at.ckpt R.entries) (a at.ckpt) (b at.ckpt) c at.phase (same at.ckpt))
+
 left_same : (R : RecordState) (a b : ℕ → ℕ → Option ReplicaState) → ((k r : ℕ) → slot_owner (a k r) ≡ slot_owner (b k r)) → (x : Driver) → steps_left R a x ≡ steps_left R b x
-left_same R a b same (drivers.Update u) =
-    let complete : List ℕ = complete_of (entry_of u.ckpt R.entries) in
-    ap (λ met. update_left_by (lacking complete u.owned) (having complete u.owned) u.owner met u.phase) (met_same (a u.ckpt) (b u.ckpt) (same u.ckpt) (first_lacking 0 complete u.owned))
+left_same R a b same (drivers.Update u) = update_same (complete_of (entry_of u.ckpt R.entries)) (a u.ckpt) (b u.ckpt) u (same u.ckpt)
 left_same R a b same (drivers.Once x) = refl
 left_same R a b same (drivers.Open o) = refl
 left_same R a b same (drivers.Active x) = refl
 left_same R a b same (drivers.Sync s) = refl
+left_same R a b same (drivers.Copy c) = copying_same R a b same c c.copying
 
 -- so it is told of the nodes, as of the machine
 left_seen : (w : World) (h : History) (x : Driver) → steps_left w.cluster (machine_of w h).replicas x ≡ steps_left w.cluster (replicas_seen w) x
@@ -151,6 +168,7 @@ roomy runs w log to few =
     let counts : Counts (machine_of w h) (length log) = subst (λ (m : Machine). Counts m (length log)) to.shows.same (runs log to.run).1 in
     record {
       next = λ c. let n = counts.next (Client c) in omega (arith, n, few);
+      copies = λ r. let n = counts.next (Node r) in omega (arith, n, few);
       handles = λ c. let n = counts.last_handles (Client c) in omega (arith, n, few);
       iterations = λ c. let n = counts.last_iterations (Client c) in omega (arith, n, few);
       updates = λ k r x is.

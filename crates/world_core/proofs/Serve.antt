@@ -1,12 +1,15 @@
 -- A step of a call that a node serves, for a request that goes to a replica.
-use Rattle.std.proofs.Common.{◌≡◌, ℕ, ℤ, true, List, refl, sym, ap, subst, ◌∙◌, cond}
+use Rattle.std.proofs.Common.{◌≡◌, ◌⊎◌, inl, inr, ℕ, ℤ, true, List, refl, sym, ap, subst, ◌∙◌, cond}
 use Rattle.std.specs.Prelude.{Option, Some, None, ◌==◌, ◌&&◌, IsSomeAnd, slice_index}
 use Rattle.ckpt_types.specs.declared.answers.Outcome.{Outcome}
 use Rattle.ckpt_types.specs.declared.identities.ActorName.TheVariants.{Client}
 use Rattle.ckpt_types.specs.declared.identities.CallId.{CallId}
-use Rattle.ckpt_types.specs.Asks.{asked}
+use Rattle.ckpt_types.specs.Asks.{Ask, asked}
+use Rattle.ckpt_types.specs.Asks as asks
 use Rattle.node_msgs.specs.declared.requests.Request.{Request}
 use Rattle.node_msgs.specs.declared.requests.Request.TheVariants.{Stage}
+use Rattle.node_msgs.specs.declared.requests.Request.TheVariants as requests
+use Rattle.node_msgs.specs.declared.steps.StepReply.{StepReply}
 use Rattle.node_msgs.specs.declared.replies.Reply.{Reply}
 use Rattle.node_msgs.specs.declared.next.Next.TheVariants.{Serve}
 use Rattle.node_msgs.specs.declared.details.Details.{Details}
@@ -36,9 +39,11 @@ use Rattle.cluster_record.specs.Ends.{served_done}
 use Rattle.client_calls.specs.HandSteps.{end_by}
 use Rattle.world_core.specs.Happenings.{rooms_at}
 use Rattle.world_core.specs.TablesState.{kept_by}
-use Rattle.ckpt_machine.specs.Driving.{driver_next, driver_taken, driver_end}
+use Rattle.ckpt_machine.specs.Driving.{Kept, driver_next, driver_taken, driver_end}
 use Rattle.ckpt_machine.specs.Machine.{Machine, Effect, ReplicaState, CallState}
 use Rattle.ckpt_machine.specs.After.{changed, created_by, pulled_by, staged_moment}
+use Rattle.ckpt_machine.specs.After as after
+use Rattle.ckpt_machine.proofs.Askers.{IsCopyAsk, copy_ask}
 use Rattle.ckpt_machine.specs.Due.{due, driver_of, ended_details, ids_asked, payload_due, counted_at}
 use Rattle.ckpt_machine.specs.Tables.{ids_of, kept_asked}
 use Rattle.ckpt_machine.specs.Facts.{HasNoSlot, IsServable}
@@ -49,7 +54,7 @@ use Rattle.world_core.proofs.Carrying.{payload_with}
 use Rattle.ckpt_machine.proofs.Carried.{GoesToReplica, Carries, reply_carried, details_carried, replica_carried, carried_on}
 use Rattle.world_core.proofs.Finding.{There}
 use Rattle.world_core.proofs.Finding as finding
-use Rattle.world_core.proofs.Held.{state_in, in_hand_is, actor_is, driver_is, IsCopyBehind, copy_stays}
+use Rattle.world_core.proofs.Held.{state_in, in_hand_is, client_asks, driver_is, IsCopyBehind, copy_stays}
 use Rattle.ckpt_machine.proofs.CopySteps.{counts_effects, counts_seen, counts_told, pulled_after, room_alike, copy_behind}
 use Rattle.world_core.proofs.IterationSteps.{tables_move, rooms_moved}
 use Rattle.world_core.proofs.LiveRooms.{rooms_ended}
@@ -66,6 +71,18 @@ use Rattle.ckpt_types.specs.declared.identities.Who.{Who}
 use Rattle.world_core.proofs.Freeing.{does_before}
 use Rattle.ckpt_machine.proofs.ServedNodes.{may_answer, node_within, replied, served_there}
 
+-- ---- who asks
+
+-- a copying is asked for, or something else
+copies_or : (ask : Ask) → IsCopyAsk ask ⊎ (IsCopyAsk ask → ⊥)
+copies_or asks.Copy = inl tt
+copies_or ask = inr (λ copies. copies)
+
+-- a call keeps the same of its checkpoint behind what goes to a replica
+kept_served : (m : Machine) (s : CallState) (request : Request) (reply : StepReply) → GoesToReplica request → after.kept_by m s (verb_of request) (Some (ckpt_of request)) reply ≡ s.kept
+kept_served m s (requests.Reserve k) reply goes = absurd goes
+kept_served m s request reply goes = refl
+
 -- ---- the step
 
 -- the parts of a step that a node serves, by its reply
@@ -80,7 +97,7 @@ module _ (w : World) (v : Who) (r : ℕ) (request : Request) (hand : InHand) (p 
   its_done = served_done w.cluster request r reply
 
   abbrev pub its_end : Option Outcome
-  its_end = end_by its_done reply hand
+  its_end = end_by w.cluster its_done reply hand
 
   abbrev pub its_details : Details
   its_details = details_at request p sight replica_there
@@ -151,8 +168,16 @@ module _ (w : World) (v : Who) (r : ℕ) (request : Request) (hand : InHand) (p 
     abbrev q : Payload
     q = payload_due m s
 
-    actor : hand.call.actor ≡ Client (client_by v)
-    actor = actor_is w h v hand held known.facts
+    -- it is of the client of its name, where it asks for no copying
+    actor : (IsCopyAsk (asked hand.op) → ⊥) → hand.call.actor ≡ Client (client_by v)
+    actor = client_asks w h v hand held known.facts
+
+    -- what it keeps of an iteration is kept of that client
+    kept_own : kept_asked (asked hand.op) (tables_of w.tables hand.call.actor) ≡ kept_asked (asked hand.op) (kept_by w.tables (client_by v))
+    kept_own = either (copies_or (asked hand.op)) where
+      either : IsCopyAsk (asked hand.op) ⊎ (IsCopyAsk (asked hand.op) → ⊥) → kept_asked (asked hand.op) (tables_of w.tables hand.call.actor) ≡ kept_asked (asked hand.op) (kept_by w.tables (client_by v))
+      either (inl copies) = let is = copy_ask (asked hand.op) copies in ap (λ a. kept_asked a (tables_of w.tables hand.call.actor)) is ∙ sym (ap (λ a. kept_asked a (kept_by w.tables (client_by v))) is)
+      either (inr other) = ap (λ b. kept_asked (asked hand.op) (tables_of w.tables b)) (actor other)
 
     due_here : due m s ≡ Serve r request
     due_here = finding.due_here w h v r request hand known.facts known.fits held next
@@ -175,7 +200,7 @@ module _ (w : World) (v : Who) (r : ℕ) (request : Request) (hand : InHand) (p 
     -- what travels beside the request is what the machine's call has
     carried : Carries request p q
     carried =
-        carried_on request p (payload_with hand (kept_by w.tables (client_by v))) q carries refl refl (λ i. ids_of (kept_asked (asked hand.op) (tables_of w.tables (sym actor i))))
+        carried_on request p (payload_with hand (kept_by w.tables (client_by v))) q carries refl refl (sym (ap ids_of kept_own))
         (finding.copy_carried w h v r hand known.facts known.fits held request due_here)
 
     reply_is : reply ≡ reply_of request q seen x
@@ -221,7 +246,7 @@ module _ (w : World) (v : Who) (r : ℕ) (request : Request) (hand : InHand) (p 
         ∙ sym (λ i. tables_moved request s (ids_asked m s) w.cluster.moment x.sections (with (effects_carried hand.call request p q seen x o (had h) E carried i) (replica_carried request p q seen x carried i)))
         ∙ ap (tables_moved request s (ids_asked m s) w.cluster.moment x.sections) with_is
         ∙ tables_move served_nodes (later (Some x) h) m s (client_by v) hand actor refl (ids_asked m s) seen x request q reply (finding.tables_ready w h v r hand known.facts known.fits held request due_here) valid
-        (λ i. ids_of (kept_asked (asked hand.op) (tables_of w.tables (actor i)))) reply_is
+        (ap ids_of kept_own) reply_is
         ∙ ap (λ it. machine_of (record new { tables = tables_keeping request (client_by v) hand.op reply (iteration_behind request seen it (iteration_lent request hand (kept_by w.tables (client_by v)))) (tables_lending request (client_by v) hand.op w.tables) }) (later (Some x) h)) (sym served_is)
         ∙ ap (λ (y : Option Replica). machine_of new (later y h)) (sym found.is)
 
@@ -243,17 +268,17 @@ module _ (w : World) (v : Who) (r : ℕ) (request : Request) (hand : InHand) (p 
     count_here = subst (λ a. counted_at m (verb_of request) (Some k) (Some r) (word_of a) ≡ count_told a) (sym reply_is) (counts_told m r E o x request q seen goes shown (counts_effects k E x (entry_of k w.cluster.entries) found.fits) found.fits.3)
 
     -- so it ends as the machine's call does
-    its_end_is : end ≡ (let done = counting (counted_at m (verb_of request) (Some k) (Some r) (word_of reply)) (done_of w.cluster (verb_of request) (Some k) (Some r) (word_of reply)) in driver_end hand.op done reply (driver_taken done (driver_of s)))
-    its_end_is = λ i. let done = counting (sym count_here i) (done_of w.cluster (verb_of request) (Some k) (Some r) (word_of reply)) in driver_end hand.op done reply (driver_taken done (driver_is w h v hand held known.fits i))
+    its_end_is : end ≡ (let done = counting (counted_at m (verb_of request) (Some k) (Some r) (word_of reply)) (done_of w.cluster (verb_of request) (Some k) (Some r) (word_of reply)) in driver_end w.cluster hand.op done reply (driver_taken done (driver_of s)))
+    its_end_is = λ i. let done = counting (sym count_here i) (done_of w.cluster (verb_of request) (Some k) (Some r) (word_of reply)) in driver_end w.cluster hand.op done reply (driver_taken done (driver_is w h v hand held known.fits i))
 
     -- and what is in its hand then
-    copy_here : IsCopyBehind (later y h) v hand (pulled_by m s (verb_of request) (Some k) (Some r) (word_of reply)) (then_pulled h) (its_copy w v r request hand p reply)
+    copy_here : IsCopyBehind (after.kept_by m s (verb_of request) (Some k) (word_of reply)) hand (pulled_by m s (verb_of request) (Some k) (Some r) (word_of reply)) (then_pulled h) (its_copy w v r request hand p reply)
     copy_here =
         let found_copy = copy_behind m s r E o x request q seen hand.snapshot (h.pulled v) refl shown (finding.copy_there w h v r hand known.facts known.fits held request due_here) (counts_effects k E x (entry_of k w.cluster.entries) found.fits)
-        (λ a. IsRoomToCopy (asked hand.op) (h.beginnings v).kept.declares a) (λ s t attributes. room_alike (asked hand.op) (h.beginnings v).kept.declares s t attributes) (copy_stays w h v hand held known.fits).room (copy_stays w h v hand held known.fits).counts in
+        (λ a. IsRoomToCopy (asked hand.op) s.kept.declares a) (λ s1 t attributes. room_alike (asked hand.op) s.kept.declares s1 t attributes) (copy_stays w h v hand held known.fits).room (copy_stays w h v hand held known.fits).counts in
         let same = ap (λ a. pulled_by m s (verb_of request) (Some k) (Some r) (word_of a)) reply_is ∙ found_copy.same in
-        subst (λ (z : Option Replica × Option Replica). IsCopyBehind (later y h) v hand (pulled_by m s (verb_of request) (Some k) (Some r) (word_of reply)) (pulled_after request z.0 E (h.pulled v)) (snapshot_behind request z.1 hand.snapshot))
-        (λ i. (sym found.is i, sym served_is i)) (record { same = same; room = found_copy.room; counts = found_copy.counts })
+        subst (λ (z : Option Replica × Option Replica × Kept). IsCopyBehind z.2 hand (pulled_by m s (verb_of request) (Some k) (Some r) (word_of reply)) (pulled_after request z.0 E (h.pulled v)) (snapshot_behind request z.1 hand.snapshot))
+        (λ i. (sym found.is i, sym served_is i, sym (kept_served m s request (word_of reply) goes) i)) (record { same = same; room = found_copy.room; counts = found_copy.counts })
 
     -- what comes beside the answer
     details_are : its_details w v r request hand p reply ≡ details_at request q seen (Some x)

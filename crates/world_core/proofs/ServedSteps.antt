@@ -49,11 +49,15 @@ use Rattle.world_core.specs.Shows.{IsShown, HasNumbersLeft}
 use Rattle.world_core.proofs.Carrying.{lent_carries}
 use Rattle.world_core.proofs.IterationSteps.{lent_made, lent_op, lent_end}
 use Rattle.world_core.proofs.Serve.{its_copy, its_done, its_end, its_details, its_iteration, its_made, served_world}
-use Rattle.world_core.proofs.Held.{hand_made, with_copy, with_made}
+use Rattle.world_core.proofs.Held.{asker_is, client_is, hand_made, with_copy, with_made}
+use Rattle.world_core.proofs.CallSteps.{known}
+use Rattle.ckpt_machine.proofs.Askers.{IsCopyAsk, copy_ask}
+use Rattle.ckpt_types.specs.Asks.{MayAsk, asked}
+use Rattle.ckpt_types.specs.declared.identities.ActorName.TheVariants.{Client}
 use Rattle.world_core.specs.HandsState.{hand_at, set_at}
-use Rattle.client_calls.specs.Names.{client_by}
+use Rattle.client_calls.specs.Names.{IsClientName, client_by}
 use Rattle.ckpt_types.specs.declared.identities.Who.{Who}
-use Rattle.world_core.proofs.Stepping.{with_own, lends, keeps, fits_lent, serve_is, ends_its}
+use Rattle.world_core.proofs.Stepping.{with_own, lends, keeps, fits_lent, no_copying, serve_is, ends_its}
 use Rattle.world_core.proofs.TableSteps.{kept_is, lending_is, keeping_is}
 
 -- the iteration and the snapshot that travel beside are told by no label
@@ -84,6 +88,14 @@ lent_driver request hand = refl
 -- also while its iteration is lent
 pub asks_lent : (w : World) (v : Who) (r : ℕ) (request : Request) (hand : InHand) → hand_at w.hands v ≡ Some hand → IsNext w v (Serve r request) → (hand1 : InHand) → hand1 ≡ hand_lending request hand → AsksNode w.cluster hand1.driver r request
 asks_lent w v r request hand held next hand1 is = subst (λ x. AsksNode w.cluster x r request) (sym (ap (λ (h : InHand). h.driver) is ∙ lent_driver request hand)) (asks_of w v r request hand held next)
+
+-- a client's call is no copying
+no_copy_asked : (w : World) (v : Who) (hand : InHand) → hand_at w.hands v ≡ Some hand → IsShown w → IsClientName v → IsCopyAsk (asked hand.op) → ⊥
+no_copy_asked w v hand held shown named copies =
+    let h = shown.shows.history in
+    let is = known w shown in
+    let may : MayAsk (Client (client_by v)) (asked hand.op) = subst (λ b. MayAsk b (asked hand.op)) (client_is w h v hand held is.facts named) (asker_is w h v hand held is.facts) in
+    subst (MayAsk (Client (client_by v))) (copy_ask (asked hand.op) copies) may
 
 -- the copy is in a hand that lends its iteration as in one that does not
 lent_copy : (request : Request) (hand : InHand) (copy : Option Snapshot) → with_copy (hand_lending request hand) copy ≡ hand_lending request (with_copy hand copy)
@@ -134,11 +146,11 @@ module _ (w : World) (v : Who) (r : ℕ) (request : Request) (hand : InHand) (he
         subst (CanKeep request hand2.op) (kept_is tables1 c t2 there2)
         (subst (λ (z : List TableState × Op × ℕ). CanKeep request z.1 (kept_by z.0 z.2)) (λ i. (sym its_tables i, sym same_op i, sym c_is i)) (keeps w v r request hand held next shown room))
 
-    pub step_is : (reply : Reply) (nodes : List (List Replica)) (back : Lent) (it : Option KeptIds) (copy : Option Snapshot) (t2 t3 : TableState) (taken then_taken : InHand) (place : Option InHand) (end : Option Outcome) (word : OpWord) (verb : Verb) (k : ℕ) (said : StepReply) (details : Details) → IsValidFor request t.client → ServedAs w r request lent1 back reply nodes →
-        slice_get tables1 c ≡ Some t2 → it ≡ back.iteration → copy ≡ back.snap → t3 ≡ table_keeping request hand2.op reply it t2 → taken ≡ hand_taken (served_done w.cluster request r reply) (with_copy hand2 copy) → end ≡ hand_end (served_done w.cluster request r reply) reply taken → left end then_taken ≡ left end (hand_made request reply (details_told reply back) taken) → place ≡ left end then_taken →
+    pub step_is : IsClientName v → (reply : Reply) (nodes : List (List Replica)) (back : Lent) (it : Option KeptIds) (copy : Option Snapshot) (t2 t3 : TableState) (taken then_taken : InHand) (place : Option InHand) (end : Option Outcome) (word : OpWord) (verb : Verb) (k : ℕ) (said : StepReply) (details : Details) → IsValidFor request t.client → ServedAs w r request lent1 back reply nodes →
+        slice_get tables1 c ≡ Some t2 → it ≡ back.iteration → copy ≡ back.snap → t3 ≡ table_keeping request hand2.op reply it t2 → taken ≡ hand_taken (served_done w.cluster request r reply) (with_copy hand2 copy) → end ≡ hand_end w.cluster (served_done w.cluster request r reply) reply taken → left end then_taken ≡ left end (hand_made request reply (details_told reply back) taken) → place ≡ left end then_taken →
         word ≡ word_of_op hand.op → verb ≡ verb_of request → k ≡ ckpt_of request → said ≡ word_of reply → details ≡ ended_details end (details_told reply back) →
         IsStep v w (ended_at v end (record w { nodes = nodes; tables = slice_set tables1 c t3; hands = set_at w.hands v place })) (Stepped hand.call word verb (Some k) (Some r) said end details)
-    step_is reply nodes back it copy t2 t3 taken then_taken place end word verb k said details valid served there2 it_is copy_is kept_are taken_is end_is then_is place_is word_is verb_is k_is said_is details_are =
+    step_is named reply nodes back it copy t2 t3 taken then_taken place end word verb k said details valid served there2 it_is copy_is kept_are taken_is end_is then_is place_is word_is verb_is k_is said_is details_are =
         let p : Payload = payload_of whole in
         let done : StepDone = its_done w v r request hand p reply in
         let got : ServedAs w r request whole back reply nodes = subst (λ (z : Lent). ServedAs w r request z back reply nodes) whole_is served in
@@ -148,7 +160,7 @@ module _ (w : World) (v : Who) (r : ℕ) (request : Request) (hand : InHand) (he
         let its : Option Snapshot = its_copy w v r request hand p reply in
         let copied : copy ≡ its = copy_is ∙ got.snapshot in
         let takes : taken ≡ hand_taken done (hand_lending request (with_copy hand its)) = taken_is ∙ ap (λ (h : InHand). hand_taken done (with_copy h copy)) lent_is ∙ (λ i. hand_taken done (with_copy (hand_is i) (copied i))) ∙ ap (hand_taken done) (lent_copy request hand its) in
-        let ends : end ≡ its_end w v r request hand p reply = end_is ∙ ap (hand_end done reply) takes ∙ lent_end request (with_copy hand its) done reply in
+        let ends : end ≡ its_end w v r request hand p reply = end_is ∙ ap (hand_end w.cluster done reply) takes ∙ lent_end w.cluster request (with_copy hand its) done reply in
         let left_is : place ≡ left (its_end w v r request hand p reply) (hand_taken done (with_made hand its (its_made w v r request hand p reply)))
         = place_is ∙ then_is ∙ (λ i. left (ends i) (hand_made request reply (got.details i) (takes i)))
         ∙ lent_made request (with_copy hand its) done reply (its_details w v r request hand p reply) (its_end w v r request hand p reply) (ends_its w v r request hand held next shown p reply got.may) in
@@ -156,4 +168,4 @@ module _ (w : World) (v : Who) (r : ℕ) (request : Request) (hand : InHand) (he
         let told : details ≡ ended_details (its_end w v r request hand p reply) (its_details w v r request hand p reply) = details_are ∙ (λ i. ended_details (ends i) (got.details i)) in
         subst (λ (z : World × OpWord × Verb × ℕ × StepReply × Option Outcome × Details). IsStep v w z.0 (Stepped hand.call z.1 z.2 (Some z.3) (Some r) z.4 z.5 z.6))
         (λ i. (sym new_is i, sym word_is i, sym verb_is i, sym k_is i, sym said_is i, sym ends i, sym told i))
-        (serve_is w v r request hand held next shown p reply (lent_carries request hand (kept_by w.tables (client_by v)) lent is_lent) got.may (subst (IsValidFor request) (sym kept_here) valid) got.there)
+        (serve_is w v r request hand held next shown p reply (no_copying request hand (no_copy_asked w v hand held shown named)) (lent_carries request hand (kept_by w.tables (client_by v)) lent is_lent) got.may (subst (IsValidFor request) (sym kept_here) valid) got.there)

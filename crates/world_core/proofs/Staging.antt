@@ -127,12 +127,12 @@ module _ (R : RecordState) (k r : Option ℕ) (a : Answer) (s : CallState) (stag
   resolves_by u Withdrawing own = refl
   resolves_by u Resolving own = refl
 
-  resolves : (x : Driver) → IsUpdate x → IsToCommit s x staged → let d = done_of R verbs.Commit k r words.Ok in done_end d a (driver_taken d x) ≡ None
+  resolves : (x : Driver) → IsUpdate x → IsToCommit s x staged → let d = done_of R verbs.Commit k r words.Ok in done_end R d a (driver_taken d x) ≡ None
   resolves (drivers.Update u) is own = resolves_by u u.phase own
   resolves x is own = absurd is
 
 -- a stage that was done ends no update
-stage_goes_on : (R : RecordState) (k r : Option ℕ) (a : Answer) (x : Driver) → IsUpdate x → None ≡ done_end (done_of R verbs.Stage k r words.Ok) a (driver_taken (done_of R verbs.Stage k r words.Ok) x)
+stage_goes_on : (R : RecordState) (k r : Option ℕ) (a : Answer) (x : Driver) → IsUpdate x → None ≡ done_end R (done_of R verbs.Stage k r words.Ok) a (driver_taken (done_of R verbs.Stage k r words.Ok) x)
 stage_goes_on R k r a (drivers.Update u) is = refl
 stage_goes_on R k r a x is = absurd is
 
@@ -189,11 +189,11 @@ module _ (w : World) (c : ℕ) (r : ℕ) (call : CallId) (k : ℕ) (t : ℤ) (ha
         (told_so (replies.Done answers.Nothing) (set_at w.hands (Actor (Client c)) (Some taken)) None so (stage_goes_on w.cluster (Some k) (Some r) answers.Nothing hand.driver update_driver) (ap (λ (h : InHand). set_at w.hands (Actor (Client c)) (Some h)) taken_is))
 
     -- it is refused
-    pub stage_refused : (refused : StageRefused) (place : Option InHand) → told ≡ Err refused → (let d = served_done w.cluster stage r (reply_refused refused) in place ≡ left (end_by d (reply_refused refused) hand) (hand_taken d hand)) →
-        IsStep (Actor (Client c)) w (record w { nodes = nodes; hands = set_at w.hands (Actor (Client c)) place }) (Stepped hand.call word verbs.Stage (Some k) (Some r) (word_of (reply_refused refused)) (end_by (served_done w.cluster stage r (reply_refused refused)) (reply_refused refused) hand) beside.Nothing)
+    pub stage_refused : (refused : StageRefused) (place : Option InHand) → told ≡ Err refused → (let d = served_done w.cluster stage r (reply_refused refused) in place ≡ left (end_by w.cluster d (reply_refused refused) hand) (hand_taken d hand)) →
+        IsStep (Actor (Client c)) w (record w { nodes = nodes; hands = set_at w.hands (Actor (Client c)) place }) (Stepped hand.call word verbs.Stage (Some k) (Some r) (word_of (reply_refused refused)) (end_by w.cluster (served_done w.cluster stage r (reply_refused refused)) (reply_refused refused) hand) beside.Nothing)
     stage_refused refused place so place_is =
         let reply = reply_refused refused in
-        told_so reply (set_at w.hands (Actor (Client c)) place) (end_by (served_done w.cluster stage r reply) reply hand) (ap (reply_told answers.Nothing) so) refl (ap (set_at w.hands (Actor (Client c))) place_is)
+        told_so reply (set_at w.hands (Actor (Client c)) place) (end_by w.cluster (served_done w.cluster stage r reply) reply hand) (ap (reply_told answers.Nothing) so) refl (ap (set_at w.hands (Actor (Client c))) place_is)
 
 -- a commit
 module _ (w : World) (c : ℕ) (r : ℕ) (call : CallId) (k : ℕ) (hand : InHand) (held : hand_at w.hands (Actor (Client c)) ≡ Some hand) (next : IsNext w (Actor (Client c)) (Serve r (requests.Commit call k))) (shown : IsShown w) where
@@ -224,9 +224,9 @@ module _ (w : World) (c : ℕ) (r : ℕ) (call : CallId) (k : ℕ) (hand : InHan
     none_told reply is = sym (ap (details_at commit no_payload (record_seen w.cluster k r)) (its_served w client r commit hand held next shown tt) ∙ tells_none its.sections its.slot is)
 
     -- where it makes a section it ends nothing
-    none_ends : IsUpdate hand.driver → commit_answer its.slot ≡ answers.Created → (a : Answer) → hand_end d (replies.Done a) (hand_taken d hand) ≡ None
+    none_ends : IsUpdate hand.driver → commit_answer its.slot ≡ answers.Created → (a : Answer) → hand_end w.cluster d (replies.Done a) (hand_taken d hand) ≡ None
     none_ends update made a = by_slot its.slot made (its_staged w client r commit hand held next shown tt call k refl) where
-      by_slot : (p : Option Slot) → commit_answer p ≡ answers.Created → IsSomeAnd (shown_slot (h.origins k r) p) (IsToCommit (state_in h client hand) (driver_of (state_in h client hand))) → hand_end d (replies.Done a) (hand_taken d hand) ≡ None
+      by_slot : (p : Option Slot) → commit_answer p ≡ answers.Created → IsSomeAnd (shown_slot (h.origins k r) p) (IsToCommit (state_in h client hand) (driver_of (state_in h client hand))) → hand_end w.cluster d (replies.Done a) (hand_taken d hand) ≡ None
       by_slot None made there = absurd there
       by_slot (Some slot) made there =
           let staged : Staged = record { owner = slot.owner; origin = h.origins k r; update = slot.update; moment = slot.moment } in
@@ -234,19 +234,19 @@ module _ (w : World) (c : ℕ) (r : ℕ) (call : CallId) (k : ℕ) (hand : InHan
           (subst (λ x. IsToCommit (state_in h client hand) x staged) (sym (driver_is w h client hand held (known w shown).fits)) there)
 
     -- it is committed, with this answer
-    committed_as : (a : Answer) → commit_answer its.slot ≡ a → served_done w.cluster commit r (replies.Done a) ≡ d → (goes_on : Bool) (taken : InHand) (place : Option InHand) (label : Label) → taken ≡ hand_taken d hand → ended_unless goes_on ≡ hand_end d (replies.Done a) taken →
+    committed_as : (a : Answer) → commit_answer its.slot ≡ a → served_done w.cluster commit r (replies.Done a) ≡ d → (goes_on : Bool) (taken : InHand) (place : Option InHand) (label : Label) → taken ≡ hand_taken d hand → ended_unless goes_on ≡ hand_end w.cluster d (replies.Done a) taken →
         beside.Nothing ≡ ended_details (its_end w client r commit hand no_payload (replies.Done a)) (its_details w client r commit hand no_payload (replies.Done a)) → place ≡ left (ended_unless goes_on) taken →
         label ≡ Stepped hand.call word verbs.Commit (Some k) (Some r) words.Ok (ended_unless goes_on) beside.Nothing → IsStep client w (record w { nodes = nodes; hands = set_at w.hands client place }) label
     committed_as a answer same goes_on taken place label taken_is end_is details_is place_is label_is =
         subst (IsStep client w (record w { nodes = nodes; hands = set_at w.hands client place })) (sym label_is)
         (named_is w client r commit hand held next shown tt no_payload tt tt nodes word word_is (replies.Done a) (set_at w.hands client place) (ended_unless goes_on) beside.Nothing (done_by a answer) (nodes_are ∙ its_nodes w client r commit hand held next shown tt no_payload (replies.Done a)) refl
-        (end_is ∙ ap (hand_end d (replies.Done a)) taken_is ∙ ap (λ e. hand_end e (replies.Done a) (hand_taken e hand)) (sym same))
+        (end_is ∙ ap (hand_end w.cluster d (replies.Done a)) taken_is ∙ ap (λ e. hand_end w.cluster e (replies.Done a) (hand_taken e hand)) (sym same))
         (ap (set_at w.hands client) (place_is ∙ ap (left (ended_unless goes_on)) (taken_is ∙ ap (λ e. hand_taken e hand) (sym same))))
         (copy_kept commit (λ x s. refl) (replica_served (record_seen w.cluster k r) (node_at w.nodes r) k) hand.snapshot)
         (made_plain hand.op commit (replies.Done a) (its_details w client r commit hand no_payload (replies.Done a)) hand.made plain) details_is)
 
     -- it is committed; the call goes on while it has a slot, and behind what it has claimed
-    pub commit_is : (goes_on : Bool) (taken : InHand) (place : Option InHand) (label : Label) → IsUpdate hand.driver → (taken ≡ hand_taken d hand) × (ended_unless goes_on ≡ hand_end d (replies.Done answers.Nothing) taken) →
+    pub commit_is : (goes_on : Bool) (taken : InHand) (place : Option InHand) (label : Label) → IsUpdate hand.driver → (taken ≡ hand_taken d hand) × (ended_unless goes_on ≡ hand_end w.cluster d (replies.Done answers.Nothing) taken) →
         place ≡ left (ended_unless goes_on) taken → label ≡ Stepped hand.call word verbs.Commit (Some k) (Some r) words.Ok (ended_unless goes_on) beside.Nothing → IsStep client w (record w { nodes = nodes; hands = set_at w.hands client place }) label
     commit_is goes_on taken place label update (taken_is, end_is) place_is label_is = elim (answer_either its.slot) [
       | inl nothing ↦
@@ -254,6 +254,6 @@ module _ (w : World) (c : ℕ) (r : ℕ) (call : CallId) (k : ℕ) (hand : InHan
           committed_as answers.Nothing nothing refl goes_on taken place label taken_is end_is (ended_none (its_end w client r commit hand no_payload reply) (its_details w client r commit hand no_payload reply) (none_told reply nothing)) place_is label_is
       | inr made ↦
           let none = none_ends update made in
-          let end : ended_unless goes_on ≡ hand_end d (replies.Done answers.Created) taken = end_is ∙ ap (hand_end d (replies.Done answers.Nothing)) taken_is ∙ none answers.Nothing ∙ sym (ap (hand_end d (replies.Done answers.Created)) taken_is ∙ none answers.Created) in
+          let end : ended_unless goes_on ≡ hand_end w.cluster d (replies.Done answers.Created) taken = end_is ∙ ap (hand_end w.cluster d (replies.Done answers.Nothing)) taken_is ∙ none answers.Nothing ∙ sym (ap (hand_end w.cluster d (replies.Done answers.Created)) taken_is ∙ none answers.Created) in
           committed_as answers.Created made refl goes_on taken place label taken_is end (sym (ap (λ e. ended_details e (its_details w client r commit hand no_payload (replies.Done answers.Created))) (none answers.Created))) place_is label_is
     ]

@@ -49,6 +49,8 @@ use Rattle.world_core.specs.Shows.{Does, IsShown, HasNumbersLeft, History, Histo
 use Rattle.world_core.specs.Happenings.{rooms_at, IsNext, IsStep}
 use Rattle.world_core.proofs.CallSteps.{IsKnown, known, step_under}
 use Rattle.world_core.proofs.Carrying.{IsOfCall, lent_on, lent_with, payload_with, has_lent}
+use Rattle.ckpt_types.specs.Asks.{asked}
+use Rattle.ckpt_machine.proofs.Askers.{IsCopyAsk}
 use Rattle.ckpt_machine.proofs.Carried.{GoesToReplica, Carries, reserves_none}
 use Rattle.world_core.proofs.Finding.{IsReservationOr}
 use Rattle.world_core.proofs.Finding as finding
@@ -86,9 +88,9 @@ has_own_place (requests.Iterate call k choice) w v r x next = iterate_room w.clu
 has_own_place request w v r x next = tt
 
 -- a call to the active ends where its iteration has started
-active_ends : (op : Op) (d : StepDone) (answer : Answer) (x : Driver) → d.verb ≡ verbs.Iter → IsActive x → IsSome (driver_end op d (replies.Done answer) (driver_taken d x))
-active_ends op d answer (drivers.Active a) iterates is = subst (λ verb. IsSome (active_end answer verb)) (sym iterates) refl
-active_ends op d answer x iterates is = absurd is
+active_ends : (R : RecordState) (op : Op) (d : StepDone) (answer : Answer) (x : Driver) → d.verb ≡ verbs.Iter → IsActive x → IsSome (driver_end R op d (replies.Done answer) (driver_taken d x))
+active_ends R op d answer (drivers.Active a) iterates is = subst (λ verb. IsSome (active_end answer verb)) (sym iterates) refl
+active_ends R op d answer x iterates is = absurd is
 
 -- so one that starts an iteration has ended
 ends_by : (request : Request) (w : World) (h : History) (v : Who) (r : ℕ) (hand : InHand) (p : Payload) (reply : Reply) (known_is : IsKnown w h) (held : hand_at w.hands v ≡ Some hand) → driver_next w.cluster (rooms_at w (client_by v)) hand.driver ≡ Serve r request → MayReply (record_seen w.cluster (ckpt_of request) r) (node_at w.nodes r) request p reply → EndsIts request (its_end w v r request hand p reply)
@@ -98,15 +100,24 @@ ends_by (requests.Iterate call k choice) w h v r hand p reply known_is held next
     let due_here = finding.due_here w h v r request hand known_is.facts known_is.fits held next in
     let starting = known_is.facts.starts v (state_in h v hand) r call k choice (in_hand_is w h v hand held) due_here in
     let done : reply ≡ replies.Done answers.Nothing = may ∙ ap (reply_at request p (record_seen w.cluster k r)) served in
-    subst (λ (z : Reply × Driver). IsSome (driver_end hand.op (served_done w.cluster request r z.0) z.0 (driver_taken (served_done w.cluster request r z.0) z.1)))
-    (λ i. (sym done i, sym (driver_is w h v hand held known_is.fits) i)) (active_ends hand.op (served_done w.cluster request r (replies.Done answers.Nothing)) answers.Nothing (driver_of (state_in h v hand)) refl starting.active)
+    subst (λ (z : Reply × Driver). IsSome (driver_end w.cluster hand.op (served_done w.cluster request r z.0) z.0 (driver_taken (served_done w.cluster request r z.0) z.1)))
+    (λ i. (sym done i, sym (driver_is w h v hand held known_is.fits) i)) (active_ends w.cluster hand.op (served_done w.cluster request r (replies.Done answers.Nothing)) answers.Nothing (driver_of (state_in h v hand)) refl starting.active)
 ends_by request w h v r hand p reply known_is held next may = tt
 
+-- a copying reserves in a step of its own, so no such reservation comes here
+abbrev pub ReservesNoCopy : Request → InHand → Type 0
+ReservesNoCopy (Reserve k) hand = IsCopyAsk (asked hand.op) → ⊥
+ReservesNoCopy request hand = Unit {0}
+
+pub no_copying : (request : Request) (hand : InHand) → (IsCopyAsk (asked hand.op) → ⊥) → ReservesNoCopy request hand
+no_copying (Reserve k) hand other = other
+no_copying request hand other = tt
+
 -- a node does what is due
-does_by : (request : Request) (w : World) (v : Who) (r : ℕ) (hand : InHand) (p : Payload) (reply : Reply) → IsReservationOr request → hand_at w.hands v ≡ Some hand → driver_next w.cluster (rooms_at w (client_by v)) hand.driver ≡ Serve r request → Carries request p (payload_with hand (kept_by w.tables (client_by v))) →
+does_by : (request : Request) (w : World) (v : Who) (r : ℕ) (hand : InHand) (p : Payload) (reply : Reply) → ReservesNoCopy request hand → IsReservationOr request → hand_at w.hands v ≡ Some hand → driver_next w.cluster (rooms_at w (client_by v)) hand.driver ≡ Serve r request → Carries request p (payload_with hand (kept_by w.tables (client_by v))) →
     MayReply (record_seen w.cluster (ckpt_of request) r) (node_at w.nodes r) request p reply → IsValidFor request (kept_by w.tables (client_by v)) → r < length w.nodes → Does w (served_world w v r request hand p reply) (served_label w v r request hand p reply)
-does_by (Reserve k) w v r hand p reply goes held next carries may valid within = reserve_does w v r k hand p reply held next may within
-does_by request w v r hand p reply goes held next carries may valid within = serve_does w v r request hand p reply goes held next carries may valid
+does_by (Reserve k) w v r hand p reply other goes held next carries may valid within = reserve_does w v r k hand p reply held next may within other
+does_by request w v r hand p reply other goes held next carries may valid within = serve_does w v r request hand p reply goes held next carries may valid
 
 module _ (w : World) (v : Who) (r : ℕ) (request : Request) (hand : InHand) (held : hand_at w.hands v ≡ Some hand) (next : IsNext w v (Serve r request)) where
   abbrev kept : ClientState
@@ -162,9 +173,9 @@ module _ (w : World) (v : Who) (r : ℕ) (request : Request) (hand : InHand) (he
         step_under v w (served_world w v r request hand p reply) hand (hand_taken (its_done w v r request hand p reply) (with_made hand (its_copy w v r request hand p reply) (its_made w v r request hand p reply))) (word_of_op hand.op) (verb_of request) (Some (ckpt_of request)) (Some r) (word_of reply) (its_end w v r request hand p reply) (ended_details (its_end w v r request hand p reply) (its_details w v r request hand p reply))
         held refl refl (hand_left w.hands v hand (hand_taken (its_done w v r request hand p reply) (with_made hand (its_copy w v r request hand p reply) (its_made w v r request hand p reply))) (its_end w v r request hand p reply) held refl) does
 
-    pub serve_is : (p : Payload) (reply : Reply) → Carries request p (payload_with hand kept) → MayReply (record_seen w.cluster (ckpt_of request) r) (node_at w.nodes r) request p reply → IsValidFor request kept → r < length w.nodes →
+    pub serve_is : (p : Payload) (reply : Reply) → ReservesNoCopy request hand → Carries request p (payload_with hand kept) → MayReply (record_seen w.cluster (ckpt_of request) r) (node_at w.nodes r) request p reply → IsValidFor request kept → r < length w.nodes →
         IsStep v w (served_world w v r request hand p reply) (served_label w v r request hand p reply)
-    serve_is p reply carries may valid within = told_so p reply (does_by request w v r hand p reply goes held its_next carries may valid within)
+    serve_is p reply other carries may valid within = told_so p reply (does_by request w v r hand p reply other goes held its_next carries may valid within)
 
     pub ends_its : (p : Payload) (reply : Reply) → MayReply (record_seen w.cluster (ckpt_of request) r) (node_at w.nodes r) request p reply → EndsIts request (its_end w v r request hand p reply)
     ends_its p reply may = ends_by request w h v r hand p reply (known w shown) held its_next may

@@ -45,7 +45,7 @@ module _ (w : World) (c : ℕ) (t t' : TableState) (table : slice_get w.tables c
   field_put f x is d = put_case f t' x is (d == c) (slice_get w.tables d) ∙ ap f (table_at d)
 
   -- the numbers of the next calls, where that of the client is the same
-  pub nexts_same : t.next ≡ t'.next → (a : ActorName) → next_of w.tables a ≡ next_of new_world.tables a
+  pub nexts_same : t.next ≡ t'.next → (a : ActorName) → next_of w a ≡ next_of new_world a
   nexts_same same (Client d) = field_same next_in same d
   nexts_same same (Node r) = refl
 

@@ -75,6 +75,7 @@ module _ (w : World) (v : Who) (t : TableState) (table : slice_get w.tables (cli
     next = λ n next. record { hand = next.hand; held = next.held; next_is = ap (λ (kept : ClientState). driver_next w.cluster (rooms_in (makings_of (client_by v) w.cluster.entries) kept) next.hand.driver) (sym (same kept_in refl (client_by v))) ∙ next.next_is };
     roomy = λ roomy. record {
       next = λ d. subst (λ n. n < 2 ^ 32 - 1) (same next_in refl d) (roomy.next d);
+      copies = roomy.copies;
       handles = λ d. subst (λ n. n < 2 ^ 32 - 1) (same (λ o. (kept_in o).last_number) refl d) (roomy.handles d);
       iterations = λ d. subst (λ n. n < 2 ^ 32 - 1) (same (λ o. (kept_in o).last_iteration) refl d) (roomy.iterations d);
       updates = roomy.updates;

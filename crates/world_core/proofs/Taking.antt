@@ -15,5 +15,5 @@ module _ (R : RecordState) (reply : Reply) (r : ℕ) (request : Request) where
   pub hand_keeps : (hand : InHand) → AsksNode R hand.driver r request → hand_told R reply hand ≡ hand_taken (served_done R request r reply) hand
   hand_keeps hand asks = ap (λ x. record hand { driver = x }) (driver_keeps R reply r request hand.op hand.driver asks)
 
-  pub hand_ends : (hand taken : InHand) → AsksNode R hand.driver r request → taken ≡ hand_told R reply hand → hand_outcome R reply hand ≡ hand_end (served_done R request r reply) reply taken
-  hand_ends hand taken asks is = driver_ends R reply r request hand.op hand.driver asks ∙ ap (hand_end (served_done R request r reply) reply) (sym is)
+  pub hand_ends : (hand taken : InHand) → AsksNode R hand.driver r request → taken ≡ hand_told R reply hand → hand_outcome R reply hand ≡ hand_end R (served_done R request r reply) reply taken
+  hand_ends hand taken asks is = driver_ends R reply r request hand.op hand.driver asks ∙ ap (hand_end R (served_done R request r reply) reply) (sym is)

@@ -10,13 +10,12 @@ use Rattle.ckpt_types.specs.declared.identities.CallId.{CallId}
 use Rattle.ckpt_types.specs.declared.identities.Who.TheVariants.{Actor, Call}
 use Rattle.ckpt_types.specs.declared.operation.Op.{Op}
 use Rattle.ckpt_types.specs.declared.operation.Op.TheVariants as ops
-use Rattle.ckpt_types.specs.Asks.{asked, IsBuilt}
+use Rattle.ckpt_types.specs.Asks.{MayAsk, asked, IsBuilt}
 use Rattle.ckpt_types.specs.Limits.{client_numbers}
 use Rattle.ckpt_types.specs.OpWord.{is_async, word_of_op, stepped_as}
 use Rattle.node_msgs.specs.declared.details.Details.TheVariants as beside
 use Rattle.run_labels.specs.declared.labels.Label.TheVariants.{Began}
 use Rattle.client_handles.specs.declared.handle_view.HandleView.{HandleView}
-use Rattle.cluster_record.specs.Calls.{client_of}
 use Rattle.cluster_record.specs.RecordState.{is_live_client}
 use Rattle.cluster_record.proofs.Places.{there_is}
 use Rattle.snap_copy.specs.Snapshots.{Snapshot}
@@ -50,13 +49,14 @@ none_there None absent = refl
 none_there (Some x) absent = absurd (absent x refl)
 
 -- the call that begins, with what is asked of it
-pub next_begun : (w : World) (c number : ℕ) (op : Op) (h : Option HandleView) (live : Bool) (due end : Option Outcome) → c < client_numbers → c < length w.tables → IsBuilt op → hand_at w.hands (Actor (Client c)) ≡ None → MayBegin w.cluster c (asked op) → number ≡ next_in (slice_get w.tables c) → h ≡ handle_asked (asked op) (kept_by w.tables c)
+pub next_begun : (w : World) (c number : ℕ) (op : Op) (h : Option HandleView) (live : Bool) (due end : Option Outcome) → c < client_numbers → c < length w.tables → MayAsk (Client c) (asked op) → IsBuilt op → hand_at w.hands (Actor (Client c)) ≡ None → MayBegin w.cluster (Client c) (asked op) → number ≡ next_in (slice_get w.tables c) → h ≡ handle_asked (asked op) (kept_by w.tables c)
     → live ≡ is_live_client c w.cluster → due ≡ begin_end (standing_in live h c w.tables) (asked op) → IsBeginEnd (asked op) due end → IsNextBegun w c (record { actor = Client c; number = number }) op h end
-next_begun w c number op h live due end client table built none may number_is handle live_is due_is answer = record {
+next_begun w c number op h live due end client table asker built none may number_is handle live_is due_is answer = record {
   client = client;
   table = table;
   built = built;
   none = none;
+  asker = asker;
   may = may;
   call_is = ap (λ n. record { actor = Client c; number = n }) number_is;
   handle = handle;
@@ -84,32 +84,32 @@ waits_row st (ops.SyncAsync place invocation) row = absurd (let it = row.1 in cc
 waits_row st op row = refl
 
 -- it is in its client's place
-pub waits : (w : World) (c : ℕ) (call : CallId) (op : Op) (h : Option HandleView) (hand : InHand) (tables : List TableState) → IsNextBegun w c call op h None → IsHandBegun call op (kept_at_beginning w.cluster (client_of call) h) hand → c < length w.hands.clients
-    → tables ≡ at_client c (begun_with None call op h) w.tables → Begins c op w (record w { tables = tables; hands = set_at w.hands (Actor (Client c)) (Some hand) }) (Began call op None beside.Nothing)
+pub waits : (w : World) (c : ℕ) (call : CallId) (op : Op) (h : Option HandleView) (hand : InHand) (tables : List TableState) → IsNextBegun w c call op h None → IsHandBegun call op (kept_at_beginning w.cluster call.actor h) hand → c < length w.hands.clients
+    → tables ≡ at_client c (begun_with None call op h) w.tables → Begins (Client c) op w (record w { tables = tables; hands = set_at w.hands (Actor (Client c)) (Some hand) }) (Began call op None beside.Nothing)
 waits w c call op h hand tables is begun within tables_are =
     let plain = waits_row (standing_in (is_live_client c w.cluster) h c w.tables) op (row_of (standing_in (is_live_client c w.cluster) h c w.tables) (asked op) is.built None is.end_is) in
     let own : stepped_as call (word_of_op op) ≡ Actor (Client c) = stepped_as-plain call (word_of_op op) plain ∙ ap (λ (x : CallId). Actor x.actor) is.call_is in
     let under : HasUnder w.hands (stepped_as call (word_of_op op)) (Some hand) (set_at w.hands (Actor (Client c)) (Some hand))
     = let (x, there) = there_is w.hands.clients c within in
     subst (λ v. HasUnder w.hands v (Some hand) (set_at w.hands (Actor (Client c)) (Some hand))) (sym own) (client_set w.hands c x there (Some hand)) in
-    let client : client_of call ≡ c = ap client_of is.call_is in
-    call_begins w c call op h None beside.Nothing (Some hand) tables (set_at w.hands (Actor (Client c)) (Some hand)) is refl (subst (λ c. IsHandBegun call op (kept_at_beginning w.cluster c h) hand) client begun) under tables_are
+    let client : call.actor ≡ Client c = ap (λ (x : CallId). x.actor) is.call_is in
+    call_begins w c call op h None beside.Nothing (Some hand) tables (set_at w.hands (Actor (Client c)) (Some hand)) is refl (subst (λ a. IsHandBegun call op (kept_at_beginning w.cluster a h) hand) client begun) under tables_are
 
 -- ---- it goes on by itself
 
 -- it is in hand under its own name
-pub goes_alone : (w : World) (c : ℕ) (call : CallId) (op : Op) (h : Option HandleView) (hand : InHand) (hands : HandsState) (new : World) → IsShown w → IsAnsweredAtOnce w c call op h (Done answers.Nothing) → is_async (word_of_op op) ≡ true → IsHandBegun call op (kept_at_beginning w.cluster (client_of call) h) hand
-    → HasAlone hand.call.actor w.hands → hands ≡ with_alone hand w.hands → new ≡ record w { tables = at_client c (begun_with (Some (Done answers.Nothing)) call op h) w.tables; hands = hands } → Begins c op w new (Began call op (Some (Done answers.Nothing)) beside.Nothing)
+pub goes_alone : (w : World) (c : ℕ) (call : CallId) (op : Op) (h : Option HandleView) (hand : InHand) (hands : HandsState) (new : World) → IsShown w → IsAnsweredAtOnce w c call op h (Done answers.Nothing) → is_async (word_of_op op) ≡ true → IsHandBegun call op (kept_at_beginning w.cluster call.actor h) hand
+    → HasAlone hand.call.actor w.hands → hands ≡ with_alone hand w.hands → new ≡ record w { tables = at_client c (begun_with (Some (Done answers.Nothing)) call op h) w.tables; hands = hands } → Begins (Client c) op w new (Began call op (Some (Done answers.Nothing)) beside.Nothing)
 goes_alone w c call op h hand hands new shown is async begun there hands_are new_is =
     let name = stepped_as-async call (word_of_op op) async in
-    let client : client_of call ≡ c = ap client_of is.call_is in
+    let client : call.actor ≡ Client c = ap (λ (x : CallId). x.actor) is.call_is in
     let own : Call hand.call ≡ stepped_as call (word_of_op op) = ap Call begun.call_is ∙ sym name in
     let none = ap (hand_at w.hands) own ∙ idle w c call (word_of_op op) shown is.call_is is.none in
     let under : HasUnder w.hands (stepped_as call (word_of_op op)) (Some hand) hands
     = subst (λ (hands : HandsState). HasUnder w.hands (stepped_as call (word_of_op op)) (Some hand) hands) (sym hands_are) (subst (λ v. HasUnder w.hands v (Some hand) (with_alone hand w.hands)) own (with_alone-at hand w.hands there none)) in
-    subst (λ x. Begins c op w x (Began call op (Some (Done answers.Nothing)) beside.Nothing)) (sym new_is)
+    subst (λ x. Begins (Client c) op w x (Began call op (Some (Done answers.Nothing)) beside.Nothing)) (sym new_is)
     (call_begins w c call op h (Some (Done answers.Nothing)) beside.Nothing (Some hand) (at_client c (begun_with (Some (Done answers.Nothing)) call op h) w.tables) hands is (sym (told_alone op async (Some (Done answers.Nothing)) (pending_by w.tables c)))
-    (subst (λ b. IsBegunAs b call op (kept_at_beginning w.cluster c h) (Some hand)) (sym async) (subst (λ c. IsHandBegun call op (kept_at_beginning w.cluster c h) hand) client begun)) under refl)
+    (subst (λ b. IsBegunAs b call op (kept_at_beginning w.cluster (Client c) h) (Some hand)) (sym async) (subst (λ a. IsHandBegun call op (kept_at_beginning w.cluster a h) hand) client begun)) under refl)
 
 -- it takes memory for that
 takes_memory : (op : Op) → is_async (word_of_op op) ≡ true → IsTrue (takes_memory_at_once (asked op))
@@ -124,6 +124,7 @@ lacks_memory w c call op h is async = record {
   table = is.table;
   built = is.built;
   none = is.none;
+  asker = is.asker;
   may = is.may;
   call_is = is.call_is;
   handle = is.handle;

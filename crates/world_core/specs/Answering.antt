@@ -5,7 +5,7 @@ use Rattle.ckpt_types.specs.declared.identities.ActorName.TheVariants.{Client}
 use Rattle.ckpt_types.specs.declared.identities.CallId.{CallId}
 use Rattle.ckpt_types.specs.declared.identities.Who.TheVariants.{Actor}
 use Rattle.ckpt_types.specs.declared.operation.Op.{Op}
-use Rattle.ckpt_types.specs.Asks.{asked, IsBuilt}
+use Rattle.ckpt_types.specs.Asks.{MayAsk, asked, IsBuilt}
 use Rattle.ckpt_types.specs.Limits.{client_numbers}
 use Rattle.client_handles.specs.declared.handle_view.HandleView.{HandleView}
 use Rattle.cluster_record.specs.RecordState.{is_live_client}
@@ -23,7 +23,8 @@ pub record IsNextBegun (w : World) (c : ℕ) (call : CallId) (op : Op) (h : Opti
   pub table : c < length w.tables
   pub built : IsBuilt op
   pub none : hand_at w.hands (Actor (Client c)) ≡ None
-  pub may : MayBegin w.cluster c (asked op)
+  pub asker : MayAsk (Client c) (asked op)
+  pub may : MayBegin w.cluster (Client c) (asked op)
   pub call_is : call ≡ record { actor = Client c; number = next_in (slice_get w.tables c) }
   pub handle : h ≡ handle_asked (asked op) (kept_by w.tables c)
   pub end_is : IsBeginEnd (asked op) (begin_end (standing_in (is_live_client c w.cluster) h c w.tables) (asked op)) end

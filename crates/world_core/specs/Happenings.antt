@@ -1,14 +1,14 @@
 -- What an event does to the world, with the label that answers it.
 use Rattle.std.specs.Prelude.{◌≡◌, ◌≢◌, ◌⊎◌, ℕ, ◌<◌, ◌≤◌, [], ◌∷◌, ◌++◌, Option, Some, Bool, ℤ}
 use Rattle.ckpt_types.specs.declared.answers.Outcome.{Outcome}
-use Rattle.ckpt_types.specs.declared.identities.ActorName.TheVariants.{Client}
+use Rattle.ckpt_types.specs.declared.identities.ActorName.{ActorName}
 use Rattle.ckpt_types.specs.declared.identities.CallId.{CallId}
 use Rattle.ckpt_types.specs.declared.identities.Who.{Who}
 use Rattle.ckpt_types.specs.declared.identities.Who.TheVariants.{Actor}
 use Rattle.ckpt_types.specs.OpWord.{word_of_op, stepped_as}
 use Rattle.cluster_record.specs.Makings.{makings_of}
 use Rattle.ckpt_types.specs.declared.operation.Op.{Op}
-use Rattle.ckpt_types.specs.Limits.{client_numbers, nodes_max}
+use Rattle.ckpt_types.specs.Limits.{nodes_max}
 use Rattle.node_msgs.specs.declared.next.Next.{Next}
 use Rattle.run_labels.specs.Kept.{KeptLabels}
 use Rattle.node_msgs.specs.declared.details.Details.{Details}
@@ -27,7 +27,7 @@ use Rattle.cluster_record.specs.Calls.{left}
 use Rattle.cluster_record.specs.RecordState.{empty_record, is_up, IsMomentFrom}
 use Rattle.ckpt_machine.specs.Driving.{driver_next}
 use Rattle.ckpt_machine.specs.NodeJoins.{join_answer}
-use Rattle.ckpt_types.specs.Asks.{IsBuilt}
+use Rattle.ckpt_types.specs.Asks.{MayAsk, asked, IsBuilt}
 use Rattle.ckpt_machine.specs.Tables.{rooms_in}
 use Rattle.client_calls.specs.Names.{client_by}
 use Rattle.world_core.specs.HandsState.{hand_at}
@@ -50,9 +50,9 @@ pub record IsNext (w : World) (v : Who) (next : Next) : Type 0 where
   pub held : hand_at w.hands v ≡ Some hand
   pub next_is : driver_next w.cluster (rooms_at w (client_by v)) hand.driver ≡ next
 
--- the calls for which clients wait are in hand as they were, but that of a name
+-- the calls for which clients and nodes wait are in hand as they were, but that of a name
 abbrev pub KeepsOther : Who → World → World → Type 0
-KeepsOther v old new = (d : ℕ) → Actor (Client d) ≢ v → hand_at new.hands (Actor (Client d)) ≡ hand_at old.hands (Actor (Client d))
+KeepsOther v old new = (b : ActorName) → Actor b ≢ v → hand_at new.hands (Actor b) ≡ hand_at old.hands (Actor b)
 
 -- the call in hand under a name takes a step: it is in hand after it just where the step did not end it
 pub record IsStep (v : Who) (old new : World) (label : Label) : Type 0 where
@@ -79,21 +79,21 @@ pub record IsIdle (who : Who) (finish : Bool) (old new : World) (label : Label) 
   pub word : IsIdleWord who finish old new label
   pub does : Does old new label
 
--- the client's call begins: it is in hand, under its name, just where it goes on
-pub record IsBeginning (c : ℕ) (op : Op) (old new : World) (call : CallId) (begun : Op) (end : Option Outcome) : Type 0 where
-  pub actor : call.actor ≡ Client c
+-- the actor's call begins: it is in hand, under its name, just where it goes on
+pub record IsBeginning (a : ActorName) (op : Op) (old new : World) (call : CallId) (begun : Op) (end : Option Outcome) : Type 0 where
+  pub actor : call.actor ≡ a
   pub op_is : begun ≡ op
   pub here : GoesOn call op end (hand_at new.hands (stepped_as call (word_of_op op)))
   pub others : KeepsOther (stepped_as call (word_of_op op)) old new
 
--- the label is the beginning of this client's call, or a word that answers its line
-abbrev pub BeginsOrSays : ℕ → Op → World → World → Label → Type 0
-BeginsOrSays c op old new (labels.Began call begun end details) = IsBeginning c op old new call begun end
-BeginsOrSays c op old new label = AnswersBegin (Client c) op old new label
+-- the label is the beginning of this actor's call, or a word that answers its line
+abbrev pub BeginsOrSays : ActorName → Op → World → World → Label → Type 0
+BeginsOrSays a op old new (labels.Began call begun end details) = IsBeginning a op old new call begun end
+BeginsOrSays a op old new label = AnswersBegin a op old new label
 
 -- a call begins, or a word answers its line
-pub record Begins (c : ℕ) (op : Op) (old new : World) (label : Label) : Type 0 where
-  pub begins : BeginsOrSays c op old new label
+pub record Begins (a : ActorName) (op : Op) (old new : World) (label : Label) : Type 0 where
+  pub begins : BeginsOrSays a op old new label
   pub does : Does old new label
 
 -- the first nodes come up, and no call in hand changes
@@ -137,7 +137,7 @@ pub record Joins (r : ℕ) (old new : World) (label : Label) : Type 0 where
 -- what the event asks of the world
 abbrev pub ComesNow : World → Event → Type 0
 ComesNow w (happenings.Nodes n) = (0 < n) × (n ≤ nodes_max) × (w.cluster ≡ empty_record)
-ComesNow w (happenings.Begin (Client c) op) = (c < client_numbers) × IsBuilt op
+ComesNow w (happenings.Begin a op) = MayAsk a (asked op) × IsBuilt op
 ComesNow w (happenings.Step who finish) = MayBeStepped who
 ComesNow w (happenings.Show k) = Unit {0}
 ComesNow w (happenings.At t) = IsMomentFrom w.cluster.moment t
@@ -145,12 +145,11 @@ ComesNow w (happenings.Pull k) = Unit {0}
 ComesNow w (happenings.Put k r) = r < nodes_max
 ComesNow w (happenings.Fail r) = r < nodes_max
 ComesNow w (happenings.Join r) = r < nodes_max
-ComesNow w event = ⊥
 
 -- what the event does, with the label that answers it
 abbrev pub IsAnswered : Event → World → World → Label → Type 0
 IsAnswered (happenings.Nodes n) old new label = BringsUp n old new label
-IsAnswered (happenings.Begin (Client c) op) old new label = Begins c op old new label
+IsAnswered (happenings.Begin a op) old new label = Begins a op old new label
 IsAnswered (happenings.Step who finish) old new label = IsStep who old new label ⊎ IsIdle who finish old new label
 IsAnswered (happenings.Show k) old new label = TellsReplicas k old new label
 IsAnswered (happenings.At t) old new label = SetsMoment t old new label
@@ -158,4 +157,3 @@ IsAnswered (happenings.Pull k) old new label = Propagates (IsPulledOf k) old new
 IsAnswered (happenings.Put k r) old new label = Propagates (IsPutOf k r) old new label
 IsAnswered (happenings.Fail r) old new label = Fails r old new label
 IsAnswered (happenings.Join r) old new label = Joins r old new label
-IsAnswered event old new label = ⊥

@@ -2,6 +2,7 @@ pub mod Backgrounds
 pub mod Begun
 pub mod TableLending
 pub mod LiveRooms
+pub mod Copying
 pub mod Freeing
 pub mod Listing
 pub mod HandsState

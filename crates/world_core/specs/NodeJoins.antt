@@ -8,7 +8,7 @@ use Rattle.world_core.specs.declared.world.World.{World}
 
 -- A NODE JOINS, of the world: the record has it up, from its next call on, and nothing else changes; so it has no replica
 abbrev pub joined_world : ℕ → World → World
-joined_world r w = record w { cluster = node_joined r (next_of w.tables (Node r)) w.cluster }
+joined_world r w = record w { cluster = node_joined r (next_of w (Node r)) w.cluster }
 
 -- the world behind that; where the node is up already, it is as it was
 abbrev pub behind_join : ℕ → World → World

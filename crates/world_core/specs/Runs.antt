@@ -2,7 +2,7 @@
 use Rattle.std.specs.Prelude.{◌≡◌, ◌≢◌, ℕ, ◌-◌, ◌<◌, ◌≤◌, ◌^◌, List, [], ◌∷◌, ◌++◌, length, replicate, Option, Some, None, is_none, Bool, true, false, ℤ, slice_get}
 use Rattle.ckpt_types.specs.declared.answers.Outcome.{Outcome}
 use Rattle.ckpt_types.specs.declared.identities.ActorName.{ActorName}
-use Rattle.ckpt_types.specs.declared.identities.ActorName.TheVariants.{Client}
+use Rattle.ckpt_types.specs.declared.identities.ActorName.TheVariants.{Client, Node}
 use Rattle.ckpt_types.specs.declared.identities.CallId.{CallId}
 use Rattle.ckpt_types.specs.declared.identities.Who.{Who}
 use Rattle.ckpt_types.specs.declared.identities.Who.TheVariants as whos
@@ -20,15 +20,15 @@ use Rattle.client_calls.specs.declared.in_hand.InHand.{InHand}
 use Rattle.world_core.specs.declared.world.Event.{Event}
 use Rattle.world_core.specs.declared.world.Event.TheVariants as happenings
 use Rattle.world_core.specs.declared.world.World.{World}
-use Rattle.cluster_record.specs.RecordState.{empty_record, is_up, IsMomentFrom}
+use Rattle.cluster_record.specs.RecordState.{RecordState, empty_record, is_up, IsMomentFrom}
 use Rattle.call_dispatch.specs.PendingCalls.{no_pending}
 use Rattle.client_calls.specs.TableState.{next_in}
 use Rattle.world_core.specs.TablesState.{kept_by, pending_by}
-use Rattle.ckpt_types.specs.Asks.{IsBuilt}
+use Rattle.ckpt_types.specs.Asks.{MayAsk, asked, IsBuilt}
 use Rattle.ckpt_machine.specs.Machine.{no_tables}
 use Rattle.ckpt_machine.specs.NodeJoins.{join_answer}
 use Rattle.world_core.specs.HandsState.{hand_at}
-use Rattle.world_core.specs.Shows.{Shows}
+use Rattle.world_core.specs.Shows.{Shows, number_in}
 use Rattle.ckpt_machine.specs.Runs.{last, IsRun}
 use Rattle.client_calls.specs.LineWords.{step_word}
 
@@ -45,6 +45,7 @@ pub record IsNew (w : World) : Type 0 where
   pub nodes : w.nodes ≡ replicate nodes_max []
   pub snapshots : w.snapshots ≡ []
   pub next : (c : ℕ) → next_in (slice_get w.tables c) ≡ 1
+  pub numbers : (r : ℕ) → number_in (slice_get w.numbers r) ≡ 1
   pub tables : (c : ℕ) → kept_by w.tables c ≡ no_tables
   pub pending : (c : ℕ) → pending_by w.tables c ≡ no_pending
   pub hands : (v : Who) → hand_at w.hands v ≡ None
@@ -55,21 +56,16 @@ NewBeginsRuns = (w : World) → IsNew w → IsRunTo w []
 
 -- ---- events
 
--- a client that a script may name
-abbrev pub IsScriptClient : ActorName → Type 0
-IsScriptClient (Client c) = c < client_numbers
-IsScriptClient a = ⊥
-
 -- a client that a script may name, a node, or an asynchronous call
 abbrev pub MayBeStepped : Who → Type 0
 MayBeStepped (whos.Actor (Client c)) = c < client_numbers
 MayBeStepped who = Unit {0}
 
--- the events that may come: up to eight nodes first, then calls of clients that begin and are stepped in any order, moments, shows, pulls and puts, and
--- failures and joins of nodes
+-- the events that may come: up to eight nodes first, then calls of clients and copyings of nodes that begin and are stepped in any order, moments, shows,
+-- pulls and puts, and failures and joins of nodes
 abbrev pub Comes : World → List Label → Event → Type 0
 Comes w log (happenings.Nodes n) = (0 < n) × (n ≤ nodes_max) × (log ≡ [])
-Comes w log (happenings.Begin a op) = IsScriptClient a × IsBuilt op
+Comes w log (happenings.Begin a op) = MayAsk a (asked op) × IsBuilt op
 Comes w log (happenings.Step who finish) = MayBeStepped who
 Comes w log (happenings.At t) = IsMomentFrom w.cluster.moment t
 Comes w log (happenings.Show k) = Unit {0}
@@ -96,18 +92,24 @@ GoesOn call op end hand = IsThereIf (goes_on (word_of_op op) end) call op hand
 abbrev pub IsLeft : CallId → Op → Option Outcome → Option InHand → Type 0
 IsLeft call op end hand = IsThereIf (is_none end) call op hand
 
--- DOWN is said of a node that is not up
-abbrev pub SaysTrue : Op → Said → World → Type 0
-SaysTrue (ops.Client r version callbacks) Down w = is_up r w.cluster ≡ false
-SaysTrue op Down w = ⊥
-SaysTrue op said w = Unit {0}
+-- the actor is a node that is not up
+abbrev pub IsDown : ActorName → RecordState → Type 0
+IsDown (Client c) R = ⊥
+IsDown (Node r) R = is_up r R ≡ false
+
+-- DOWN is said of a node that is not up: the one that an Initialize names, or the one that is to copy
+abbrev pub SaysTrue : ActorName → Op → Said → World → Type 0
+SaysTrue a (ops.Client r version callbacks) Down w = is_up r w.cluster ≡ false
+SaysTrue a ops.Copy Down w = IsDown a w.cluster
+SaysTrue a op Down w = ⊥
+SaysTrue a op said w = Unit {0}
 
 -- the label that answers the beginning of a call: its beginning, or a word that leaves the calls in hand as they are
 abbrev pub AnswersBegin : ActorName → Op → World → World → Label → Type 0
 AnswersBegin a op old new (labels.Began call begun end details) =
     (call.actor ≡ a) × (begun ≡ op) × GoesOn call op end (hand_at new.hands (stepped_as call (word_of_op op)))
 AnswersBegin a op old new (labels.Word who word said) =
-    (who ≡ whos.Actor a) × (word ≡ linewords.Op (word_of_op op)) × (new.hands ≡ old.hands) × SaysTrue op said old
+    (who ≡ whos.Actor a) × (word ≡ linewords.Op (word_of_op op)) × (new.hands ≡ old.hands) × SaysTrue a op said old
 AnswersBegin a op old new label = ⊥
 
 -- the label that answers a step of the call in hand under a name: its next step
@@ -157,11 +159,11 @@ Answers (happenings.Fail r) old new label = (label ≡ labels.Failed r (is_up r 
 Answers (happenings.Join r) old new label =
     (label ≡ labels.Joined r (join_answer r old.cluster)) × (new.hands ≡ old.hands) × (new.cluster.moment ≡ old.cluster.moment)
 
--- the calls for which other clients wait are as they were
+-- the calls for which other clients and nodes wait are as they were
 abbrev pub KeepsOthers : Event → World → World → Type 0
-KeepsOthers (happenings.Begin (Client c) op) old new = (d : ℕ) → d ≢ c → hand_at new.hands (whos.Actor (Client d)) ≡ hand_at old.hands (whos.Actor (Client d))
+KeepsOthers (happenings.Begin a op) old new = (b : ActorName) → b ≢ a → hand_at new.hands (whos.Actor b) ≡ hand_at old.hands (whos.Actor b)
 KeepsOthers (happenings.Step who finish) old new =
-    (d : ℕ) → whos.Actor (Client d) ≢ who → hand_at new.hands (whos.Actor (Client d)) ≡ hand_at old.hands (whos.Actor (Client d))
+    (b : ActorName) → whos.Actor b ≢ who → hand_at new.hands (whos.Actor b) ≡ hand_at old.hands (whos.Actor b)
 KeepsOthers event old new = Unit {0}
 
 -- the moment after an event; the first is the one before it

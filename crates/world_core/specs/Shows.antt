@@ -76,10 +76,15 @@ abbrev pub pending_of : List TableState → ActorName → PendingCalls
 pending_of tables (Client c) = pending_by tables c
 pending_of tables (Node r) = no_pending
 
--- the number of an actor's next call; no node has begun one yet
-abbrev pub next_of : List TableState → ActorName → ℕ
-next_of tables (Client c) = next_in (slice_get tables c)
-next_of tables (Node r) = 1
+-- the number of a node's next call; 1 of what is none of the nodes
+abbrev pub number_in : Option ℕ → ℕ
+number_in None = 1
+number_in (Some n) = n
+
+-- the number of an actor's next call
+abbrev pub next_of : World → ActorName → ℕ
+next_of w (Client c) = next_in (slice_get w.tables c)
+next_of w (Node r) = number_in (slice_get w.numbers r)
 
 -- ---- the calls in hand
 
@@ -111,7 +116,7 @@ machine_of w h = record {
   snapshots = λ k. snapshot_shown w.cluster w.snapshots k (h.copied k);
   tables = tables_of w.tables;
   pending = pending_of w.tables;
-  next = next_of w.tables;
+  next = next_of w;
   in_hand = hand_of h w.hands;
 }
 
@@ -167,6 +172,7 @@ pub record Does (old new : World) (label : Label) : Type 0 where
 -- no count is at its end
 pub record HasNumbersLeft (w : World) : Type 0 where
   pub next : (c : ℕ) → next_in (slice_get w.tables c) < 2 ^ 32 - 1
+  pub copies : (r : ℕ) → number_in (slice_get w.numbers r) < 2 ^ 32 - 1
   pub handles : (c : ℕ) → (kept_by w.tables c).last_number < 2 ^ 32 - 1
   pub iterations : (c : ℕ) → (kept_by w.tables c).last_iteration < 2 ^ 32 - 1
   pub updates : (k r : ℕ) (x : Replica) → complete_replica w.cluster w.nodes k r ≡ Some x → x.count < 2 ^ 64 - 1

@@ -41,6 +41,6 @@ hand_most (Some h) = most_steps h.driver
 abbrev pub most_left : World → Who → ℕ
 most_left w v = hand_most (hand_at w.hands v)
 
--- behind any run at most 41 steps are left of an update on all replicas that is in hand, and at most 66 of any other call
+-- behind any run at most 41 steps are left of an update on all replicas that is in hand, at most 736 of a copying, and at most 66 of any other call
 abbrev pub FewAreLeft : Type 0
 FewAreLeft = (w : World) (log : List Label) (v : Who) → IsRunTo w log → left_of w v ≤ most_left w v

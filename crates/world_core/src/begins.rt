@@ -16,12 +16,13 @@ ghost use Rattle.ckpt_types.specs.Limits.{client_numbers, nodes_max};
 ghost use Rattle.run_labels.specs.declared.labels.Label.TheVariants as labels;
 ghost use Rattle.run_labels.specs.declared.words.LineWord.TheVariants as linewords;
 ghost use Rattle.cluster_record.specs.RecordState.{empty_record};
-ghost use Rattle.ckpt_types.specs.Asks.{asked, IsBuilt};
-ghost use Rattle.cluster_record.specs.Calls.{client_of, IsClient};
+ghost use Rattle.ckpt_types.specs.Asks.{MayAsk, asked, IsBuilt};
+ghost use Rattle.cluster_record.specs.Calls.{client_of};
 ghost use Rattle.ckpt_machine.specs.Driving.{driver_start};
 ghost use Rattle.ckpt_machine.specs.Due.{MayBegin, declared_at, kept_at_beginning, room_at};
 ghost use Rattle.ckpt_machine.specs.Tables.{ckpt_of_handle};
 ghost use Rattle.client_calls.specs.HandRooms.{copy_room_for, room_for};
+ghost use Rattle.client_calls.specs.Names.{IsClientOf};
 ghost use Rattle.world_core.specs.Shows.{IsShown, HasNumbersLeft};
 ghost use Rattle.world_core.specs.Happenings.{Adds, BringsUp, Begins};
 
@@ -58,11 +59,12 @@ impl World {
         log: &mut RunLog,
     ) -> Result<(), AllocError>
         requires client { c < client_numbers }
+        requires asker { MayAsk (Client c) (asked op) }
         requires built { IsBuilt op }
         requires shown { IsShown self.old }
         requires roomy { HasNumbersLeft self.old }
         requires spare { 1 ≤ log.old.spare }
-        ensures ok { OnOk result (Adds log.old log.new (Begins c op self.old self.new)) }
+        ensures ok { OnOk result (Adds log.old log.new (Begins (Client c) op self.old self.new)) }
         ensures err { OnErr result ((self.new ≡ self.old) × (log.new.labels ≡ log.old.labels)) }
     {
         if let Some(word) = self.word_for(c, &op) {
@@ -75,9 +77,10 @@ impl World {
     // The word that answers the line of a client, where its call may not begin.
     fn word_for(&self, c: u8, op: &Op) -> Option<Said>
         requires client { c < client_numbers }
+        requires asker { MayAsk (Client c) (asked op.now) }
         requires built { IsBuilt op.now }
         requires shown { IsShown self.now }
-        ensures { MatchOption result ((hand_at self.now.hands (Actor (Client c)) ≡ None) × MayBegin self.now.cluster c (asked op.now)) (λ word. Begins c op.now self.now self.now (labels.Word (Actor (Client c)) (linewords.Op (word_of_op op.now)) word)) }
+        ensures { MatchOption result ((hand_at self.now.hands (Actor (Client c)) ≡ None) × MayBegin self.now.cluster (Client c) (asked op.now)) (λ word. Begins (Client c) op.now self.now self.now (labels.Word (Actor (Client c)) (linewords.Op (word_of_op op.now)) word)) }
     {
         if self.hands.of_client(c).is_some() {
             return Some(Said::Busy);
@@ -102,13 +105,14 @@ impl World {
         log: &mut RunLog,
     ) -> Result<(), AllocError>
         requires client { c < client_numbers }
+        requires asker { MayAsk (Client c) (asked op) }
         requires built { IsBuilt op }
         requires none { hand_at self.old.hands (Actor (Client c)) ≡ None }
-        requires may { MayBegin self.old.cluster c (asked op) }
+        requires may { MayBegin self.old.cluster (Client c) (asked op) }
         requires shown { IsShown self.old }
         requires roomy { HasNumbersLeft self.old }
         requires spare { 1 ≤ log.old.spare }
-        ensures ok { OnOk result (Adds log.old log.new (Begins c op self.old self.new)) }
+        ensures ok { OnOk result (Adds log.old log.new (Begins (Client c) op self.old self.new)) }
         ensures err { OnErr result ((self.new ≡ self.old) × (log.new.labels ≡ log.old.labels)) }
     {
         let table = self.tables.get(c);
@@ -141,7 +145,7 @@ impl World {
         requires shown { IsShown self.old }
         requires roomy { HasNumbersLeft self.old }
         requires spare { 1 ≤ log.old.spare }
-        ensures ok { OnOk result (Adds log.old log.new (Begins c op self.old self.new)) }
+        ensures ok { OnOk result (Adds log.old log.new (Begins (Client c) op self.old self.new)) }
         ensures err { OnErr result ((self.new ≡ self.old) × (log.new.labels ≡ log.old.labels)) }
     {
         let mut end = end;
@@ -172,7 +176,7 @@ impl World {
         requires shown { IsShown self.old }
         requires roomy { HasNumbersLeft self.old }
         requires spare { 1 ≤ log.old.spare }
-        ensures ok { OnOk result (Adds log.old log.new (Begins c op self.old self.new)) }
+        ensures ok { OnOk result (Adds log.old log.new (Begins (Client c) op self.old self.new)) }
         ensures err { OnErr result ((self.new ≡ self.old) × (log.new.labels ≡ log.old.labels)) }
     {
         let hand = begin_hand(call, &op, handle, &self.cluster, rooms)?;
@@ -203,7 +207,7 @@ impl World {
         requires begins { IsAnsweredAtOnce self.old c call op.now handle.now end.old }
         requires shown { IsShown self.old }
         requires roomy { HasNumbersLeft self.old }
-        ensures ok { IfOk result (λ details. Begins c op.now self.old self.new (labels.Began call op.now (Some end.new) details)) }
+        ensures ok { IfOk result (λ details. Begins (Client c) op.now self.old self.new (labels.Began call op.now (Some end.new) details)) }
         ensures err { OnErr result (self.new ≡ self.old) }
     {
         let Outcome::Done(_) = end else {
@@ -258,7 +262,7 @@ impl World {
         requires alone { is_async (word_of_op op.now) ≡ true }
         requires shown { IsShown self.old }
         requires roomy { HasNumbersLeft self.old }
-        ensures { Begins c op.now self.old self.new (labels.Began call op.now (Some result) beside.Nothing) }
+        ensures { Begins (Client c) op.now self.old self.new (labels.Began call op.now (Some result) beside.Nothing) }
     {
         let Ok(()) = put_alone(alloc, &mut self.hands, call, op, handle, &self.cluster) else {
             let end = Outcome::NoMemory;
@@ -294,9 +298,9 @@ fn put_alone(
     handle: &Option<HandleView>,
     cluster: &Record,
 ) -> Result<(), AllocError>
-    requires client { IsClient call.actor }
-    requires goes_on { IsSome (driver_start call (asked op.now) (kept_at_beginning cluster.now (client_of call) handle.now)) }
-    ensures ok { OnOk result (IsPutAlone call op.now (kept_at_beginning cluster.now (client_of call) handle.now) hands.old hands.new) }
+    requires asker { IsClientOf call.actor (asked op.now) }
+    requires goes_on { IsSome (driver_start call (asked op.now) (kept_at_beginning cluster.now call.actor handle.now)) }
+    ensures ok { OnOk result (IsPutAlone call op.now (kept_at_beginning cluster.now call.actor handle.now) hands.old hands.new) }
     ensures err { OnErr result (hands.new ≡ hands.old) }
 {
     let rooms = rooms_of(alloc, op, cluster, handle)?;

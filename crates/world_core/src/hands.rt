@@ -1,11 +1,12 @@
 //! The calls in hand.
-ghost use Rattle.std.specs.Prelude.{◌≡◌, ◌<◌, length, map, replicate, Some, None, [], IfOk, OnOk, OnErr, slice_get, IsSome, MatchOption};
+ghost use Rattle.std.specs.Prelude.{◌≡◌, ◌<◌, length, map, replicate, Some, None, [], IfOk, OnOk, OnErr, slice_get, is_some, IsSome, MatchOption};
 ghost use Rattle.std.specs.Borrow.{sem};
-ghost use Rattle.ckpt_types.specs.Limits.{client_numbers};
+ghost use Rattle.ckpt_types.specs.Limits.{client_numbers, nodes_max};
 ghost use Rattle.cluster_record.specs.Calls.{client_of, IsClient};
-ghost use Rattle.world_core.specs.HandLending.{LendsHand};
-ghost use Rattle.ckpt_types.specs.declared.identities.ActorName.TheVariants.{Client};
-ghost use Rattle.ckpt_types.specs.declared.identities.Who.TheVariants.{Actor};
+ghost use Rattle.world_core.specs.HandLending.{LendsCopy, LendsHand};
+ghost use Rattle.ckpt_types.specs.declared.identities.ActorName.TheVariants.{Client, Node};
+ghost use Rattle.ckpt_types.specs.declared.identities.Who.TheVariants.{Actor, Call};
+ghost use Rattle.client_calls.specs.Names.{IsClientName};
 ghost use Rattle.cluster_record.specs.Places.{or_none};
 ghost use Rattle.ckpt_machine.specs.After.{goes_with};
 ghost use Rattle.client_calls.specs.Abandoning.{calls_left, place_left};
@@ -16,19 +17,22 @@ ghost use Rattle.world_core.specs.HandsState.{alone_in, hand_at, with_alone, wit
 ghost use Rattle.client_calls.specs.AlonePlaces.{found_alone};
 
 use call_dispatch::Pending;
-use ckpt_types::{ActorName, CLIENT_NUMBERS, CallId, NodeId, Who};
-use client_calls::{AloneCalls, InHand, unless_abandoned};
+use ckpt_types::{ActorName, CLIENT_NUMBERS, CallId, NODES_MAX, NodeId, Who};
+use client_calls::{AloneCalls, CopyHand, InHand, copy_unless_abandoned, unless_abandoned};
 use cluster_record::Record;
 use std::alloc::{AllocError, Global};
 use std::marker::Model;
 
-/// The call in hand of each client, c0 to c99, and the asynchronous calls that go on by themselves.
+/// The call in hand of each client, c0 to c99, the asynchronous calls that go on by themselves, and the copying of each
+/// node.
 #[derive(Drop)]
 pub struct Hands {
     /// By client, a place for each.
     clients: Vec<Option<InHand>>,
     /// By client, its asynchronous calls.
     alone: Vec<AloneCalls>,
+    /// By node, its copying.
+    nodes: [Option<CopyHand>; NODES_MAX],
 }
 
 impl Model for Hands {
@@ -48,23 +52,52 @@ impl Hands {
     pub fn new(alloc: Global) -> Result<Hands, AllocError>
         ensures clients { IfOk result (λ hands. hands.clients ≡ replicate client_numbers None) }
         ensures alone { IfOk result (λ hands. hands.alone ≡ replicate client_numbers []) }
+        ensures nodes { IfOk result (λ hands. hands.nodes ≡ replicate nodes_max None) }
     {
         Ok(Hands {
             clients: new_places(alloc)?,
             alone: new_lists(alloc)?,
+            nodes: [None, None, None, None, None, None, None, None],
         })
     }
 
-    /// The call in hand under a name.
+    /// Whether a call is in hand under a name.
     #[inline(always)]
-    pub fn find(&self, who: Who) -> Option<&InHand>
-        ensures { MatchOption result (hand_at self.now who ≡ None) (λ hand. hand_at self.now who ≡ Some hand.now) }
+    pub fn has(&self, who: Who) -> bool
+        ensures { result ≡ is_some (hand_at self.now who) }
     {
         match who {
-            Who::Actor(ActorName::Client(c)) => find(self.clients.as_slice(), c as usize),
-            Who::Actor(ActorName::Node(_)) => None,
-            Who::Call(call) => find_kept(self.alone.as_slice(), call),
+            Who::Actor(ActorName::Client(c)) => {
+                find(self.clients.as_slice(), c as usize).is_some()
+            }
+            Who::Actor(ActorName::Node(r)) => self.of_node(r).is_some(),
+            Who::Call(call) => self.of_call(call).is_some(),
         }
+    }
+
+    /// The asynchronous call of that name.
+    #[inline(always)]
+    pub fn of_call(&self, call: CallId) -> Option<&InHand>
+        ensures { MatchOption result (hand_at self.now (Call call) ≡ None) (λ hand. hand_at self.now (Call call) ≡ Some hand.now) }
+    {
+        find_kept(self.alone.as_slice(), call)
+    }
+
+    /// The copying of a node.
+    pub fn of_node(&self, r: NodeId) -> Option<&CopyHand>
+        ensures { MatchOption result (hand_at self.now (Actor (Node r)) ≡ None) (λ hand. hand_at self.now (Actor (Node r)) ≡ Some hand.now) }
+    {
+        find_copy(&self.nodes, r as usize)
+    }
+
+    /// The place of a node, for its copying.
+    pub fn at_node(&mut self, r: NodeId) -> &mut Option<CopyHand>
+        requires { r < nodes_max }
+        ensures* lends { sem 𝓛 (LendsCopy self.entry (Actor (Node r)) result) }
+        ensures value { hand_at self.old (Actor (Node r)) ≡ result.now }
+        ensures there { r < length self.old.nodes }
+    {
+        &mut self.nodes[r as usize]
     }
 
     /// The call in hand of a client.
@@ -87,10 +120,11 @@ impl Hands {
         &mut self.clients[c as usize]
     }
 
-    /// The place of a call that is in hand.
+    /// The place of a client's call that is in hand.
     #[inline(always)]
     pub fn at(&mut self, who: Who) -> &mut Option<InHand>
-        requires { IsSome (hand_at self.old who) }
+        requires client { IsClientName who }
+        requires there { IsSome (hand_at self.old who) }
         ensures* lends { sem 𝓛 (LendsHand self.entry who result) }
         ensures value { hand_at self.old who ≡ result.now }
     {
@@ -152,6 +186,7 @@ impl Hands {
     {
         leave_places(self.clients.as_mut_slice(), cluster, node);
         leave_calls(self.alone.as_mut_slice(), cluster, node);
+        leave_copies(&mut self.nodes, cluster, node);
     }
 }
 
@@ -160,6 +195,14 @@ fn leave_places(places: &mut [Option<InHand>], cluster: &Record, node: NodeId)
 {
     for place in places.iter_mut() {
         unless_abandoned(place, cluster, node);
+    }
+}
+
+fn leave_copies(places: &mut [Option<CopyHand>], cluster: &Record, node: NodeId)
+    ensures { places.new ≡ map (place_left cluster.now node) places.old }
+{
+    for place in places.iter_mut() {
+        copy_unless_abandoned(place, cluster, node);
     }
 }
 
@@ -196,6 +239,15 @@ fn find(list: &[Option<InHand>], c: usize) -> Option<&InHand>
     ensures { MatchOption result (or_none (slice_get list.now c) ≡ None) (λ hand. or_none (slice_get list.now c) ≡ Some hand.now) }
 {
     match list.get(c) {
+        None => None,
+        Some(hand) => hand.as_ref(),
+    }
+}
+
+fn find_copy(list: &[Option<CopyHand>], r: usize) -> Option<&CopyHand>
+    ensures { MatchOption result (or_none (slice_get list.now r) ≡ None) (λ hand. or_none (slice_get list.now r) ≡ Some hand.now) }
+{
+    match list.get(r) {
         None => None,
         Some(hand) => hand.as_ref(),
     }

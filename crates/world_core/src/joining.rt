@@ -32,7 +32,6 @@ impl World {
         if self.cluster.is_up(r) {
             return None;
         }
-        // No node has begun a call yet.
-        Some(self.cluster.join(r, 1))
+        Some(self.cluster.join(r, self.numbers[r as usize]))
     }
 }

@@ -3,6 +3,7 @@
 
 mod applying;
 mod begins;
+mod copying;
 mod failing;
 mod gone;
 mod hands;

@@ -76,17 +76,18 @@ impl World {
     pub(crate) fn step_alone(
         &mut self,
         alloc: Global,
-        who: Who,
+        call: CallId,
         finish: bool,
         log: &mut RunLog,
     ) -> Result<(), AllocError>
         requires shown { IsShown self.old }
         requires roomy { HasNumbersLeft self.old }
         requires spare { 1 ≤ log.old.spare }
-        ensures ok { OnOk result (Adds log.old log.new (λ label. IsStep who self.old self.new label ⊎ IsIdle who finish self.old self.new label)) }
+        ensures ok { OnOk result (Adds log.old log.new (λ label. IsStep (whos.Call call) self.old self.new label ⊎ IsIdle (whos.Call call) finish self.old self.new label)) }
         ensures err { OnErr result ((self.new ≡ self.old) × (log.new.labels ≡ log.old.labels)) }
     {
-        let Some(hand) = self.hands.find(who) else {
+        let who = Who::Call(call);
+        let Some(hand) = self.hands.of_call(call) else {
             log.push(idle_label(who, finish));
             return Ok(());
         };
@@ -144,6 +145,8 @@ impl World {
             Next::Event(RecordStep::Enter) => self.enter_step(alloc, who, log),
             Next::Event(RecordStep::Hold(r)) => self.hold_step(who, r, log),
             Next::Event(RecordStep::Activate(r)) => self.activate_step(who, r, log),
+            // A node's copying alone comes to that.
+            Next::Event(RecordStep::Complete(_, _, _)) => unreachable!(),
             Next::Event(step) => self.record_step(alloc, who, step, log),
             Next::End(end) => self.look_step(who, end, log),
         }

@@ -157,8 +157,8 @@ fn refuse_stage(
     requires next { (h : InHand) → slot.old ≡ Some h → AsksNode cluster.now h.driver r request.now }
     requires node { r < nodes_max }
     requires spare { 1 ≤ log.old.spare }
-    ensures slot { (h : InHand) → slot.old ≡ Some h → slot.new ≡ left (end_by (served_done cluster.now request.now r (reply_refused refused)) (reply_refused refused) h) (hand_taken (served_done cluster.now request.now r (reply_refused refused)) h) }
-    ensures label { (h : InHand) → slot.old ≡ Some h → log.new.labels ≡ log.old.labels ++ labels.Stepped h.call (word_of_op h.op) (verb_of request.now) (Some (ckpt_of request.now)) (Some r) (word_of (reply_refused refused)) (end_by (served_done cluster.now request.now r (reply_refused refused)) (reply_refused refused) h) beside.Nothing ∷ [] }
+    ensures slot { (h : InHand) → slot.old ≡ Some h → slot.new ≡ left (end_by cluster.now (served_done cluster.now request.now r (reply_refused refused)) (reply_refused refused) h) (hand_taken (served_done cluster.now request.now r (reply_refused refused)) h) }
+    ensures label { (h : InHand) → slot.old ≡ Some h → log.new.labels ≡ log.old.labels ++ labels.Stepped h.call (word_of_op h.op) (verb_of request.now) (Some (ckpt_of request.now)) (Some r) (word_of (reply_refused refused)) (end_by cluster.now (served_done cluster.now request.now r (reply_refused refused)) (reply_refused refused) h) beside.Nothing ∷ [] }
 {
     let Some(hand) = slot else { unreachable!() };
     let call = hand.call;

@@ -12,7 +12,7 @@ use crate::hands::Hands;
 use crate::snapshots::Snapshots;
 use crate::tables::Tables;
 use ckpt_machine::machine_law;
-use ckpt_types::{ActorName, CkptId, Moment, NodeId, Op, Who};
+use ckpt_types::{ActorName, CkptId, Moment, NODES_MAX, NodeId, Op, Who};
 use cluster_nodes::Nodes;
 use cluster_record::Record;
 use run_labels::RunLog;
@@ -23,7 +23,7 @@ use std::alloc::{AllocError, Global};
 pub enum Event {
     /// The first nodes come up, so many.
     Nodes(u8),
-    /// A call begins.
+    /// A call begins: of a client, or the copying of a node.
     Begin(ActorName, Op),
     /// A call takes its next step; the bool tells that a `finish` line asks for it.
     Step(Who, bool),
@@ -54,6 +54,8 @@ pub struct World {
     pub(crate) tables: Tables,
     /// The calls in hand.
     pub(crate) hands: Hands,
+    /// By node, the number of its next call.
+    pub(crate) numbers: [u32; NODES_MAX],
 }
 
 impl World {
@@ -71,6 +73,7 @@ impl World {
             snapshots: Snapshots::new(alloc),
             tables,
             hands,
+            numbers: [1; NODES_MAX],
         })
     }
 }
@@ -85,7 +88,7 @@ pub trait Cluster {
     fn record(&self) -> &Record
         ensures { result.now ≡ record_in (shown self.now) };
 
-    /// Whether a call is in hand under a name: that of a client, or that of an asynchronous call.
+    /// Whether a call is in hand under a name: that of a client or a node, or that of an asynchronous call.
     fn in_hand(&self, who: Who) -> bool
         ensures { result ≡ is_some (call_in_hand (shown self.now) who) };
 
@@ -112,7 +115,7 @@ impl Cluster for World {
     }
 
     fn in_hand(&self, who: Who) -> bool {
-        self.hands.find(who).is_some()
+        self.hands.has(who)
     }
 
     // Put in line: a call would move the event once more.
@@ -156,10 +159,17 @@ impl World {
                 Ok(())
             }
             Event::Begin(ActorName::Client(c), op) => self.begin(alloc, c, op, log),
+            Event::Begin(ActorName::Node(r), _) => {
+                self.begin_copy(alloc, r, log);
+                Ok(())
+            }
             Event::Step(Who::Actor(ActorName::Client(c)), finish) => {
                 self.step(alloc, c, finish, log)
             }
-            Event::Step(who, finish) => self.step_alone(alloc, who, finish, log),
+            Event::Step(Who::Actor(ActorName::Node(r)), finish) => {
+                self.step_copy(alloc, r, finish, log)
+            }
+            Event::Step(Who::Call(call), finish) => self.step_alone(alloc, call, finish, log),
             Event::Show(ckpt) => self.show(alloc, ckpt, log),
             Event::At(t) => {
                 self.at(t, log);
@@ -181,7 +191,6 @@ impl World {
                 self.join(r, log);
                 Ok(())
             }
-            _ => unreachable!(),
         }
     }
 }

@@ -27,6 +27,9 @@ returns-clause-asked g c = (c.machine_law.ensures.promises c.run_command.new.log
 pub returns-clause-owners : goal.returns-clause-owners
 returns-clause-owners g c = (c.machine_law.ensures.promises c.run_command.new.log.labels c.run_command.ensures.run.run).owners
 
+pub returns-clause-copies : goal.returns-clause-copies
+returns-clause-copies g c = (c.machine_law.ensures.promises c.run_command.new.log.labels c.run_command.ensures.run.run).copies
+
 pub returns-clause-actives : goal.returns-clause-actives
 returns-clause-actives g c = (c.machine_law.ensures.promises c.run_command.new.log.labels c.run_command.ensures.run.run).actives
 

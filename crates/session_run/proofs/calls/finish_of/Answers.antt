@@ -22,12 +22,12 @@ returns-then-not-in_hand-clause-front g c =
 
 pub finish-requires-clause-room : goal.finish-requires-clause-room
 finish-requires-clause-room g c =
-    let few : left_of (g.W.Cluster.shown c.args.world.now) c.args.who ≤ 66 = few_of_any c.world_law.ensures.few (g.W.Cluster.shown c.args.world.now) c.args.log.now.labels c.args.who c.requires.run in
+    let few : left_of (g.W.Cluster.shown c.args.world.now) c.args.who ≤ 736 = few_of_any c.world_law.ensures.few (g.W.Cluster.shown c.args.world.now) c.args.log.now.labels c.args.who c.requires.run in
     omega (arith, few, c.requires.room)
 
 pub returns-clause-few : goal.returns-clause-few
 returns-clause-few g c =
-    let few : left_of (g.W.Cluster.shown c.args.world.now) c.args.who ≤ 66 = few_of_any c.world_law.ensures.few (g.W.Cluster.shown c.args.world.now) c.args.log.now.labels c.args.who c.requires.run in
+    let few : left_of (g.W.Cluster.shown c.args.world.now) c.args.who ≤ 736 = few_of_any c.world_law.ensures.few (g.W.Cluster.shown c.args.world.now) c.args.log.now.labels c.args.who c.requires.run in
     omega (arith, few, c.finish.ensures.few)
 
 pub returns-clause-answers : goal.returns-clause-answers

@@ -14,14 +14,14 @@ pub returns-then-in_hand-clause-answers : goal.returns-then-in_hand-clause-answe
 returns-then-in_hand-clause-answers g c =
     let held = sym c.in_hand.ensures ∙ c.if-in_hand.true in
     OnOk-map c.begin.result c.begin.ensures.happens (λ h.
-    (h.label ∷ [], h.grows, busy_alone c.args.client c.args.op.now (g.W.Cluster.shown c.args.world.now) (g.W.Cluster.shown c.begin.new.world) c.args.log.now.labels c.begin.new.log.labels h.label c.requires.run c.begin.ensures.run h.grows h.answers held))
+    (h.label ∷ [], h.grows, busy_alone (Client c.args.client) c.args.op.now (g.W.Cluster.shown c.args.world.now) (g.W.Cluster.shown c.begin.new.world) c.args.log.now.labels c.begin.new.log.labels h.label c.requires.run c.begin.ensures.run h.grows h.answers held))
 
 pub returns-then-in_hand-clause-front : goal.returns-then-in_hand-clause-front
 returns-then-in_hand-clause-front g c =
     let held = sym c.in_hand.ensures ∙ c.if-in_hand.true in
-    towards_begun c.begin.result c.args.log.now.labels c.begin.new.log.labels (could_begin c.args.client c.args.op.now) (could_begin-whole (last c.args.log.now.labels) c.args.client c.args.op.now) c.begin.ensures.err
+    towards_begun c.begin.result c.args.log.now.labels c.begin.new.log.labels (could_begin (Client c.args.client) c.args.op.now) (could_begin-whole (last c.args.log.now.labels) (Client c.args.client) c.args.op.now) c.begin.ensures.err
     (OnOk-map c.begin.result c.begin.ensures.happens (λ h.
-    (h.label ∷ [], h.grows, busy_alone c.args.client c.args.op.now (g.W.Cluster.shown c.args.world.now) (g.W.Cluster.shown c.begin.new.world) c.args.log.now.labels c.begin.new.log.labels h.label c.requires.run c.begin.ensures.run h.grows h.answers held)))
+    (h.label ∷ [], h.grows, busy_alone (Client c.args.client) c.args.op.now (g.W.Cluster.shown c.args.world.now) (g.W.Cluster.shown c.begin.new.world) c.args.log.now.labels c.begin.new.log.labels h.label c.requires.run c.begin.ensures.run h.grows h.answers held)))
 
 -- ---- none is
 
@@ -45,15 +45,15 @@ returns-clause-answers g c =
     let idle = none_if_not (hand_at (g.W.Cluster.shown c.args.world.now).hands (Actor (Client c.args.client))) (sym c.in_hand.ensures ∙ c.if-in_hand.false) in
     OnOk-map c.finish.result c.finish.ensures.steps (λ f.
     GrowsBy-begin c.args.log.now.labels c.begin-2.new.log.labels c.finish.new.log.labels h.label h.grows f
-    (λ more goes. begin_grows c.args.client c.args.op.now (g.W.Cluster.shown c.args.world.now) (g.W.Cluster.shown c.begin-2.new.world) c.args.log.now.labels c.begin-2.new.log.labels h.label more c.requires.run c.begin-2.ensures.run h.grows h.answers idle goes))
+    (λ more goes. begin_grows (Client c.args.client) c.args.op.now (g.W.Cluster.shown c.args.world.now) (g.W.Cluster.shown c.begin-2.new.world) c.args.log.now.labels c.begin-2.new.log.labels h.label more c.requires.run c.begin-2.ensures.run h.grows h.answers idle goes))
 
 pub returns-clause-front : goal.returns-clause-front
 returns-clause-front g c =
     let h = c.in_ok-begin.ensures.happens in
     let idle = none_if_not (hand_at (g.W.Cluster.shown c.args.world.now).hands (Actor (Client c.args.client))) (sym c.in_hand.ensures ∙ c.if-in_hand.false) in
     towards_begin c.args.log.now.labels c.begin-2.new.log.labels c.finish.new.log.labels h.label h.grows c.finish.ensures.front
-    (λ more goes. begin_grows c.args.client c.args.op.now (g.W.Cluster.shown c.args.world.now) (g.W.Cluster.shown c.begin-2.new.world) c.args.log.now.labels c.begin-2.new.log.labels h.label more c.requires.run c.begin-2.ensures.run h.grows h.answers idle goes)
+    (λ more goes. begin_grows (Client c.args.client) c.args.op.now (g.W.Cluster.shown c.args.world.now) (g.W.Cluster.shown c.begin-2.new.world) c.args.log.now.labels c.begin-2.new.log.labels h.label more c.requires.run c.begin-2.ensures.run h.grows h.answers idle goes)
 
 pub returns-in_err-begin-clause-front : goal.returns-in_err-begin-clause-front
 returns-in_err-begin-clause-front g c =
-    towards_one c.args.log.now.labels c.begin-2.new.log.labels (could_begin c.args.client c.args.op.now) c.in_err-begin.ensures.err (could_begin-whole (last c.args.log.now.labels) c.args.client c.args.op.now)
+    towards_one c.args.log.now.labels c.begin-2.new.log.labels (could_begin (Client c.args.client) c.args.op.now) c.in_err-begin.ensures.err (could_begin-whole (last c.args.log.now.labels) (Client c.args.client) c.args.op.now)

@@ -90,3 +90,8 @@ pub returns-in-Propagate-clause-front : goal.returns-in-Propagate-clause-front
 returns-in-Propagate-clause-front g c =
     let old = c.args.log.now.labels in
     subst (λ (line : Line). GrowsTowards old c.propagate.new.log.labels (AnswersLine (last old) line)) (sym c.in-Propagate.is) c.propagate.ensures.front
+
+pub returns-in-Copy-clause-front : goal.returns-in-Copy-clause-front
+returns-in-Copy-clause-front g c =
+    let old = c.args.log.now.labels in
+    subst (λ (line : Line). GrowsTowards old c.play_copy.new.log.labels (AnswersLine (last old) line)) (sym c.in-Copy.is) c.play_copy.ensures.front

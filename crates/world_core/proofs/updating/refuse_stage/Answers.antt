@@ -23,7 +23,7 @@ returns-clause-slot c h is =
     let reply : c.reply_refused-reply.result ≡ reply_refused c.args.refused = c.reply_refused-reply.ensures in
     let asks = c.requires.next c.in-Some.hand c.in-Some.is in
     let taken = c.take-end.ensures.new ∙ hand_keeps R c.reply_refused-reply.result c.args.r request _ asks ∙ (λ i. hand_taken (served_done R request c.args.r (reply i)) (same i)) in
-    let end = c.take-end.ensures.outcome ∙ hand_ends R c.reply_refused-reply.result c.args.r request _ c.take-end.new.self asks c.take-end.ensures.new ∙ (λ i. hand_end (served_done R request c.args.r (reply i)) (reply i) (taken i)) in
+    let end = c.take-end.ensures.outcome ∙ hand_ends R c.reply_refused-reply.result c.args.r request _ c.take-end.new.self asks c.take-end.ensures.new ∙ (λ i. hand_end R (served_done R request c.args.r (reply i)) (reply i) (taken i)) in
     c.let_go.ensures ∙ (λ i. left (end i) (taken i))
 
 pub returns-clause-label : goal.returns-clause-label
@@ -34,7 +34,7 @@ returns-clause-label c h is =
     let reply : c.reply_refused-reply.result ≡ reply_refused c.args.refused = c.reply_refused-reply.ensures in
     let asks = c.requires.next c.in-Some.hand c.in-Some.is in
     let taken = c.take-end.ensures.new ∙ hand_keeps R c.reply_refused-reply.result c.args.r request _ asks ∙ (λ i. hand_taken (served_done R request c.args.r (reply i)) (same i)) in
-    let end = c.take-end.ensures.outcome ∙ hand_ends R c.reply_refused-reply.result c.args.r request _ c.take-end.new.self asks c.take-end.ensures.new ∙ (λ i. hand_end (served_done R request c.args.r (reply i)) (reply i) (taken i)) in
+    let end = c.take-end.ensures.outcome ∙ hand_ends R c.reply_refused-reply.result c.args.r request _ c.take-end.new.self asks c.take-end.ensures.new ∙ (λ i. hand_end R (served_done R request c.args.r (reply i)) (reply i) (taken i)) in
     let word : c.word-op.result ≡ word_of_op h.op = c.word-op.ensures ∙ ap (λ (h : InHand). word_of_op h.op) same in
     c.push.ensures.labels
     ∙ ap (λ (l : Label). c.args.log.now.labels ++ l ∷ [])

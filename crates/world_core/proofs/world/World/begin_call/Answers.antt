@@ -15,7 +15,7 @@ begin_at_once-requires-clause-begins c =
     let t = c.get-table.result.now in
     let there = c.get-table.ensures in
     let handle = c.handle_asked-handle.result in
-    next_begun w n c.number.result c.args.op handle c.is_live_client-live.result c.begin_end-due.result (Some c.in-Some.end) c.requires.client (within w.tables n t there) c.requires.built c.requires.none c.requires.may
+    next_begun w n c.number.result c.args.op handle c.is_live_client-live.result c.begin_end-due.result (Some c.in-Some.end) c.requires.client (within w.tables n t there) c.requires.asker c.requires.built c.requires.none c.requires.may
     (c.number.ensures ∙ sym (next_is w.tables n t there)) (c.handle_asked-handle.ensures ∙ ap (handle_asked (asked c.args.op)) (sym (kept_is w.tables n t there))) c.is_live_client-live.ensures
     (c.begin_end-due.ensures ∙ ap (λ st. begin_end st (asked c.args.op)) (standing_is w.tables n t there c.is_live_client-live.result handle))
     (subst (λ o. IsBeginEnd (asked c.args.op) c.begin_end-due.result o) c.in-Some.is c.take_room-end.ensures.end)
@@ -27,7 +27,7 @@ begin_in_hand-requires-clause-begins c =
     let t = c.get-table.result.now in
     let there = c.get-table.ensures in
     let handle = c.handle_asked-handle.result in
-    next_begun w n c.number.result c.args.op handle c.is_live_client-live.result c.begin_end-due.result None c.requires.client (within w.tables n t there) c.requires.built c.requires.none c.requires.may
+    next_begun w n c.number.result c.args.op handle c.is_live_client-live.result c.begin_end-due.result None c.requires.client (within w.tables n t there) c.requires.asker c.requires.built c.requires.none c.requires.may
     (c.number.ensures ∙ sym (next_is w.tables n t there)) (c.handle_asked-handle.ensures ∙ ap (handle_asked (asked c.args.op)) (sym (kept_is w.tables n t there))) c.is_live_client-live.ensures
     (c.begin_end-due.ensures ∙ ap (λ st. begin_end st (asked c.args.op)) (standing_is w.tables n t there c.is_live_client-live.result handle))
     (subst (λ o. IsBeginEnd (asked c.args.op) c.begin_end-due.result o) c.in-None.is c.take_room-end.ensures.end)

@@ -31,7 +31,7 @@ returns c =
       label = _;
       labels = c.push.ensures.labels;
       is = subst (λ (label : Label). IsStep c.args.who w c.end_alone.new.self label) (sym c.looked.ensures)
-          (look_is w c.args.who c.args.due hand held (next_for w c.args.who (End c.args.due) hand held c.requires.next) c.end_alone.new.self c.making-making.result tables n c.handle_closed-closed.result c.word-op.result c.look_word-reply.result end c.look-end.result.1
+          (look_is w c.args.who c.requires.client c.args.due hand held (next_for w c.args.who (End c.args.due) hand held c.requires.next) c.end_alone.new.self c.making-making.result tables n c.handle_closed-closed.result c.word-op.result c.look_word-reply.result end c.look-end.result.1
           c.requires.shown (c.making-making.ensures ∙ ap (λ (h : InHand). making_in h.driver) taken) c.client_by-c.ensures
           (c.handle_closed-closed.ensures ∙ (λ i. handle_closed (asked (taken i).op) (sym (kept_is w.tables n t there) i)))
           (ap (slice_set w.tables n) (c.settle_look.ensures ∙ ap (λ (h : InHand). table_looked end h.op t) taken) ∙ looked_is w.tables n t there end hand.op) c.word-op.ensures c.look_word-reply.ensures c.look-end.ensures.end c.look-end.ensures.details

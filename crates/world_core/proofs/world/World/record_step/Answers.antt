@@ -21,7 +21,7 @@ use Rattle.world_core.specs.Alone.{ended_at}
 use Rattle.world_core.specs.Freeing.{freed_world}
 use Rattle.world_core.proofs.EventEnds.{done_ends, done_keeps, granted_at, kept_off_as}
 use Rattle.ckpt_machine.proofs.Granted.{granted_ok}
-use Rattle.ckpt_machine.proofs.Going.{length-behind}
+use Rattle.ckpt_machine.proofs.Going.{length-behind, plain_completes}
 use Rattle.world_core.proofs.HandLaws.{as_it_was, same_world, when_not_ok}
 use Rattle.world_core.proofs.Held.{next_for}
 use Rattle.world_core.proofs.NoneGone.{none_freed}
@@ -156,6 +156,6 @@ returns c =
       labels = c.push.ensures.labels;
       is = subst (λ (label : Label). IsStep c.args.who w c.end_alone.new.self label) (sym c.stepped.ensures)
           (event_step w c.args.who c.args.step hand held next c.requires.shown c.end_alone.new.self c.apply.new.cluster c.apply.new.nodes c.apply.new.snapshots (slice_set w.tables c.client_by-c.result c.settle.new.table) c.take_done-end.new.self c.let_go.new.slot c.client_by-c.result c.handle_closed-closed.result c.word-op.result c.verb-verb.result c.in-Ok.ckpt c.event_node-node.result c.take_done-end.result
-          granted.0 c.requires.plain c.requires.roomy c.requires.has_room eight record_is granted.1 c.event_node-node.ensures (c.take_done-end.ensures.outcome ∙ done_ends w c.args.who c.args.step hand held next c.requires.shown granted.0 c.apply.new.cluster c.in-Ok.ckpt record_is granted.1) tables_are
+          granted.0 c.requires.plain c.requires.roomy c.requires.has_room eight record_is granted.1 c.event_node-node.ensures (c.take_done-end.ensures.outcome ∙ done_ends w c.args.who c.args.step hand held next c.requires.shown (plain_completes c.args.step c.requires.plain) granted.0 c.apply.new.cluster c.in-Ok.ckpt record_is granted.1) tables_are
           (c.take_done-end.ensures.new ∙ done_keeps w c.args.who c.args.step hand held next c.requires.shown granted.0 c.apply.new.cluster c.in-Ok.ckpt c.event_node-node.result record_is granted.1 c.event_node-node.ensures) c.let_go.ensures nodes_are snapshots_are c.client_by-c.ensures closed_is new_is c.word-op.ensures c.verb-verb.ensures);
     }

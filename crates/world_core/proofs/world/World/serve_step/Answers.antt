@@ -50,7 +50,7 @@ returns-clause-ok c =
       is = subst (λ (z : World × Label). IsStep c.args.who w z.0 z.1) (λ i. (sym c.end_alone.ensures i, sym c.served.ensures i))
           (step_is w c.args.who c.args.r request hand (c.at-slot.ensures.value ∙ c.in-Some.is) c.requires.next c.requires.shown c.requires.roomy c.in_ok-lent.lent c.in_ok-lent.ensures.lent c.in_ok-lent.ensures.there c.client_by-c.result c.client_by-c.ensures
           _ c.lend_iteration.new.table c.at.ensures.value c.lend_iteration.new.hand (record c.lend_iteration.new.hand { snapshot = c.hand_over.new.from }) c.lend_iteration.result c.hand_over.new.to c.lend_iteration.ensures.hand (ap (λ copy. record c.lend_iteration.new.hand { snapshot = copy }) c.hand_over.ensures.from) c.lend_iteration.ensures.lent c.hand_over.ensures.to c.lend_iteration.ensures.table
-          c.serve-reply.result c.serve-reply.new.self c.serve-reply.new.lent c.take.result c.hand_over-2.new.to _ c.keep_iteration.new.table c.take-end.new.self c.tell-details.new.self c.let_go.new.slot c.take-end.result c.word-op.result (verb_of request) (ckpt_of request) (word_of c.serve-reply.result) c.tell-details.result
+          c.requires.client c.serve-reply.result c.serve-reply.new.self c.serve-reply.new.lent c.take.result c.hand_over-2.new.to _ c.keep_iteration.new.table c.take-end.new.self c.tell-details.new.self c.let_go.new.slot c.take-end.result c.word-op.result (verb_of request) (ckpt_of request) (word_of c.serve-reply.result) c.tell-details.result
           c.lend_iteration.ensures.valid (record { there = c.serve-reply.ensures.there; may = c.serve-reply.ensures.reply; nodes_are = c.serve-reply.ensures.new; details = c.serve-reply.ensures.details; iteration = c.serve-reply.ensures.iteration; snapshot = c.serve-reply.ensures.snapshot }) c.at-2.ensures.value c.take.ensures.value c.hand_over-2.ensures.to
           c.keep_iteration.ensures (c.take-end.ensures.new ∙ hand_keeps w.cluster c.serve-reply.result c.args.r request _ asks) (c.take-end.ensures.outcome ∙ hand_ends w.cluster c.serve-reply.result c.args.r request _ c.take-end.new.self asks c.take-end.ensures.new) (c.tell-details.ensures.made ∙ ap (λ told. left c.take-end.result (hand_made request c.serve-reply.result told c.take-end.new.self)) (told_still c.serve-reply.result c.serve-reply.new.lent c.take.new.self c.hand_over-2.new.from)) c.let_go.ensures c.word-op.ensures refl refl refl
           (c.tell-details.ensures.details ∙ ap (ended_details c.take-end.result) (told_still c.serve-reply.result c.serve-reply.new.lent c.take.new.self c.hand_over-2.new.from)));
