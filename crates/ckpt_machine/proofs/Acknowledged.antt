@@ -73,7 +73,7 @@ use Rattle.ckpt_machine.proofs.RefusedRuns.{owns_nothing}
 use Rattle.ckpt_machine.proofs.Askers.{IsCopyAsk}
 use Rattle.ckpt_machine.proofs.BegunBefore.{all_began, begun_on-other}
 use Rattle.ckpt_machine.proofs.BegunOnce.{begins_once}
-use Rattle.ckpt_machine.proofs.UpdateAnswers.{begin_not_done, IsTakenOn, done_by_taking, IsChange, changes}
+use Rattle.ckpt_machine.proofs.UpdateAnswers.{begin_not_done, IsTakenOn, done_by_taking, IsChange, changes, no_copying}
 use Rattle.ckpt_machine.proofs.Whose.{one_call}
 use Rattle.ckpt_machine.proofs.Runs.{last-push, run_before, run_front, IsRunFrom-back}
 use Rattle.ckpt_machine.proofs.UpdateIn.{no_enter}
@@ -301,11 +301,6 @@ record IsTaken (log : List Label) (l : Label) (call : CallId) : Type 0 where
   begun : HasBegun log call op (Some ckpt)
   named : IfSome (ckpt_named l) (λ k. k ≡ ckpt)
   stay : Stays ckpt call (update_of op) (after (last log) l)
-
--- it is no copying
-no_copying : (ask : Ask) → IsChange ask → IsCopyAsk ask → ⊥
-no_copying (asking.Change place update) change copies = copies
-no_copying ask change copies = change
 
 module _ (log : List Label) (run : IsRun log) (inv : Invariant (last log)) (history : HasHistory (last log)) where
   -- by the step that ends it, where it stays from that on

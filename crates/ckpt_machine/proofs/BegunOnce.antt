@@ -10,7 +10,9 @@ use Rattle.ckpt_types.specs.declared.identities.CallId.{CallId}
 use Rattle.ckpt_types.specs.declared.operation.Op.{Op}
 use Rattle.ckpt_types.specs.declared.words.OpWord.{OpWord}
 use Rattle.node_msgs.specs.declared.steps.StepReply.{StepReply}
+use Rattle.node_msgs.specs.declared.steps.StepReply.TheVariants as words
 use Rattle.node_msgs.specs.declared.steps.Verb.{Verb}
+use Rattle.node_msgs.specs.declared.steps.Verb.TheVariants as verbs
 use Rattle.run_labels.specs.declared.labels.Label.{Label}
 use Rattle.run_labels.specs.declared.labels.Label.TheVariants as labels
 use Rattle.cluster_record.specs.Calls.{same_actor, put_actor}
@@ -19,6 +21,7 @@ use Rattle.ckpt_machine.specs.Guards.{Allowed, Row}
 use Rattle.ckpt_machine.specs.Invariant.{Invariant}
 use Rattle.ckpt_machine.specs.Machine.{Machine, who}
 use Rattle.ckpt_machine.specs.Runs.{last, IsRun}
+use Rattle.ckpt_machine.specs.Synchronized.{IsPullOf}
 use Rattle.ckpt_machine.specs.After.{step_of, after}
 use Rattle.ckpt_machine.specs.Due.{IsDue, asked_handle}
 use Rattle.ckpt_machine.specs.Tables.{ckpt_of_handle}
@@ -81,11 +84,11 @@ module _ (log before behind : List Label) (call : CallId) (op : Op) (end : Optio
 
 -- ---- where two labels stand in a log
 
-abbrev Stand : List Label → List Label → Label → Label → Type 0
+abbrev pub Stand : List Label → List Label → Label → Label → Type 0
 Stand xs ys x y = ((xs ≡ ys) × (x ≡ y)) ⊎ (((cs : List Label) × (ys ≡ xs ++ x ∷ cs)) ⊎ ((cs : List Label) × (xs ≡ ys ++ y ∷ cs)))
 
 -- they are one, or one stands in front of the other
-stand : (xs ys : List Label) (x y : Label) (us vs : List Label) → xs ++ x ∷ us ≡ ys ++ y ∷ vs → Stand xs ys x y
+pub stand : (xs ys : List Label) (x y : Label) (us vs : List Label) → xs ++ x ∷ us ≡ ys ++ y ∷ vs → Stand xs ys x y
 stand [] [] x y us vs is = inl (refl, (let head : x ≡ y = cc is in head))
 stand [] (z ∷ ys) x y us vs is = inr (inl (ys, ap (λ (w : Label). w ∷ ys) (let head : z ≡ x = cc is in head)))
 stand (z ∷ xs) [] x y us vs is = inr (inr (xs, ap (λ (w : Label). w ∷ xs) (let head : z ≡ y = cc is in head)))
@@ -128,6 +131,11 @@ step_begun log run before behind d word verb j q reply end details call is same 
     let longer : HasBegun log call s.op (begun_on (asked s.op) s.kept.ckpt) = subst (λ (xs : List Label). HasBegun xs call s.op (begun_on (asked s.op) s.kept.ckpt)) (sym is) (begun_more before (step ∷ behind) call s.op (begun_on (asked s.op) s.kept.ckpt) first) in
     let one = begins_once log run call op s.op ckpt (begun_on (asked s.op) s.kept.ckpt) begun longer in
     subst (λ (o : Op). HasBegun before call o ckpt) one.0 (subst (HasBegun before call s.op) one.1 first)
+
+-- so one that has pulled began in front of its pull
+pub pull_begun : (log : List Label) → IsRun log → (before behind : List Label) (pull : Label) (call : CallId) (k r : ℕ) → log ≡ before ++ pull ∷ behind → IsPullOf pull call k r → (op : Op) (ckpt : Option ℕ) → HasBegun log call op ckpt → HasBegun before call op ckpt
+pull_begun log run before behind (labels.Stepped d word verbs.Pull (Some j) (Some q) words.Ok end details) call k r is of op ckpt begun = step_begun log run before behind d word verbs.Pull (Some j) (Some q) words.Ok end details call is of.0 op ckpt begun
+pull_begun log run before behind l call k r is of op ckpt begun = absurd of
 
 -- the number of a call that has begun is below that of its actor's next
 pub begun_below : (log : List Label) → IsRun log → (call : CallId) (op : Op) (k : Option ℕ) → HasBegun log call op k → call.number < (last log).next call.actor

@@ -45,7 +45,7 @@ abbrev pub an_initialize : ℕ → Op
 an_initialize r = ops.Client r (record { release = release; major = major_max; minor = minor_answered }) (record { opens = false; syncs = false })
 
 -- a collocated checkpoint with one section of 8 bytes, whose updates go to the active alone
-abbrev collocated_section : CreationAttributes
+abbrev pub collocated_section : CreationAttributes
 collocated_section = record { creation_flags = wr_active_replica + checkpoint_collocated; checkpoint_size = 8; retention_duration = pos 0; max_sections = 1; max_section_size = 8; max_section_id_size = 8 }
 
 -- c0 enters on n0, and c1 on n1; c0 makes the checkpoint, and c1 opens it, so that both nodes are complete
@@ -91,7 +91,7 @@ abbrev the_write_ends : Label
 the_write_ends = labels.Stepped (call_numbered 4) opwords.Write verbs.Apply (Some 1) (Some 0) words.Ok answered_ok beside.Nothing
 
 pub it_ends_before : EndsBefore until_c1_asks (call_numbered 4) (other_numbered 3)
-it_ends_before = record { before = until_both_have_it ++ first_set ∷ labels.Began (call_numbered 4) a_write None beside.Nothing ∷ []; between = []; behind = []; ending = the_write_ends; op = ops.Active 0; end = None; details = beside.Nothing; log_is = refl; ends = refl }
+it_ends_before = record { before = until_both_have_it ++ first_set ∷ labels.Began (call_numbered 4) a_write None beside.Nothing ∷ []; between = []; behind = []; ending = the_write_ends; op = ops.Active 0; end = None; details = beside.Nothing; log_is = refl; ends = inl refl }
 
 pub and_stands_first : KeepOrder until_c1_asks (Applied (other_numbered 3) abc (pos 0) ∷ Applied (call_numbered 4) abc (pos 0) ∷ []) → ⊥
 and_stands_first order = order (call_numbered 4) (other_numbered 3) it_ends_before (inl (refl, inl refl))

@@ -10,6 +10,7 @@ use Rattle.ckpt_types.specs.declared.answers.Cause.TheVariants.{Holder}
 use Rattle.ckpt_types.specs.declared.answers.Outcome.{Outcome}
 use Rattle.ckpt_types.specs.declared.answers.Outcome.TheVariants.{Done, Refused}
 use Rattle.ckpt_types.specs.declared.identities.CallId.{CallId}
+use Rattle.ckpt_types.specs.declared.operation.Op.TheVariants as ops
 use Rattle.ckpt_types.specs.declared.words.OpWord.{OpWord}
 use Rattle.ckpt_types.specs.declared.words.OpWord.TheVariants as opwords
 use Rattle.ckpt_types.specs.declared.update.Update.{Update}
@@ -29,6 +30,7 @@ use Rattle.cluster_record.specs.Placement.{is_all}
 use Rattle.cluster_record.specs.RecordState.{entry_of, identity_of, swept}
 use Rattle.cluster_record.proofs.CopyLaws.{lacks_none as each_there}
 use Rattle.cluster_record.proofs.KeptLaws.{All-find_key}
+use Rattle.ckpt_machine.specs.Acknowledged.{HasBegun}
 use Rattle.ckpt_machine.specs.After.{after, changed, change_replica, kept_behind, step_of, stepped, with_committed}
 use Rattle.ckpt_machine.specs.Copied.{AnswersCopy, Completes, CopiesTell, HasEach, WasCopied}
 use Rattle.ckpt_machine.specs.CopyGuards.{CompleteOk, CopyPullHeld, CopyPullOk, CopyPullRow, CopyReserveRow, completion_end, copies_to, lacks_none}
@@ -42,7 +44,9 @@ use Rattle.ckpt_machine.specs.Runs.{last, IsRun}
 use Rattle.ckpt_machine.specs.Shape.{IsCompleteOn, IsShapedBy, IsSpread}
 use Rattle.ckpt_machine.specs.Synchronized.{IsPullOf}
 use Rattle.ckpt_machine.specs.UpdateGuards.{ClaimFree, ClaimOk, ClaimRow, CommitOk, CommitRow, StageHeld, StageRefused, StageRow, WithdrawOk, WithdrawRow}
-use Rattle.ckpt_machine.proofs.Askers.{IsCopyAsk, copy_word}
+use Rattle.ckpt_machine.proofs.Askers.{IsCopyAsk, copy_op, copy_word}
+use Rattle.ckpt_machine.proofs.BegunBefore.{all_began, begun_longer, begun_on}
+use Rattle.ckpt_machine.proofs.BegunOnce.{pull_begun}
 use Rattle.ckpt_machine.proofs.Completions.{Brings, brings, brought_is, entry_then, joined_entry, with_brought}
 use Rattle.ckpt_machine.proofs.Copying.{put2-here}
 use Rattle.ckpt_machine.proofs.CopyingHands.{HasInCopying}
@@ -98,6 +102,10 @@ after_pulled log run all l allowed due call k z has =
 all_pulled : (log : List Label) → IsRun log → AllPulled log (last log)
 all_pulled log run = along AllPulled (λ front l before allowed due all. after_pulled front before all l allowed due) [] log run (λ call k z has. absurd (let none = has.in_hand in cc none))
 
+-- a copying in hand began in the log, on no checkpoint
+copying_began : (log : List Label) → IsRun log → (s : CallState) → (last log).in_hand (who s) ≡ Some s → s.op ≡ ops.Copy → HasBegun log s.call ops.Copy None
+copying_began log run s held copies = subst (λ op. HasBegun log s.call op (begun_on (asked op) s.kept.ckpt)) copies (all_began log run s held)
+
 -- ---- behind a completion
 
 -- the node has what was pulled
@@ -109,6 +117,7 @@ completes_by log run d word k r end details allowed due = record {
   pull = from.pull;
   node = from.node;
   log_is = from.log_is;
+  begun = subst (λ c. HasBegun from.before c ops.Copy None) due.call_is (pull_begun (log ++ l ∷ []) (run_more log l run allowed due) from.before from.behind from.pull s.call k from.node from.log_is from.pull_is ops.Copy None (begun_longer log l s.call ops.Copy None (copying_began log run s held (copy_op s.op b.asks))));
   pull_is = subst (λ c. IsPullOf from.pull c k from.node) due.call_is from.pull_is;
   source = from.source;
   there = from.there;
@@ -300,8 +309,8 @@ module _ (m : Machine) (s : CallState) (asks_is : asked s.op ≡ asks.Copy) (ans
   leaves_none verbs.Unlink j q reply row = absurd (row_at_ckpt j q _ row.0 (λ k p. no_other _ p.1))
   leaves_none verbs.Retain j q reply row = absurd (row_at_ckpt j q _ row.0 (λ k p. no_other _ p.2))
 
--- so its node has each
-ends_by : (log : List Label) → IsRun log → (l : Label) → Allowed (last log) l → IsDue (last log) l → (call : CallId) → AnswersCopy l call → HasEach (last (log ++ l ∷ [])) (node_of call.actor)
+-- so its node has each, and it began as a copying
+ends_by : (log : List Label) → IsRun log → (l : Label) → Allowed (last log) l → IsDue (last log) l → (call : CallId) → AnswersCopy l call → HasBegun log call ops.Copy None × HasEach (last (log ++ l ∷ [])) (node_of call.actor)
 ends_by log run (labels.Stepped d opwords.Copy verb j q reply (Some (Done answer)) details) allowed due call is =
     let l : Label = labels.Stepped d opwords.Copy verb j q reply (Some (Done answer)) details in
     let t : Told = record { verb = verb; ckpt = j; node = q; reply = reply; end = Some (Done answer); details = details } in
@@ -309,11 +318,14 @@ ends_by log run (labels.Stepped d opwords.Copy verb j q reply (Some (Done answer
     let s = due.state in
     let same : allowed.state ≡ s = same_Some allowed.state s (sym allowed.in_hand ∙ due.in_hand) in
     let row : Row m s verb t = subst (λ z. Row m z verb t) same allowed.row in
+    let held : m.in_hand (who s) ≡ Some s = held_as m d opwords.Copy s due.in_hand due.call_is due.word in
     let copies : asked s.op ≡ asks.Copy = ap asked (copy_word s.op due.word) in
     let then_is : (last (log ++ l ∷ [])).cluster ≡ (changed m s verb j q reply).cluster = ap (λ (n : Machine). n.cluster) (last-push log l ∙ ap (λ o. step_of m o verb j q reply (Some (Done answer))) due.in_hand) in
-    let node : copies_to s ≡ node_of call.actor = ap (λ (c : CallId). node_of c.actor) (due.call_is ∙ is) in
-    subst (HasEach (last (log ++ l ∷ []))) node (has_each (last (log ++ l ∷ [])) (run_history (log ++ l ∷ []) (run_more log l run allowed due)).0 (copies_to s)
-    (ap (λ R. lacks_none R (copies_to s)) then_is ∙ leaves_none m s copies answer details verb j q reply row))
+    let node : copies_to s ≡ node_of call.actor = ap (λ (c : CallId). node_of c.actor) (due.call_is ∙ is) in (
+      subst (λ c. HasBegun log c ops.Copy None) (due.call_is ∙ is) (copying_began log run s held (copy_word s.op due.word)),
+      subst (HasEach (last (log ++ l ∷ []))) node (has_each (last (log ++ l ∷ [])) (run_history (log ++ l ∷ []) (run_more log l run allowed due)).0 (copies_to s)
+          (ap (λ R. lacks_none R (copies_to s)) then_is ∙ leaves_none m s copies answer details verb j q reply row)),
+    )
 ends_by log run l allowed due call is = absurd is
 
 -- THE LAW: what a copying leaves
@@ -327,5 +339,5 @@ copies_tell log run = record { completed = completed_tells; ended = ended_tells 
     completed_tells : (front back : List Label) (l : Label) (call : CallId) (k r : ℕ) → log ≡ front ++ l ∷ back → Completes l call k r → WasCopied (front ++ l ∷ []) call k r
     completed_tells front back l call k r is label_is = let (before, allowed, due) = at front back l is in completes front before l allowed due call k r label_is
 
-    ended_tells : (front back : List Label) (l : Label) (call : CallId) → log ≡ front ++ l ∷ back → AnswersCopy l call → HasEach (last (front ++ l ∷ [])) (node_of call.actor)
+    ended_tells : (front back : List Label) (l : Label) (call : CallId) → log ≡ front ++ l ∷ back → AnswersCopy l call → HasBegun front call ops.Copy None × HasEach (last (front ++ l ∷ [])) (node_of call.actor)
     ended_tells front back l call is label_is = let (before, allowed, due) = at front back l is in ends_by front before l allowed due call label_is

@@ -11,6 +11,7 @@ use Rattle.run_labels.specs.declared.labels.Label.{Label}
 use Rattle.cluster_record.specs.declared.entries.Entry.{Entry}
 use Rattle.cluster_record.specs.Placement.{is_collocated, is_all}
 use Rattle.cluster_record.specs.RecordState.{RecordState, entry_of, identity_of}
+use Rattle.ckpt_machine.specs.CallsEnd.{IsAbandonedIn}
 use Rattle.ckpt_machine.specs.Failing.{broken}
 use Rattle.ckpt_machine.specs.Invariant.{Invariant}
 use Rattle.ckpt_machine.specs.Machine.{Machine, ReplicaState, Snapshot, CallState}
@@ -94,8 +95,8 @@ module _ (Q : Option Entry → ℕ → ReplicaState → Type 0) (S : Entry → S
     pub applied : (m : Machine) (s : CallState) (k r : ℕ) (x : ReplicaState) (e : Entry) → StepsWhen When log m s verbs.Apply k r x → IsActiveOf m k r e → x.marks ≡ None → Q (Some e) r x → Q (Some e) r (having_taken e.attributes s.call (update_of s.op) m.cluster.moment x)
     pub marked : (m : Machine) (s : CallState) (k r : ℕ) (x : ReplicaState) (e : Entry) → StepsWhen When log m s verbs.Mark k r x → IsActiveOf m k r e → CanBeMarked e (update_of s.op) m.cluster.moment x → Q (Some e) r x → Q (Some e) r (with_marks s.call (update_of s.op) m.cluster.moment x)
     pub element : (m : Machine) (s : CallState) (k r : ℕ) (x : ReplicaState) (e : Entry) (marks : Marked) → StepsWhen When log m s verbs.Element k r x → IsActiveOf m k r e → IsMarkedFor s.call (update_of s.op) true x marks → Q (Some e) r x → Q (Some e) r (next_element_written e.attributes x (Some marks))
-    -- a weak write that is cut short is of a call that has no effect there
-    pub broken_off : (e : Entry) (r : ℕ) (x : ReplicaState) (marks : Marked) → x.marks ≡ Some marks → x.slot ≡ None → (HasEffect marks.call x.effects → ⊥) → Q (Some e) r x → Q (Some e) r (broken marks x)
+    -- a weak write that is cut short is of a call that has no effect there, and that a failure in the log abandons
+    pub broken_off : (e : Entry) (r : ℕ) (x : ReplicaState) (marks : Marked) → x.marks ≡ Some marks → x.slot ≡ None → (HasEffect marks.call x.effects → ⊥) → IsAbandonedIn log marks.call → Q (Some e) r x → Q (Some e) r (broken marks x)
     pub unmarked : (m : Machine) (s : CallState) (k r : ℕ) (x : ReplicaState) (e : Entry) (marks : Marked) → StepsWhen When log m s verbs.Unmark k r x → IsActiveOf m k r e → IsMarkedFor s.call (update_of s.op) false x marks → Q (Some e) r x → Q (Some e) r (marks_ended x (Some marks))
 
   -- whatever holds of the state

@@ -61,7 +61,7 @@ use Rattle.ckpt_machine.proofs.Generations.{generation_there}
 use Rattle.ckpt_machine.proofs.Histories.{HasHistory, shaped_there, on_replica-there, follows, run_history}
 use Rattle.ckpt_machine.proofs.Installed.{after_install}
 use Rattle.ckpt_machine.proofs.Joining.{collocated_apart, opened_with-identity}
-use Rattle.ckpt_machine.proofs.OneReplica.{IsBehindFront, StepsWhen, IsActiveOf, CanBeMarked, IsMarkedFor, Grows, committed_generation, element_generation, committed_more, grows_same}
+use Rattle.ckpt_machine.proofs.OneReplica.{IsBehindFront, ComesNext, StepsWhen, IsActiveOf, CanBeMarked, IsMarkedFor, Grows, committed_generation, element_generation, committed_more, grows_same}
 use Rattle.ckpt_machine.proofs.OptionLemmas.{IsSomeAnd-at, IsSomeAnd-from, IfSome-from, IfSome-at}
 use Rattle.ckpt_machine.proofs.OwnMaking.{making_there}
 pub use Rattle.ckpt_machine.proofs.PulledInHand.{PulledInHand}
@@ -682,10 +682,10 @@ module _ (Q : Option Entry → ℕ → ReplicaState → Type 0) (S : Entry → S
         begun : Option CallState
         begun = call_begun end call op (first_kept m call op)
 
-    -- any label that is allowed and due
-    pub after_each : (l : Label) → Allowed m l → IsDue m l → Each (after m l)
-    after_each (labels.Began d op end details) allowed is = begun_each d op end
-    after_each (labels.Stepped d op verb j q reply end details) allowed step =
+    -- any label that comes next, and is allowed and due
+    pub after_each : (l : Label) → ComesNext log m at_front l → Allowed m l → IsDue m l → Each (after m l)
+    after_each (labels.Began d op end details) next allowed is = begun_each d op end
+    after_each (labels.Stepped d op verb j q reply end details) next allowed step =
         let s = step.state in
         let t : Told = record { verb = verb; ckpt = j; node = q; reply = reply; end = end; details = details } in
         let held : m.in_hand (who s) ≡ Some s = held_as m d op s step.in_hand step.call_is step.word in
@@ -693,16 +693,16 @@ module _ (Q : Option Entry → ℕ → ReplicaState → Type 0) (S : Entry → S
         let row = subst (λ z. Row m z verb t) same allowed.row in
         let own = subst (λ (z : CallState). IsOnOwn verb j z.kept.ckpt) same allowed.own in
         subst (λ o. Each (step_of m o verb j q reply end)) (sym step.in_hand) (stepped_each s held t own row end (changed_each s verb j q reply (row_needs s held t step.done verb j q reply refl own row)))
-    after_each (labels.Word by line said) allowed is = each
-    after_each (labels.Nodes n) allowed is = each
-    after_each (labels.Moved t) allowed is = record_each (moved t m.cluster) (λ k given. record { last = omega arith; rises = IdentitiesRise-filter (stays t) m.cluster.entries inv.holds.rises; made = ComesOf-filter StaysMade StaysMade-same (stays t) m.cluster.entries inv.holds.rises k })
-    after_each (labels.Shown j replicas) allowed is = each
-    after_each (labels.Failed r true) allowed is = failed_each Q S When log kept m inv history each r
-    after_each (labels.Failed r false) allowed is = each
-    after_each (labels.Joined r (Some incarnation)) allowed is = each
-    after_each (labels.Joined r None) allowed is = each
-    after_each (labels.Pulled k reply) allowed is = after_pull Each m k reply is each (pulled_each k)
-    after_each (labels.Put k r reply) allowed is = after_put_over Each m k r reply is each (λ s x at over. put_each asks.Copy k r s x (copied_may asks.Copy k s over.on.entry over.on.found at) over)
+    after_each (labels.Word by line said) next allowed is = each
+    after_each (labels.Nodes n) next allowed is = each
+    after_each (labels.Moved t) next allowed is = record_each (moved t m.cluster) (λ k given. record { last = omega arith; rises = IdentitiesRise-filter (stays t) m.cluster.entries inv.holds.rises; made = ComesOf-filter StaysMade StaysMade-same (stays t) m.cluster.entries inv.holds.rises k })
+    after_each (labels.Shown j replicas) next allowed is = each
+    after_each (labels.Failed r true) next allowed is = failed_each Q S When log kept m inv history each at_front r next
+    after_each (labels.Failed r false) next allowed is = each
+    after_each (labels.Joined r (Some incarnation)) next allowed is = each
+    after_each (labels.Joined r None) next allowed is = each
+    after_each (labels.Pulled k reply) next allowed is = after_pull Each m k reply is each (pulled_each k)
+    after_each (labels.Put k r reply) next allowed is = after_put_over Each m k r reply is each (λ s x at over. put_each asks.Copy k r s x (copied_may asks.Copy k s over.on.entry over.on.found at) over)
 
   -- so it holds in a run; that a call began stands in the whole log
   pub run_each : (log : List Label) → IsKept Q S log → IsRun log → Each (last log)
@@ -715,7 +715,7 @@ module _ (Q : Option Entry → ℕ → ReplicaState → Type 0) (S : Entry → S
           let log_is : log ≡ front ++ l ∷ rest = is ∙ append_assoc front (l ∷ []) rest in
           let (inv, history) = run_history front before in
           let began : AllBegan log (last front) = λ s held. subst (λ (log : List Label). HasBegunAs log s.call s.op s.kept.ckpt) (sym log_is) (began_more front (l ∷ rest) s.call s.op s.kept.ckpt (each_began front before s held)) in
-          after_each (λ m. Unit {0}) log kept (last front) tt began (record { front = front; rest = l ∷ rest; log_is = log_is; state_is = refl }) inv history (good_arguments front before) (each (l ∷ rest) log_is) l allowed due
+          after_each (λ m. Unit {0}) log kept (last front) tt began (record { front = front; rest = l ∷ rest; log_is = log_is; state_is = refl }) inv history (good_arguments front before) (each (l ∷ rest) log_is) l (rest, refl) allowed due
 
 -- where nothing is said
 kept_nothing : (log : List Label) → IsKept (λ o r x. Unit {0}) (λ e s. Unit {0}) log
@@ -735,7 +735,7 @@ kept_nothing log = record {
   marked = λ m s k r x e step active can is. tt;
   element = λ m s k r x e marks step active stand is. tt;
   unmarked = λ m s k r x e marks step active stand is. tt;
-  broken_off = λ e r x marks stand free none is. tt;
+  broken_off = λ e r x marks stand free none abandoned is. tt;
 }
 
 -- each snapshot is of a checkpoint that is made, and no replica and no snapshot is ahead of the active

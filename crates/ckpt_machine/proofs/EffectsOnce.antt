@@ -167,7 +167,7 @@ kept_once log = record {
   unmarked = λ m s k r x e marks step active stand once.
       let none = λ (has : HasEffect s.call x.effects). none_alone m step.inv step.history k r s step.held (IsSomeAnd-from (entry_of k m.cluster.entries) _ e active.found active.alone) (record { replica = x; there = step.there; effect = has }) in
       one_effect_more x (marks_ended x (Some marks)) (Applied marks.call marks.update marks.moment) refl (alone_free m step.inv step.history.bare k r x e step.there active.found active.alone) (λ has. none (subst (λ d. HasEffect d x.effects) stand.are.call_is has)) once;
-  broken_off = λ e r x marks stand free none once. one_effect_more x (broken marks x) (Broken marks.call marks.update marks.moment marks.done) refl free none once;
+  broken_off = λ e r x marks stand free none abandoned once. one_effect_more x (broken marks x) (Broken marks.call marks.update marks.moment marks.done) refl free none once;
 }
 
 -- THE LAW: no replica has two effects of one call

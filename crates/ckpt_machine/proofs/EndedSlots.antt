@@ -26,8 +26,8 @@ use Rattle.ckpt_machine.specs.Drivers.{update_in}
 use Rattle.ckpt_machine.specs.Due.{IsDue, driver_of}
 use Rattle.ckpt_machine.specs.Guards.{Allowed, Row}
 use Rattle.ckpt_machine.specs.InHand.{IsCopyIn, IsInPlace, IsUpdateAsk, IsUpdateIn}
-use Rattle.ckpt_machine.specs.InOrder.{IsLastStep}
 use Rattle.ckpt_machine.specs.Invariant.{Invariant}
+use Rattle.ckpt_machine.specs.LastStep.{IsLastStep}
 use Rattle.ckpt_machine.specs.Machine.{Machine, Staged, ReplicaState, Snapshot, CallState, who}
 use Rattle.ckpt_machine.specs.Owners.{HasBegunIn}
 use Rattle.ckpt_machine.specs.Runs.{last, IsRun}
@@ -100,7 +100,7 @@ kept_of P When log new = record {
   marked = λ m s k r x e step active can was. was;
   element = λ m s k r x e marks step active stand was. was;
   unmarked = λ m s k r x e marks step active stand was. was;
-  broken_off = λ e r x marks stand free none was. was;
+  broken_off = λ e r x marks stand free none abandoned was. was;
 }
 
 -- ---- the calls of slots have begun
@@ -133,7 +133,7 @@ free_after front l before allowed due c none free =
     let began : AllBegan log (last front) = λ s held. began_more front (l ∷ []) s.call s.op s.kept.ckpt (each_began front before s held) in
     (after_each (λ o r x. OfItsCalls (λ d. d ≢ c) x) (λ e s. Unit {0}) (IsNoUpdate c) log (kept_of (λ d. d ≢ c) (IsNoUpdate c) log (λ m s verb k r x step same. step.when s step.held same step.asks)) (last front) none began
     (record { front = front; rest = l ∷ []; log_is = refl; state_is = refl }) inv history (good_arguments front before)
-    (record { replica = λ k r x there. free k r x there; snapshot = copies.snapshot; in_hand = copies.in_hand; ahead = copies.ahead }) l allowed due).replica
+    (record { replica = λ k r x there. free k r x there; snapshot = copies.snapshot; in_hand = copies.in_hand; ahead = copies.ahead }) l ([], refl) allowed due).replica
 
 -- ---- a call that has ended
 

@@ -14,7 +14,7 @@ use Rattle.ckpt_machine.specs.Shape.{Shape}
 use Rattle.ckpt_machine.specs.Failing.{is_of_node, enters_on, is_abandoned, unless_abandoned, failed_at}
 use Rattle.ckpt_machine.specs.Due.{IsDriven, driver_of, count_in}
 use Rattle.ckpt_machine.proofs.Lives.{asks_enter, state_enters}
-use Rattle.ckpt_machine.proofs.FailedClients.{live_gone, dead_then}
+use Rattle.ckpt_machine.proofs.FailedClients.{live_gone, live_staying, dead_then}
 
 module _ (m : Machine) (shapes : ℕ → Shape) (inv : InvariantIn shapes m) (r : ℕ) where
   -- the machine behind the failure
@@ -95,3 +95,11 @@ module _ (m : Machine) (shapes : ℕ → Shape) (inv : InvariantIn shapes m) (r 
       by_test : (b : Bool) → is_of_node m.cluster r s.call.actor ≡ b → is_of_node m.cluster r s.call.actor ≡ false
       by_test false stays = stays
       by_test true goes = absurd (let w : true ≡ false = sym live ∙ live_gone counts r m.cluster s.call goes in cc w)
+
+  -- and one that was live and is not is abandoned
+  pub gone_abandoned : (s : CallState) → is_live m.cluster s.call ≡ true → is_live n.cluster s.call ≡ false → is_abandoned m.cluster r s.call s.op ≡ true
+  gone_abandoned s live gone = by_test (is_of_node m.cluster r s.call.actor) refl
+    where
+      by_test : (b : Bool) → is_of_node m.cluster r s.call.actor ≡ b → is_abandoned m.cluster r s.call s.op ≡ true
+      by_test true goes = ap (λ b. b || enters_on r (asked s.op)) goes
+      by_test false stays = absurd (let w : true ≡ false = sym live ∙ sym (live_staying counts r m.cluster s.call stays) ∙ gone in cc w)

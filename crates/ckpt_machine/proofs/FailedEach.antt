@@ -1,19 +1,22 @@
 -- What is kept of each replica and each snapshot, in a hand too, is so behind the failure of a node: a replica stays, has its weak write cut short, or leads its checkpoint with what it has, which is no less than what any other replica there has.
-use Rattle.std.proofs.Common.{◌≡◌, ℕ, ◌+◌, ◌≤◌, List, [], ◌∷◌, inl, inr, length, Option, Some, None, Bool, true, false, cond, refl, sym, ap, subst, ◌∙◌, arith}
+use Rattle.std.proofs.Common.{◌≡◌, ℕ, ◌+◌, ◌≤◌, List, [], ◌∷◌, ◌++◌, inl, inr, length, Option, Some, None, Bool, true, false, cond, refl, sym, ap, subst, ◌∙◌, arith}
 use Rattle.std.specs.Prelude.{IsSome, IsSomeAnd}
 use Rattle.std.proofs.lemmas.Option.{same_Some}
 use Rattle.ckpt_types.specs.declared.attributes.CreationAttributes.{CreationAttributes}
 use Rattle.ckpt_types.specs.Asks.{asked}
 use Rattle.weak_marks.specs.Marks.{Marked}
 use Rattle.run_labels.specs.declared.labels.Label.{Label}
+use Rattle.run_labels.specs.declared.labels.Label.TheVariants as labels
 use Rattle.cluster_record.specs.declared.entries.Entry.{Entry}
 use Rattle.cluster_record.specs.Failing.{goes_with_node, most_updated, next_active}
 use Rattle.cluster_record.specs.Placement.{is_collocated, is_all}
-use Rattle.cluster_record.specs.RecordState.{RecordState, entry_of, identity_of, first_complete, is_active}
+use Rattle.cluster_record.specs.RecordState.{RecordState, entry_of, identity_of, first_complete, is_active, is_live}
+use Rattle.ckpt_machine.specs.CallsEnd.{IsAbandonedBy, IsAbandonedIn}
+use Rattle.ckpt_machine.specs.Dead.{is_enter}
 use Rattle.ckpt_machine.specs.Drivers as drivers
 use Rattle.ckpt_machine.specs.Failing.{failed_at}
 use Rattle.ckpt_machine.specs.Invariant.{Invariant}
-use Rattle.ckpt_machine.specs.Machine.{Machine, Broken, ReplicaState, Snapshot}
+use Rattle.ckpt_machine.specs.Machine.{Machine, Broken, ReplicaState, Snapshot, who}
 use Rattle.ckpt_machine.specs.Owned.{HasEffect}
 use Rattle.ckpt_machine.specs.Replays.{IsPrefix}
 use Rattle.ckpt_machine.specs.Shape.{IsCompleteOn, IsMarker}
@@ -23,12 +26,13 @@ use Rattle.ckpt_machine.proofs.Copying.{IsOfSource}
 use Rattle.ckpt_machine.proofs.EachKept.{FollowsBy, IsAhead, IsPulledOf, EachIn, IsKeptWhen, follows_as, copied_there, snapshot_goes, hand_goes}
 use Rattle.ckpt_machine.proofs.EntryLists.{find_key-key}
 use Rattle.ckpt_machine.proofs.FailedActive.{active_is, most-greatest}
-use Rattle.ckpt_machine.proofs.FailedCalls.{left_is}
+use Rattle.ckpt_machine.proofs.FailedCalls.{gone_abandoned, left_is}
 use Rattle.ckpt_machine.proofs.FailedHands.{WasEntry, was_entry}
 use Rattle.ckpt_machine.proofs.FailedMade.{failed_goes}
 use Rattle.ckpt_machine.proofs.FailedReplicas.{Becomes, stays, cut_short, leads, WasReplica, was_replica}
 use Rattle.ckpt_machine.proofs.Follows.{snapshot_was}
 use Rattle.ckpt_machine.proofs.Histories.{HasHistory}
+use Rattle.ckpt_machine.proofs.OneReplica.{IsBehindFront, ComesNext}
 use Rattle.ckpt_machine.proofs.OptionLemmas.{IsSomeAnd-at, IfSome-at}
 use Rattle.ckpt_machine.proofs.Prefixes.{prefix_of_same, prefix_then, prefix_longer}
 use Rattle.ckpt_machine.proofs.Propagated.{complete_there}
@@ -44,7 +48,7 @@ next_most counts a cs q alone is = by_kind (is_collocated a) (sym (ap (λ b. con
     by_kind true none = absurd (cc none)
     by_kind false most = (refl, most)
 
-module _ (Q : Option Entry → ℕ → ReplicaState → Type 0) (S : Entry → Snapshot → Type 0) (When : Machine → Type 0) (log : List Label) (kept : IsKeptWhen Q S When log) (m : Machine) (inv : Invariant m) (history : HasHistory m) (each : EachIn Q S m.cluster.last_identity m.cluster.entries m.replicas m.snapshots m.in_hand) (r : ℕ) where
+module _ (Q : Option Entry → ℕ → ReplicaState → Type 0) (S : Entry → Snapshot → Type 0) (When : Machine → Type 0) (log : List Label) (kept : IsKeptWhen Q S When log) (m : Machine) (inv : Invariant m) (history : HasHistory m) (each : EachIn Q S m.cluster.last_identity m.cluster.entries m.replicas m.snapshots m.in_hand) (at_front : IsBehindFront log m) (r : ℕ) (next : ComesNext log m at_front (labels.Failed r true)) where
   -- the machine behind the failure
   abbrev n : Machine
   n = failed_at r m
@@ -92,6 +96,23 @@ module _ (Q : Option Entry → ℕ → ReplicaState → Type 0) (S : Entry → S
         | inr brought ↦ (let w : drivers.Copy brought.copy ≡ drivers.Active by.driver = sym brought.driver_is ∙ by.driver_is in cc w)
       ]
 
+  -- and where it is not live behind the failure, it is abandoned by that
+  marks_abandoned : (k q : ℕ) (x : ReplicaState) (marks : Marked) → m.replicas k q ≡ Some x → x.marks ≡ Some marks → is_live R marks.call ≡ false → IsAbandonedIn log marks.call
+  marks_abandoned k q x marks there stand gone =
+      let by : IsMarker m k marks = marks_owned m inv.shapes inv.holds history.bare k q x marks there stand in
+      let live : is_live m.cluster by.state.call ≡ true = (inv.holds.hands (who by.state) by.state by.in_hand).live (ap is_enter by.driver_is) in
+      record {
+        before = at_front.front;
+        behind = next.0;
+        node = r;
+        log_is = at_front.log_is ∙ ap (λ (xs : List Label). at_front.front ++ xs) next.1;
+        name = who by.state;
+        state = by.state;
+        in_hand = ap (λ (m : Machine). m.in_hand (who by.state)) (sym at_front.state_is) ∙ by.in_hand;
+        call_is = by.call_is;
+        abandoned = subst (λ (m : Machine). IsAbandonedBy (labels.Failed r true) m by.state) at_front.state_is (gone_abandoned m inv.shapes inv.holds r by.state live (ap (is_live R) by.call_is ∙ gone));
+      }
+
   -- ---- each replica
 
   module _ (k q : ℕ) (y : ReplicaState) (it : Was k q y) where
@@ -110,7 +131,7 @@ module _ (Q : Option Entry → ℕ → ReplicaState → Type 0) (S : Entry → S
     -- of what it becomes
     so_then : Becomes m inv history.bare r it.before it.then q it.replica y → Q (Some it.then) q y
     so_then (stays same) = subst (Q (Some it.then) q) (sym same) so_still
-    so_then (cut_short marks stand gone was_led led generation same) = subst (Q (Some it.then) q) (sym same) (kept.broken_off it.then q it.replica marks stand (it.free marks stand) (marks_fresh k q it.replica marks it.there stand) so_still)
+    so_then (cut_short marks stand gone was_led led generation same) = subst (Q (Some it.then) q) (sym same) (kept.broken_off it.then q it.replica marks stand (it.free marks stand) (marks_fresh k q it.replica marks it.there stand) (marks_abandoned k q it.replica marks it.there stand gone) so_still)
     so_then (leads it_was led none same) = subst (Q (Some it.then) q) (sym same) (kept.led it.before it.then q None it.replica it.left.identity goes_made it.made tt none tt so_before)
 
     -- it has its effects still

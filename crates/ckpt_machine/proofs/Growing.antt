@@ -70,7 +70,7 @@ committed_grows : (o : Option Entry) (x : ReplicaState) → GrowsTo x (with_comm
 committed_grows o x = (committed_generation o x, committed_more o x)
 
 -- a replica grows by an update in one step
-applied_grows : (o : Option Entry) (call : CallId) (update : Update) (t : ℤ) (x : ReplicaState) → GrowsTo x (with_applied call update t o x)
+pub applied_grows : (o : Option Entry) (call : CallId) (update : Update) (t : ℤ) (x : ReplicaState) → GrowsTo x (with_applied call update t o x)
 applied_grows None call update t x = grows_to_same x
 applied_grows (Some e) call update t x = (refl, (Applied call update t ∷ [], refl))
 
@@ -79,7 +79,7 @@ element_grows : (o : Option Entry) (x : ReplicaState) → GrowsTo x (with_next_e
 element_grows o x = (element_generation o x, prefix_of_same x.effects (with_next_element o x).effects (element_effects o x))
 
 -- a replica grows by the end of a weak write
-unmarked_grows : (x : ReplicaState) → GrowsTo x (without_marks x)
+pub unmarked_grows : (x : ReplicaState) → GrowsTo x (without_marks x)
 unmarked_grows x = by_marks x.marks
   where
     by_marks : (o : Option Marked) → GrowsTo x (marks_ended x o)
@@ -95,13 +95,26 @@ broken_grows R x (Some marks) = by_live (is_live R marks.call)
     by_live true = grows_to_same x
     by_live false = (refl, (Broken marks.call marks.update marks.moment marks.done ∷ [], refl))
 
--- a replica of the present generation grows by what a failure leaves of it
-left_grows : (R : RecordState) (f : Entry) (q : ℕ) (x : ReplicaState) → f.generation ≡ x.generation → GrowsTo x (made_present (Some f) q (broken_unless R x.marks x))
-left_grows R f q x same = by_active (is_active f.active q)
+-- what a failure leaves of a replica has its effects first
+pub left_more : (R : RecordState) (o : Option Entry) (q : ℕ) (x : ReplicaState) → IsPrefix x.effects (made_present o q (broken_unless R x.marks x)).effects
+left_more R None q x = (broken_grows R x x.marks).1
+left_more R (Some f) q x = by_active (is_active f.active q)
   where
-    by_active : (b : Bool) → GrowsTo x (cond b (record (broken_unless R x.marks x) { generation = f.generation }) (broken_unless R x.marks x))
-    by_active true = (same, (broken_grows R x x.marks).1)
-    by_active false = broken_grows R x x.marks
+    by_active : (b : Bool) → IsPrefix x.effects (cond b (record (broken_unless R x.marks x) { generation = f.generation }) (broken_unless R x.marks x)).effects
+    by_active true = (broken_grows R x x.marks).1
+    by_active false = (broken_grows R x x.marks).1
+
+-- so a replica of the present generation grows by that
+left_grows : (R : RecordState) (f : Entry) (q : ℕ) (x : ReplicaState) → f.generation ≡ x.generation → GrowsTo x (made_present (Some f) q (broken_unless R x.marks x))
+left_grows R f q x same = (by_active (is_active f.active q), left_more R (Some f) q x)
+  where
+    by_active : (b : Bool) → (cond b (record (broken_unless R x.marks x) { generation = f.generation }) (broken_unless R x.marks x)).generation ≡ x.generation
+    by_active true = same
+    by_active false = (broken_grows R x x.marks).0
+
+-- behind a change of the record the replica of a node that was complete, and is so, is as it was
+pub under_stays : (f : Entry) (before r : ℕ) (old : Option ReplicaState) → IsCompleteOn f r → (before == 0) ≡ false → replica_under (Some f) before r old ≡ old
+under_stays f before r old complete was = ap (λ b. cond b None (cond (before == 0) (Some (opened_state f)) old)) complete ∙ ap (λ b. cond b (Some (opened_state f)) old) was
 
 -- ---- what becomes of a checkpoint
 
@@ -227,10 +240,6 @@ module _ (m : Machine) (inv : Invariant m) (bare : IsBare m) (each : Each (λ o 
     record_goes : (R : RecordState) → MadeOn k m.cluster R → GoesOn m k (with_record m R)
     record_goes R on = record { made = λ f found. (let (e, was, made) = on.made f found in (e, was, StaysMade-goes e f made)); away = λ f r found there. none_gone r; led = λ e f r was found still active. none_gone r; replica = replica; generations = generations }
       where
-        -- the replica of a node that stays complete is as it was
-        stays_there : (f : Entry) (before r : ℕ) (old : Option ReplicaState) → IsCompleteOn f r → (before == 0) ≡ false → replica_under (Some f) before r old ≡ old
-        stays_there f before r old complete was = ap (λ b. cond b None (cond (before == 0) (Some (opened_state f)) old)) complete ∙ ap (λ b. cond b (Some (opened_state f)) old) was
-
         replica : (r : ℕ) (x : ReplicaState) (e f : Entry) → None ≢ Some r → entry_of k m.cluster.entries ≡ Some e → entry_of k R.entries ≡ Some f → f.generation ≡ e.generation → m.replicas k r ≡ Some x → x.generation ≡ e.generation → IsSomeAnd ((with_record m R).replicas k r) (GrowsTo x)
         replica r x e f stays there found still_present at present =
             let (g, is, complete_at) = IsSomeAnd-at (entry_of k m.cluster.entries) (λ e. IsCompleteOn e r) (bare.complete k r x at) in
@@ -238,7 +247,7 @@ module _ (m : Machine) (inv : Invariant m) (bare : IsBare m) (each : Each (λ o 
             let (h, before, keeps) = on.made f found in
             let still = (subst (λ e. StaysMade e f) (same_Some h e (sym before ∙ there)) keeps).made (made_where_complete m inv k r e there complete) in
             let was : (slice_index (complete_of (entry_of k m.cluster.entries)) r == 0) ≡ false = subst (λ o. (slice_index (complete_of o) r == 0) ≡ false) (sym there) complete in
-            let stays : (with_record m R).replicas k r ≡ m.replicas k r = ap (λ o. replica_under o (slice_index (complete_of (entry_of k m.cluster.entries)) r) r (m.replicas k r)) found ∙ stays_there f (slice_index (complete_of (entry_of k m.cluster.entries)) r) r (m.replicas k r) (still.remains r complete) was in
+            let stays : (with_record m R).replicas k r ≡ m.replicas k r = ap (λ o. replica_under o (slice_index (complete_of (entry_of k m.cluster.entries)) r) r (m.replicas k r)) found ∙ under_stays f (slice_index (complete_of (entry_of k m.cluster.entries)) r) r (m.replicas k r) (still.remains r complete) was in
             IsSomeAnd-from ((with_record m R).replicas k r) (GrowsTo x) x (stays ∙ at) (grows_to_same x)
 
         -- one that is there is the one that was, or the opening one
@@ -462,8 +471,7 @@ module _ (m : Machine) (inv : Invariant m) (bare : IsBare m) (each : Each (λ o 
             let was_complete : (slice_index (complete_of (entry_of k m.cluster.entries)) q == 0) ≡ false = ap (λ o. slice_index (complete_of o) q == 0) it.was ∙ complete in
             let under : replicas_under m.cluster R m.replicas k q ≡ Some x =
             ap (λ o. replica_under o (slice_index (complete_of (entry_of k m.cluster.entries)) q) q (m.replicas k q)) found
-            ∙ ap (λ b. cond b None (cond (slice_index (complete_of (entry_of k m.cluster.entries)) q == 0) (Some (opened_state f)) (m.replicas k q))) complete_then
-            ∙ ap (λ b. cond b (Some (opened_state f)) (m.replicas k q)) was_complete ∙ at in
+            ∙ under_stays f (slice_index (complete_of (entry_of k m.cluster.entries)) q) q (m.replicas k q) complete_then was_complete ∙ at in
             IsSomeAnd-from ((failed_at r m).replicas k q) (GrowsTo x) (replica_left R k q x) (ap (option_map (replica_left R k q)) under) (subst (λ o. GrowsTo x (made_present o q (broken_unless R x.marks x))) (sym found) (left_grows R f q x (still ∙ sym present)))
 
         generations : (q : ℕ) (y : ReplicaState) (e f : Entry) → entry_of k m.cluster.entries ≡ Some e → entry_of k R.entries ≡ Some f → f.generation ≡ e.generation → (failed_at r m).replicas k q ≡ Some y → HasEither f.generation (m.replicas k q) y

@@ -139,7 +139,7 @@ kept_order log run = record {
   element = λ m s k r x e marks step active stand was. element_ordered log e.attributes x marks stand.stand stand.are.left_is was;
   unmarked = λ m s k r x e marks step active stand was.
       ordered_more log x (marks_ended x (Some marks)) (Applied marks.call marks.update marks.moment) refl (alone_free m step.inv step.history.bare k r x e step.there active.found active.alone) refl (was.marked marks stand.stand) was;
-  broken_off = λ e r x marks stand free none was. ordered_more log x (broken marks x) (Broken marks.call marks.update marks.moment marks.done) refl free refl (was.marked marks stand) was;
+  broken_off = λ e r x marks stand free none abandoned was. ordered_more log x (broken marks x) (Broken marks.call marks.update marks.moment marks.done) refl free refl (was.marked marks stand) was;
 }
 
 -- THE LAW: the effects of each replica keep the order of the calls

@@ -15,7 +15,7 @@ use Rattle.ckpt_machine.proofs.Copying.{TakesOver}
 use Rattle.ckpt_machine.proofs.Histories.{on_replica-there}
 
 -- a replica on which a call installs, as its row says, takes over what the call has in hand
-install_over : (m : Machine) (s : CallState) (k r : ℕ) (t : Told) → InstallRow m s k r t words.Ok → (x : ReplicaState) → m.replicas k r ≡ Some x → (z : Snapshot) × (s.snapshot ≡ Some z) × TakesOver m k r z x
+pub install_over : (m : Machine) (s : CallState) (k r : ℕ) (t : Told) → InstallRow m s k r t words.Ok → (x : ReplicaState) → m.replicas k r ≡ Some x → (z : Snapshot) × (s.snapshot ≡ Some z) × TakesOver m k r z x
 install_over m s k r t row x there =
     let (e, y, found, at, ok) = on_replica-there m k r (InstallOk m s r t true) row in
     let here : InstallOk m s r t true e x = subst (InstallOk m s r t true e) (same_Some y x (sym at ∙ there)) ok in

@@ -205,6 +205,7 @@ pub mod FailedSpread
 pub mod FailedHands
 pub mod FailureLaw
 pub mod SettleExamples
+pub mod StaysExamples
 pub mod DueRuns
 pub mod CutRuns
 pub mod JoinExamples
@@ -244,11 +245,14 @@ pub mod NodeListings
 mod ShapedReplicas
 mod BrokenCorrupt
 mod CorruptedSections
+mod CutShort
+mod DeadCalls
 pub mod FailedCounts
 pub mod FailedNodes
 mod EndedCalls
 mod EndedSlots
 mod InOrder
+mod Stays
 mod CallsEnd
 pub mod Claim
 pub mod BehindStep

@@ -68,7 +68,7 @@ taken_enters d (drivers.Active a) = refl
 taken_enters d (drivers.Sync u) = refl
 taken_enters d (drivers.Copy c) = refl
 
-steps_enter : (begun : Driver) (steps : List StepDone) → is_enter (driver_state begun steps) ≡ is_enter begun
+pub steps_enter : (begun : Driver) (steps : List StepDone) → is_enter (driver_state begun steps) ≡ is_enter begun
 steps_enter begun [] = refl
 steps_enter begun (d ∷ steps) = taken_enters d (driver_state begun steps) ∙ steps_enter begun steps
 

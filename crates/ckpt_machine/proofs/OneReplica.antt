@@ -33,6 +33,10 @@ pub record IsBehindFront (log : List Label) (m : Machine) : Type 0 where
   pub log_is : log ≡ front ++ rest
   pub state_is : m ≡ last front
 
+-- this label is the next one behind that front
+abbrev pub ComesNext : (log : List Label) (m : Machine) → IsBehindFront log m → Label → Type 0
+ComesNext log m at l = (more : List Label) × (at.rest ≡ l ∷ more)
+
 -- a call in hand takes this step, which is due, behind a front of the log where this holds, on a replica that is there; it began in the log with this very update, of this checkpoint, or is a copying that has reserved for it
 pub record StepsWhen (When : Machine → Type 0) (log : List Label) (m : Machine) (s : CallState) (verb : Verb) (k r : ℕ) (x : ReplicaState) : Type 0 where
   pub inv : Invariant m

@@ -131,7 +131,7 @@ module _ (log : List Label) where
     unmarked = λ m s k r x e marks step active stand was. asked_as e (marks_ended x (Some marks)) (
         let it = was e refl in
         record { effects = asked_more log e.identity x.effects (Applied marks.call marks.update marks.moment) it.effects (inl (it.marked marks stand.stand)); staged = it.staged; marked = λ other none. absurd (cc none) });
-    broken_off = λ e r x marks stand free none was. asked_as e (broken marks x) (
+    broken_off = λ e r x marks stand free none abandoned was. asked_as e (broken marks x) (
         let it = was e refl in
         record { effects = asked_more log e.identity x.effects (Broken marks.call marks.update marks.moment marks.done) it.effects (it.marked marks stand); staged = it.staged; marked = λ other none. absurd (cc none) });
   }

@@ -1,8 +1,10 @@
--- Each slot, each mark, each making and each hold is of a call in hand.
+-- Each slot, each mark, each making and each hold is of a call in hand, and each call in hand began in the log and goes on.
 use Rattle.std.proofs.Common.{◌≡◌, ◌⊎◌, inl, inr, ℕ, List, Option, Some, None, refl, sym, ap, subst, ◌∙◌}
 use Rattle.std.specs.Prelude.{IsSome, IsSomeAnd, Contains}
 use Rattle.ckpt_types.specs.declared.identities.ActorName.{ActorName}
 use Rattle.ckpt_types.specs.declared.identities.CallId.{CallId}
+use Rattle.ckpt_types.specs.declared.identities.Who.{Who}
+use Rattle.ckpt_types.specs.Asks.{asked}
 use Rattle.run_labels.specs.declared.labels.Label.{Label}
 use Rattle.call_dispatch.specs.declared.async_call.AsyncCall.{AsyncCall}
 use Rattle.cluster_record.specs.declared.entries.Entry.{Entry}
@@ -11,10 +13,11 @@ use Rattle.ckpt_machine.proofs.Lives.{held_not_dead}
 use Rattle.ckpt_machine.specs.Dead.{IsDead}
 use Rattle.ckpt_machine.specs.Invariant.{IsMaker, IsGoodIn, IsReservedFor, Invariant}
 use Rattle.ckpt_machine.specs.Laws.{OfEachRun}
-use Rattle.ckpt_machine.specs.Machine.{Machine, who}
-use Rattle.ckpt_machine.specs.Owners.{IsCallInHand, HasBegunIn, WasAbandoned, IsReservedLate, OwnersInHand, OwnersInHandThroughout}
+use Rattle.ckpt_machine.specs.Machine.{Machine, CallState, who}
+use Rattle.ckpt_machine.specs.Owners.{IsCallInHand, HasBegunIn, IsOngoing, WasAbandoned, IsReservedLate, OwnersInHand, OwnersInHandThroughout}
 use Rattle.ckpt_machine.specs.Runs.{last, IsRun}
 use Rattle.ckpt_machine.specs.Shape.{IsMarker, IsHolder}
+use Rattle.ckpt_machine.proofs.BegunBefore.{all_began, begun_on}
 use Rattle.ckpt_machine.proofs.EndedSlots.{IsThrough, slots_begun, through_then}
 use Rattle.ckpt_machine.proofs.Histories.{HasHistory, IsUpdater, slot_calls, marks_owned, run_history}
 use Rattle.ckpt_machine.proofs.OptionLemmas.{IsSomeAnd-at, IsSomeAnd-from}
@@ -63,6 +66,17 @@ module _ (log : List Label) (run : IsRun log) (inv : Invariant (last log)) (hist
       by_making e found None making none = absurd (cc none)
       by_making e found (Some call) making some = IsSomeAnd-from (Some call) (IsCallInHand m) call refl (makes k e call found making)
 
+  -- a call that is in hand began in the log, and no step of it has ended it
+  ongoing : (name : Who) (s : CallState) → m.in_hand name ≡ Some s → IsOngoing log name s
+  ongoing name s held =
+      let whose : who s ≡ name = (inv.holds.hands name s held).whose in
+      record {
+        ckpt = begun_on (asked s.op) s.kept.ckpt;
+        begun = all_began log run s (ap m.in_hand whose ∙ held);
+        unended = λ before behind l is ends. (through_then log run before behind l is s.call ends).over.none name s held refl;
+        name_is = sym whose;
+      }
+
   in_hand : OwnersInHand log
   in_hand = record {
     owners = λ k r x slot there staged. or_abandoned slot.owner (slots_begun log run k r x slot there staged).0 (λ through. (through.free k r x there slot staged).0 refl) (slot_calls m inv.shapes inv.holds history.bare k r x slot there staged).0;
@@ -71,6 +85,7 @@ module _ (log : List Label) (run : IsRun log) (inv : Invariant (last log)) (hist
     makes = makes;
     holds = holds;
     reserves = reserves;
+    ongoing = ongoing;
     under_way = under_way;
   }
 

@@ -14,6 +14,7 @@ use Rattle.ckpt_machine.proofs.OnlyAsked.{only_asked}
 use Rattle.ckpt_machine.proofs.OwnersInHand.{owners_in_hand}
 use Rattle.ckpt_machine.proofs.ReferencesKept.{handles_are_references}
 use Rattle.ckpt_machine.proofs.RefusedRuns.{run_leaves}
+use Rattle.ckpt_machine.proofs.Stays.{replicas_stay}
 use Rattle.ckpt_machine.proofs.Synchronized.{synchronisations_tell}
 
 pub promises_kept : RunsKeepPromises
@@ -22,6 +23,7 @@ promises_kept log run = record {
   all_or_none = on_all_or_none log run;
   acknowledged = acknowledged_stay log run;
   effects = effects_tell log run;
+  stay = replicas_stay log run;
   order = effects_keep_order log run;
   corrupted = only_broken_corrupt log run;
   synchronized = synchronisations_tell log run;

@@ -193,7 +193,7 @@ kept_replay log = record {
   marked = λ m s k r x e step active can was f found. subst (λ f. IsReplayed f (with_marks s.call (update_of s.op) m.cluster.moment x)) (same_Some e f found) (marked_replay e s.call (update_of s.op) m.cluster.moment x can (was e refl));
   element = λ m s k r x e marks step active stand was f found. subst (λ f. IsReplayed f (next_element_written e.attributes x (Some marks))) (same_Some e f found) (element_replay e x marks stand.stand (was e refl) stand.are.left_is);
   unmarked = λ m s k r x e marks step active stand was f found. subst (λ f. IsReplayed f (marks_ended x (Some marks))) (same_Some e f found) (unmarked_replay e x marks stand.stand (was e refl) stand.are.left_is);
-  broken_off = λ e r x marks stand free none was f found. subst (λ f. IsReplayed f (broken marks x)) (same_Some e f found) (broken_replay e x marks stand (was e refl));
+  broken_off = λ e r x marks stand free none abandoned was f found. subst (λ f. IsReplayed f (broken marks x)) (same_Some e f found) (broken_replay e x marks stand (was e refl));
 }
 
 -- THE LAW: each replica is the replay of its effects

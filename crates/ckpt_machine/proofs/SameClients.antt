@@ -1,5 +1,5 @@
--- A step leaves each client as it was that waits for a call in hand, which neither enters nor leaves: it does so by no other call meanwhile.
-use Rattle.std.proofs.Common.{◌≡◌, ℕ, Option, Some, None, Bool, true, false, cond, ◌==◌, refl, sym, ap, subst, ◌∙◌}
+-- A step changes the clients where one enters or leaves, and no other does. So it leaves each client as it was that waits for a call in hand, which neither enters nor leaves: it does so by no other call meanwhile.
+use Rattle.std.proofs.Common.{◌≡◌, ℕ, List, Option, Some, None, Bool, true, false, cond, ◌==◌, refl, sym, ap, subst, ◌∙◌}
 use Rattle.std.proofs.lemmas.Bool.{eqb-true}
 use Rattle.ckpt_types.specs.declared.answers.Outcome.{Outcome}
 use Rattle.ckpt_types.specs.declared.identities.ActorName.TheVariants.{Client}
@@ -37,6 +37,87 @@ said_alone None None P p = p
 said_alone (Some j) q P p = absurd p
 said_alone None (Some q) P p = absurd p
 
+-- ---- what holds of the clients
+
+module _ (m : Machine) (s : CallState) (P : List LiveClient → Type 0) (before : P m.cluster.clients) where
+  -- it holds of those of this machine
+  abbrev Holds : Machine → Type 0
+  Holds n = P n.cluster.clients
+
+  ok_holds : (reply : StepReply) (n : Machine) → Holds n → Holds (on_ok reply m n)
+  ok_holds words.Ok n holds = holds
+  ok_holds reply n holds = before
+
+  one_holds : (j : Option ℕ) (change : ℕ → Machine) → ((j : ℕ) → Holds (change j)) → Holds (at_some j m change)
+  one_holds None change holds = before
+  one_holds (Some j) change holds = holds j
+
+  both_hold : (j q : Option ℕ) (change : ℕ → ℕ → Machine) → ((j q : ℕ) → Holds (change j q)) → Holds (at_some j m (λ j. at_some q m (change j)))
+  both_hold j q change holds = one_holds j _ (λ j. one_holds q (change j) (holds j))
+
+  look_holds : (reply : StepReply) (done refused : Machine) → Holds done → Holds refused → Holds (on_look reply m done refused)
+  look_holds words.Done done refused after_done after_refused = after_done
+  look_holds words.Refused done refused after_done after_refused = after_refused
+  look_holds reply done refused after_done after_refused = before
+
+  replica_holds : (n : Machine) → Holds n → (k r : ℕ) (o : Option ReplicaState) (change : ReplicaState → ReplicaState) → Holds (change_replica n k r o change)
+  replica_holds n holds k r None change = holds
+  replica_holds n holds k r (Some x) change = holds
+
+  replicas_hold : (j q : Option ℕ) (reply : StepReply) (change : ℕ → ReplicaState → ReplicaState) → Holds (on_ok reply m (at_some j m (λ k. at_some q m (λ r. change_replica m k r (m.replicas k r) (change k)))))
+  replicas_hold j q reply change = ok_holds reply _ (both_hold j q _ (λ k r. replica_holds m before k r (m.replicas k r) (change k)))
+
+  created_holds : (ask : Ask) → P (created_for s.call ask m.cluster).clients
+  created_holds (asks.Open place name flags timeout None) = before
+  created_holds (asks.Open place name flags timeout (Some a)) = before
+  created_holds ask = before
+
+  retained_holds : (ask : Ask) (j : ℕ) → P (retained_for ask j m.cluster).clients
+  retained_holds (asks.Retain place duration) j = before
+  retained_holds ask j = before
+
+  making_holds : (j : Option ℕ) → Holds (without_making j m)
+  making_holds None = before
+  making_holds (Some j) = before
+
+  module _ (end : Option Outcome) (details : Details)
+      (entered : (r : ℕ) → Row m s verbs.Enter (record { verb = verbs.Enter; ckpt = None; node = Some r; reply = words.Ok; end = end; details = details }) → Holds (changed m s verbs.Enter None (Some r) words.Ok))
+      (gone : (j q : Option ℕ) → Row m s verbs.Leave (record { verb = verbs.Leave; ckpt = j; node = q; reply = words.Ok; end = end; details = details }) → Holds (changed m s verbs.Leave j q words.Ok)) where
+    -- behind any step that is allowed, if it does where a client enters or leaves
+    pub clients_hold : (verb : Verb) (j q : Option ℕ) (reply : StepReply) → Row m s verb (record { verb = verb; ckpt = j; node = q; reply = reply; end = end; details = details }) → Holds (changed m s verb j q reply)
+    clients_hold verbs.Enter None (Some r) words.Ok row = entered r row
+    clients_hold verbs.Enter None None words.Ok row = absurd row.0
+    clients_hold verbs.Enter (Some j) q words.Ok row = absurd row.0
+    clients_hold verbs.Enter j q reply row = before
+    clients_hold verbs.Leave j q words.Ok row = gone j q row
+    clients_hold verbs.Leave j q reply row = before
+    clients_hold verbs.Create j q reply row = ok_holds reply _ (created_holds (asked s.op))
+    clients_hold verbs.Reserve j q reply row = ok_holds reply _ (both_hold j q _ (λ k r. before))
+    clients_hold verbs.Finish j q reply row = ok_holds reply _ (one_holds j _ (λ k. before))
+    clients_hold verbs.Undo j q reply row = ok_holds reply _ (one_holds j _ (λ k. before))
+    clients_hold verbs.Open j q reply row = ok_holds reply _ (one_holds j _ (λ k. before))
+    clients_hold verbs.Close j q reply row = ok_holds reply _ (one_holds j _ (λ k. before))
+    clients_hold verbs.Unlink j q reply row = ok_holds reply _ (one_holds j _ (λ k. before))
+    clients_hold verbs.Retain j q reply row = ok_holds reply _ (one_holds j _ (λ k. retained_holds (asked s.op) k))
+    clients_hold verbs.Stage j q reply row = replicas_hold j q reply _
+    clients_hold verbs.Commit j q reply row = replicas_hold j q reply _
+    clients_hold verbs.Claim j q reply row = replicas_hold j q reply _
+    clients_hold verbs.Withdraw j q reply row = replicas_hold j q reply _
+    clients_hold verbs.Apply j q reply row = replicas_hold j q reply _
+    clients_hold verbs.Mark j q reply row = replicas_hold j q reply _
+    clients_hold verbs.Element j q reply row = replicas_hold j q reply _
+    clients_hold verbs.Unmark j q reply row = replicas_hold j q reply _
+    clients_hold verbs.Install j q reply row = replicas_hold j q reply _
+    clients_hold verbs.Iter j q reply row = ok_holds reply _ (both_hold j q _ (λ k r. before))
+    clients_hold verbs.Next j q reply row = ok_holds reply _ (both_hold j q _ (λ k r. before))
+    clients_hold verbs.Hold j q reply row = ok_holds reply _ (one_holds j _ (λ k. before))
+    clients_hold verbs.Activate j q reply row = ok_holds reply _ (both_hold j q _ (λ k r. replica_holds _ before k r _ _))
+    clients_hold verbs.Complete j q reply row = ok_holds reply _ (both_hold j q _ (λ k r. before))
+    clients_hold verbs.Look j q reply row = look_holds reply _ _ before (making_holds (making_of s.call m.cluster))
+    clients_hold verb j q reply row = before
+
+-- ---- a client that waits
+
 -- its client waits for it, and it neither enters nor leaves
 pub record IsAwaited (ask : Ask) : Type 0 where
   pub plain : is_async_ask ask ≡ false
@@ -73,42 +154,6 @@ module _ (m : Machine) (inv : Invariant m) (s : CallState) (held : m.in_hand (wh
   abbrev Stays : Machine → Type 0
   Stays n = find_key client_key c n.cluster.clients ≡ find_key client_key c m.cluster.clients
 
-  ok_stays : (reply : StepReply) (n : Machine) → Stays n → Stays (on_ok reply m n)
-  ok_stays words.Ok n stays = stays
-  ok_stays reply n stays = refl
-
-  one_stays : (j : Option ℕ) (change : ℕ → Machine) → ((j : ℕ) → Stays (change j)) → Stays (at_some j m change)
-  one_stays None change stays = refl
-  one_stays (Some j) change stays = stays j
-
-  both_stay : (j q : Option ℕ) (change : ℕ → ℕ → Machine) → ((j q : ℕ) → Stays (change j q)) → Stays (at_some j m (λ j. at_some q m (change j)))
-  both_stay j q change stays = one_stays j _ (λ j. one_stays q (change j) (stays j))
-
-  look_stays : (reply : StepReply) (done refused : Machine) → Stays done → Stays refused → Stays (on_look reply m done refused)
-  look_stays words.Done done refused after_done after_refused = after_done
-  look_stays words.Refused done refused after_done after_refused = after_refused
-  look_stays reply done refused after_done after_refused = refl
-
-  replica_stays : (n : Machine) → Stays n → (k r : ℕ) (o : Option ReplicaState) (change : ReplicaState → ReplicaState) → Stays (change_replica n k r o change)
-  replica_stays n stays k r None change = stays
-  replica_stays n stays k r (Some x) change = stays
-
-  replicas_stay : (j q : Option ℕ) (reply : StepReply) (change : ℕ → ReplicaState → ReplicaState) → Stays (on_ok reply m (at_some j m (λ k. at_some q m (λ r. change_replica m k r (m.replicas k r) (change k)))))
-  replicas_stay j q reply change = ok_stays reply _ (both_stay j q _ (λ k r. replica_stays m refl k r (m.replicas k r) (change k)))
-
-  created_stays : (ask : Ask) → find_key client_key c (created_for s.call ask m.cluster).clients ≡ find_key client_key c m.cluster.clients
-  created_stays (asks.Open place name flags timeout None) = refl
-  created_stays (asks.Open place name flags timeout (Some a)) = refl
-  created_stays ask = refl
-
-  retained_stays : (ask : Ask) (j : ℕ) → find_key client_key c (retained_for ask j m.cluster).clients ≡ find_key client_key c m.cluster.clients
-  retained_stays (asks.Retain place duration) j = refl
-  retained_stays ask j = refl
-
-  making_stays : (j : Option ℕ) → Stays (without_making j m)
-  making_stays None = refl
-  making_stays (Some j) = refl
-
   module _ (end : Option Outcome) (details : Details) where
     -- the parts of the step
     abbrev t_of : Verb → Option ℕ → Option ℕ → StepReply → Told
@@ -130,33 +175,4 @@ module _ (m : Machine) (inv : Invariant m) (s : CallState) (held : m.in_hand (wh
 
     -- behind any step that is allowed
     pub client_stays : (verb : Verb) (j q : Option ℕ) (reply : StepReply) → Row m s verb (t_of verb j q reply) → Stays (changed m s verb j q reply)
-    client_stays verbs.Enter None (Some r) words.Ok row = entered_stays r row
-    client_stays verbs.Enter None None words.Ok row = absurd row.0
-    client_stays verbs.Enter (Some j) q words.Ok row = absurd row.0
-    client_stays verbs.Enter j q reply row = refl
-    client_stays verbs.Leave j q words.Ok row = left_stays j q row
-    client_stays verbs.Leave j q reply row = refl
-    client_stays verbs.Create j q reply row = ok_stays reply _ (created_stays (asked s.op))
-    client_stays verbs.Reserve j q reply row = ok_stays reply _ (both_stay j q _ (λ k r. refl))
-    client_stays verbs.Finish j q reply row = ok_stays reply _ (one_stays j _ (λ k. refl))
-    client_stays verbs.Undo j q reply row = ok_stays reply _ (one_stays j _ (λ k. refl))
-    client_stays verbs.Open j q reply row = ok_stays reply _ (one_stays j _ (λ k. refl))
-    client_stays verbs.Close j q reply row = ok_stays reply _ (one_stays j _ (λ k. refl))
-    client_stays verbs.Unlink j q reply row = ok_stays reply _ (one_stays j _ (λ k. refl))
-    client_stays verbs.Retain j q reply row = ok_stays reply _ (one_stays j _ (λ k. retained_stays (asked s.op) k))
-    client_stays verbs.Stage j q reply row = replicas_stay j q reply _
-    client_stays verbs.Commit j q reply row = replicas_stay j q reply _
-    client_stays verbs.Claim j q reply row = replicas_stay j q reply _
-    client_stays verbs.Withdraw j q reply row = replicas_stay j q reply _
-    client_stays verbs.Apply j q reply row = replicas_stay j q reply _
-    client_stays verbs.Mark j q reply row = replicas_stay j q reply _
-    client_stays verbs.Element j q reply row = replicas_stay j q reply _
-    client_stays verbs.Unmark j q reply row = replicas_stay j q reply _
-    client_stays verbs.Install j q reply row = replicas_stay j q reply _
-    client_stays verbs.Iter j q reply row = ok_stays reply _ (both_stay j q _ (λ k r. refl))
-    client_stays verbs.Next j q reply row = ok_stays reply _ (both_stay j q _ (λ k r. refl))
-    client_stays verbs.Hold j q reply row = ok_stays reply _ (one_stays j _ (λ k. refl))
-    client_stays verbs.Activate j q reply row = ok_stays reply _ (both_stay j q _ (λ k r. replica_stays _ refl k r _ _))
-    client_stays verbs.Complete j q reply row = ok_stays reply _ (both_stay j q _ (λ k r. refl))
-    client_stays verbs.Look j q reply row = look_stays reply _ _ refl (making_stays (making_of s.call m.cluster))
-    client_stays verb j q reply row = refl
+    client_stays verb j q reply row = clients_hold m s (λ clients. find_key client_key c clients ≡ find_key client_key c m.cluster.clients) refl end details entered_stays left_stays verb j q reply row

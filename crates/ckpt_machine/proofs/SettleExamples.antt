@@ -1,5 +1,5 @@
 -- Worked runs with a failure, by computation: an update that is cut short is claimed by the next one, and withdrawn, or committed; and one whose last slots fall with their nodes ends by a look.
-use Rattle.std.proofs.Common.{◌≡◌, ℕ, List, [], ◌∷◌, ◌++◌, Option, Some, None, true, pos, refl}
+use Rattle.std.proofs.Common.{◌≡◌, ℕ, List, [], ◌∷◌, ◌++◌, Option, Some, None, true, pos, inl, inr, refl}
 use Rattle.std.specs.Option.{option_map}
 use Rattle.ckpt_types.specs.declared.answers.Answer.TheVariants as answers
 use Rattle.ckpt_types.specs.declared.answers.Outcome.TheVariants.{Done}
@@ -18,7 +18,9 @@ use Rattle.node_msgs.specs.declared.steps.Verb.{Verb}
 use Rattle.node_msgs.specs.declared.steps.Verb.TheVariants as verbs
 use Rattle.run_labels.specs.declared.labels.Label.{Label}
 use Rattle.run_labels.specs.declared.labels.Label.TheVariants as labels
+use Rattle.ckpt_machine.specs.CallsEnd.{failure}
 use Rattle.ckpt_machine.specs.Due.{due}
+use Rattle.ckpt_machine.specs.InOrder.{EndsBefore, KeepOrder}
 use Rattle.ckpt_machine.specs.Machine.{Applied}
 use Rattle.ckpt_machine.specs.Runs.{last}
 use Rattle.ckpt_machine.proofs.AcknowledgedExamples.{call_numbered, answered_ok, abc}
@@ -119,6 +121,29 @@ resolved = half ++ its_step verbs.Commit 0 words.Ok ∷ []
 
 has_the_others : effects_at 0 (last resolved) ≡ Some (Applied (other_numbered 3) abc (pos 0) ∷ [])
 has_the_others = refl
+
+-- c1's write ended before that of c0 began, as the failure of its client's node abandoned it; so no update of c0 could stand in front of it
+abbrev until_it_fails : List Label
+until_it_fails = writing wr_all_replicas ++ step_at verbs.Stage 0 ∷ step_at verbs.Stage 1 ∷ step_at verbs.Stage 2 ∷ step_at verbs.Commit 2 ∷ []
+
+abbrev the_rest : List Label
+the_rest = its_step verbs.Stage 0 (words.Held (other_numbered 3)) ∷ its_step verbs.Claim 0 words.Ok ∷ its_step verbs.Claim 2 (words.Free 1) ∷ its_step verbs.Commit 0 words.Ok ∷ []
+
+it_ends_before : EndsBefore resolved (other_numbered 3) (call_numbered 3)
+it_ends_before = record {
+  before = until_it_fails;
+  between = [];
+  behind = the_rest;
+  ending = labels.Failed 1 true;
+  op = ops.Write 0 abc;
+  end = None;
+  details = beside.Nothing;
+  log_is = refl;
+  ends = inr (record { in_hand = record { name = Actor (Client 1); state = _; in_hand = refl; call_is = refl }; ends = failure refl });
+}
+
+and_stands_first : KeepOrder resolved (Applied (call_numbered 3) abc (pos 0) ∷ Applied (other_numbered 3) abc (pos 0) ∷ []) → ⊥
+and_stands_first order = order (other_numbered 3) (call_numbered 3) it_ends_before (inl (refl, inl refl))
 
 then_stages : next_of 0 resolved ≡ Some (Serve 0 (requests.Stage (call_numbered 3) 1 (pos 0)))
 then_stages = refl

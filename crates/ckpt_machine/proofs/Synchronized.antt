@@ -43,10 +43,10 @@ use Rattle.ckpt_machine.specs.Shape.{IsCompleteOn}
 use Rattle.ckpt_machine.specs.After.{change_replica, with_installed, changed, kept_by, kept_behind, stepped, step_of, call_begun, after}
 use Rattle.ckpt_machine.specs.Due.{Told, IsDue, due, counted_at}
 use Rattle.ckpt_machine.specs.Whose.{same_who}
-use Rattle.ckpt_machine.specs.Synchronized.{Synchronizes, IsPullOf, IsServiceOf, IsServedIn, KeepsReplica, HaveFirst, IsSynchronized, SynchronizedTell}
+use Rattle.ckpt_machine.specs.Synchronized.{IsSyncWord, Synchronizes, IsServiceOf, IsServedIn, KeepsReplica, HaveFirst, IsSynchronized, SynchronizedTell}
 use Rattle.ckpt_machine.proofs.Askers.{IsCopyAsk, kept_still}
 use Rattle.ckpt_machine.proofs.BegunBefore.{begun_longer, all_began, begun_on-other}
-use Rattle.ckpt_machine.proofs.BegunOnce.{step_begun, step_below}
+use Rattle.ckpt_machine.proofs.BegunOnce.{pull_begun, step_below}
 use Rattle.ckpt_machine.specs.BeginRows.{BeginRow}
 use Rattle.ckpt_machine.specs.Beginning.{Standing}
 use Rattle.ckpt_machine.proofs.Bringing.{HasPulledIn, HasFirst, IsSureOf, IsBringing, service_parts, stays_bringing, step_brings}
@@ -314,22 +314,11 @@ have_first log n hands s answer bare brings all e r x found there = record {
         let (y, at, first) = IsSomeAnd-at (n.replicas all.ckpt r) (HasFirst all.pulled) (brings.served all.ckpt all.pulled all.kept all.in_hand all.entry r served all.found all.present sure) in
         subst (λ (x : ReplicaState). IsPrefix all.pulled.effects x.effects) (same_Some y x (sym at ∙ there)) first.1
 
--- the word asks for a synchronisation, for which its client waits or not
-abbrev IsSyncWord : OpWord → Type 0
-IsSyncWord opwords.Sync = Unit {0}
-IsSyncWord opwords.SyncAsync = Unit {0}
-IsSyncWord word = ⊥
-
 -- a call with such a word asks for one
 asks_by : (op : Op) → IsSyncWord (word_of_op op) → (place : ℕ) × (timeout : Option ℤ) × (asked op ≡ asks.Synchronize place timeout)
 asks_by (ops.Sync place timeout) is = (place, Some timeout, refl)
 asks_by (ops.SyncAsync place invocation) is = (place, None, refl)
 asks_by op is = absurd is
-
--- a call that has pulled in a run began in front of its pull
-pull_begun : (log : List Label) → IsRun log → (before behind : List Label) (pull : Label) (call : CallId) (k r : ℕ) → log ≡ before ++ pull ∷ behind → IsPullOf pull call k r → (op : Op) (ckpt : Option ℕ) → HasBegun log call op ckpt → HasBegun before call op ckpt
-pull_begun log run before behind (labels.Stepped d word verbs.Pull (Some j) (Some q) words.Ok end details) call k r is of op ckpt begun = step_begun log run before behind d word verbs.Pull (Some j) (Some q) words.Ok end details call is of.0 op ckpt begun
-pull_begun log run before behind l call k r is of op ckpt begun = absurd of
 
 -- a step that answers OK to a synchronisation tells what is so behind it
 tells_by : (log : List Label) → IsRun log → (d : CallId) (word : OpWord) → IsSyncWord word → (verb : Verb) (j q : Option ℕ) (reply : StepReply) (told : Answer) (details : Details) → let l : Label = labels.Stepped d word verb j q reply (Some (Done told)) details in
@@ -337,6 +326,7 @@ tells_by : (log : List Label) → IsRun log → (d : CallId) (word : OpWord) →
 tells_by log run d word syncs verb j q reply told details allowed due call answer is =
     subst (λ call. IsSynchronized (log ++ l ∷ []) call answer) (due.call_is ∙ is.0) (record {
       op = s.op;
+      asks = subst IsSyncWord (sym due.word) syncs;
       ckpt = all.ckpt;
       before = from.before;
       behind = from.behind;

@@ -34,6 +34,7 @@ use Rattle.ckpt_machine.specs.OpenGuards.{ReserveRow}
 use Rattle.ckpt_machine.specs.UpdateGuards.{StageRefused, StageHeld, StageRow, CommitRow, ClaimOk, ClaimFree, ClaimRow, WithdrawOk, WithdrawRow}
 use Rattle.ckpt_machine.specs.Machine.{Machine, CallState}
 use Rattle.ckpt_machine.specs.Due.{Told}
+use Rattle.ckpt_machine.proofs.Askers.{IsCopyAsk}
 use Rattle.ckpt_machine.proofs.Refusing.{row_at_ckpt, at_node, at_none, at_node_alone, on_all, begins_on_active, by_update}
 
 -- ---- an update asks for no other thing
@@ -50,6 +51,11 @@ changes (ops.Expire place update) is = tt
 changes (ops.Write place update) is = tt
 changes (ops.Over place update) is = tt
 changes op is = absurd is
+
+-- which is no copying
+pub no_copying : (ask : Ask) → IsChange ask → IsCopyAsk ask → ⊥
+no_copying (asks.Change place update) change copies = copies
+no_copying ask change copies = change
 
 -- ---- a beginning
 

@@ -1,5 +1,6 @@
 -- How a call that is in hand ends: by its own step, by the failure of a node, or, as an asynchronous one, with its client or its handle.
 use Rattle.std.specs.Prelude.{◌≡◌, ℕ, List, ◌∷◌, ◌++◌, [], Some, true}
+use Rattle.ckpt_types.specs.declared.identities.CallId.{CallId}
 use Rattle.ckpt_types.specs.declared.identities.Who.{Who}
 use Rattle.ckpt_types.specs.Asks.{asked}
 use Rattle.ckpt_types.specs.OpWord.{is_async, stepped_as, word_of_op}
@@ -26,6 +27,18 @@ TellsEnd label s = ⊥
 abbrev pub IsAbandonedBy : Label → Machine → CallState → Type 0
 IsAbandonedBy (labels.Failed r true) m s = is_abandoned m.cluster r s.call s.op ≡ true
 IsAbandonedBy label m s = ⊥
+
+-- a failure in the log has abandoned the call: it was in hand in front of the label that tells the failure of a node, and was abandoned by that
+pub record IsAbandonedIn (log : List Label) (call : CallId) : Type 0 where
+  pub before : List Label
+  pub behind : List Label
+  pub node : ℕ
+  pub log_is : log ≡ before ++ labels.Failed node true ∷ behind
+  pub name : Who
+  pub state : CallState
+  pub in_hand : (last before).in_hand name ≡ Some state
+  pub call_is : state.call ≡ call
+  pub abandoned : IsAbandonedBy (labels.Failed node true) (last before) state
 
 -- the label is a step of this verb and this reply, of the call that is in hand as this
 abbrev pub IsStepOf : Label → Machine → CallState → Verb → StepReply → Type 0

@@ -2,6 +2,7 @@
 use Rattle.std.specs.Prelude.{◌≡◌, ℕ, List, [], ◌∷◌, ◌++◌, Some, None, IsSome, IsSomeAnd, false}
 use Rattle.ckpt_types.specs.declared.answers.Outcome.TheVariants.{Done}
 use Rattle.ckpt_types.specs.declared.identities.CallId.{CallId}
+use Rattle.ckpt_types.specs.declared.operation.Op.TheVariants as ops
 use Rattle.ckpt_types.specs.declared.words.OpWord.TheVariants as opwords
 use Rattle.node_msgs.specs.declared.steps.Verb.TheVariants as verbs
 use Rattle.node_msgs.specs.declared.steps.StepReply.TheVariants as words
@@ -11,6 +12,7 @@ use Rattle.cluster_record.specs.declared.entries.Entry.{Entry}
 use Rattle.cluster_record.specs.DueCopy.{node_of}
 use Rattle.cluster_record.specs.Placement.{is_collocated}
 use Rattle.cluster_record.specs.RecordState.{entry_of}
+use Rattle.ckpt_machine.specs.Acknowledged.{HasBegun}
 use Rattle.ckpt_machine.specs.Machine.{Machine, ReplicaState}
 use Rattle.ckpt_machine.specs.Runs.{last}
 use Rattle.ckpt_machine.specs.Shape.{IsCompleteOn}
@@ -31,14 +33,15 @@ abbrev pub Completes : Label → CallId → ℕ → ℕ → Type 0
 Completes (labels.Stepped call opwords.Copy verbs.Complete (Some k) (Some r) words.Ok end details) d j q = (call ≡ d) × (k ≡ j) × (r ≡ q)
 Completes label d j q = ⊥
 
--- in the log the call has pulled from a replica of the checkpoint, which was complete; and what the node has of it behind the log is just what that had
--- then, in the present generation of the checkpoint
+-- in the log the call has pulled from a replica of the checkpoint, which was complete, and began in front of that as a copying; and what the node has of it
+-- behind the log is just what that had then, in the present generation of the checkpoint
 pub record WasCopied (log : List Label) (call : CallId) (k r : ℕ) : Type 0 where
   pub before : List Label
   pub behind : List Label
   pub pull : Label
   pub node : ℕ
   pub log_is : log ≡ before ++ pull ∷ behind
+  pub begun : HasBegun before call ops.Copy None
   pub pull_is : IsPullOf pull call k node
   pub source : ReplicaState
   pub there : (last before).replicas k node ≡ Some source
@@ -48,9 +51,10 @@ pub record WasCopied (log : List Label) (call : CallId) (k r : ℕ) : Type 0 whe
   pub sections : replica.sections ≡ source.sections
   pub generation : IsSomeAnd (entry_of k (last log).cluster.entries) (λ e. replica.generation ≡ e.generation)
 
--- WHAT A COPYING LEAVES: behind each completion the node has what was pulled, and behind an OK it has each checkpoint that it may have
+-- WHAT A COPYING LEAVES: behind each completion the node has what was pulled, and behind an OK it has each checkpoint that it may have; and the call began
+-- in the log as a copying
 pub record CopiesTell (log : List Label) : Type 0 where
   pub completed : (front back : List Label) (l : Label) (call : CallId) (k r : ℕ) → log ≡ front ++ l ∷ back → Completes l call k r
       → WasCopied (front ++ l ∷ []) call k r
   pub ended : (front back : List Label) (l : Label) (call : CallId) → log ≡ front ++ l ∷ back → AnswersCopy l call
-      → HasEach (last (front ++ l ∷ [])) (node_of call.actor)
+      → HasBegun front call ops.Copy None × HasEach (last (front ++ l ∷ [])) (node_of call.actor)

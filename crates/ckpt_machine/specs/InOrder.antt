@@ -1,4 +1,4 @@
--- In which order a replica has taken updates: that of a call which had ended before another began stands in front of the other's.
+-- In which order a replica has taken updates: that of a call which had ended before another began stands in front of the other's, however it ended.
 use Rattle.std.specs.Prelude.{◌≡◌, ◌⊎◌, ℕ, List, [], ◌∷◌, ◌++◌, Option, Some}
 use Rattle.ckpt_types.specs.declared.answers.Outcome.{Outcome}
 use Rattle.ckpt_types.specs.declared.identities.CallId.{CallId}
@@ -6,16 +6,23 @@ use Rattle.ckpt_types.specs.declared.operation.Op.{Op}
 use Rattle.node_msgs.specs.declared.details.Details.{Details}
 use Rattle.run_labels.specs.declared.labels.Label.{Label}
 use Rattle.run_labels.specs.declared.labels.Label.TheVariants as labels
-use Rattle.ckpt_machine.specs.Machine.{Effect, ReplicaState}
+use Rattle.ckpt_machine.specs.CallsEnd.{EndsBy}
+use Rattle.ckpt_machine.specs.LastStep.{IsLastStep}
+use Rattle.ckpt_machine.specs.Machine.{Machine, Effect, ReplicaState}
 use Rattle.ckpt_machine.specs.Owned.{IsEffectOf, HasEffect}
+use Rattle.ckpt_machine.specs.Owners.{IsCallInHand}
 use Rattle.ckpt_machine.specs.Runs.{last}
 
--- the label is the last step of the call; one that ends at its beginning takes no step, and has no effect
-abbrev pub IsLastStep : Label → CallId → Type 0
-IsLastStep (labels.Stepped call word verb k r reply (Some end) details) c = call ≡ c
-IsLastStep label c = ⊥
+-- in this state the call is in hand, and the label ends it in one of the ways in which a call in hand ends, as by the failure of its client's node
+pub record EndsInHand (m : Machine) (l : Label) (c : CallId) : Type 0 where
+  pub in_hand : IsCallInHand m c
+  pub ends : EndsBy m l in_hand.state
 
--- in the log the first call ends, and behind that the second begins
+-- behind the log the call ends by the label: this is its last step; or it is in hand till then, and ends in one of those ways
+abbrev pub IsEnding : List Label → Label → CallId → Type 0
+IsEnding log l c = IsLastStep l c ⊎ EndsInHand (last log) l c
+
+-- in the log the first call ends, in whichever way, and behind that the second begins
 pub record EndsBefore (log : List Label) (c d : CallId) : Type 0 where
   pub before : List Label
   pub between : List Label
@@ -25,7 +32,7 @@ pub record EndsBefore (log : List Label) (c d : CallId) : Type 0 where
   pub end : Option Outcome
   pub details : Details
   pub log_is : log ≡ before ++ ending ∷ (between ++ labels.Began d op end details ∷ behind)
-  pub ends : IsLastStep ending c
+  pub ends : IsEnding before ending c
 
 -- an effect of the first call stands in front of one of the second
 abbrev pub StandsBefore : CallId → CallId → List Effect → Type 0

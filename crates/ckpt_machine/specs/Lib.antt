@@ -64,4 +64,6 @@ pub mod LookGuards
 pub mod Under
 pub mod BrokenCorrupt
 pub mod CountsTold
+pub mod LastStep
 pub mod InOrder
+pub mod Stays

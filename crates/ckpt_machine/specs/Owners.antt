@@ -1,5 +1,6 @@
 -- Whose slots, marks, makings and holds there are: of calls in hand alone, so a call that has ended leaves none; but slots may be of a call that was
--- abandoned with its client. And which calls are in hand: each asynchronous one that is under way, so none is lost.
+-- abandoned with its client. And which calls are in hand: such as began in the log and have not ended, so none that nobody began; and each asynchronous one
+-- that is under way, so none is lost.
 use Rattle.std.specs.Prelude.{◌≡◌, ◌⊎◌, ℕ, List, ◌∷◌, ◌++◌, Option, Some, IsSomeAnd, Contains, true, false, slice_index}
 use Rattle.ckpt_types.specs.declared.identities.ActorName.{ActorName}
 use Rattle.ckpt_types.specs.declared.identities.CallId.{CallId}
@@ -12,8 +13,8 @@ use Rattle.cluster_record.specs.declared.entries.Entry.{Entry}
 use Rattle.cluster_record.specs.DueCopy.{lacks_replica}
 use Rattle.cluster_record.specs.RecordState.{RecordState, entry_of, is_live, is_up}
 use Rattle.ckpt_machine.specs.Acknowledged.{HasBegun}
-use Rattle.ckpt_machine.specs.InOrder.{IsLastStep}
-use Rattle.ckpt_machine.specs.Machine.{Machine, Staged, ReplicaState, CallState}
+use Rattle.ckpt_machine.specs.LastStep.{IsLastStep}
+use Rattle.ckpt_machine.specs.Machine.{Machine, Staged, ReplicaState, CallState, who}
 use Rattle.ckpt_machine.specs.Runs.{last}
 
 -- the call is in hand, by whatever name
@@ -29,10 +30,22 @@ pub record HasBegunIn (log : List Label) (call : CallId) : Type 0 where
   pub ckpt : Option ℕ
   pub begun : HasBegun log call op ckpt
 
+-- no step of the call in the log has ended it
+abbrev pub IsUnended : List Label → CallId → Type 0
+IsUnended log call = (before behind : List Label) (l : Label) → log ≡ before ++ l ∷ behind → IsLastStep l call → ⊥
+
+-- the call that is in hand under this name is one that goes on: it began in the log with the very operation that it has in hand, and went on, and no step of
+-- it has ended it; and the name is the one by which it is stepped
+pub record IsOngoing (log : List Label) (name : Who) (s : CallState) : Type 0 where
+  pub ckpt : Option ℕ
+  pub begun : HasBegun log s.call s.op ckpt
+  pub unended : IsUnended log s.call
+  pub name_is : name ≡ who s
+
 -- the call was abandoned: it began in the log, and went on, and no step of it ended it; but it is neither in hand behind the log nor live
 pub record WasAbandoned (log : List Label) (call : CallId) : Type 0 where
   pub began : HasBegunIn log call
-  pub unended : (before behind : List Label) (l : Label) → log ≡ before ++ l ∷ behind → IsLastStep l call → ⊥
+  pub unended : IsUnended log call
   pub gone : IsCallInHand (last log) call → ⊥
   pub not_live : is_live (last log).cluster call ≡ false
 
@@ -55,6 +68,8 @@ pub record OwnersInHand (log : List Label) : Type 0 where
       → IsCallInHand (last log) call
   pub reserves : (k r n : ℕ) → (last log).reserved k r ≡ Some n
       → IsSomeAnd (entry_of k (last log).cluster.entries) (λ e. IsSomeAnd e.making (IsCallInHand (last log)) ⊎ IsReservedLate (last log).cluster r n e)
+  -- each call that is in hand began in the log, with the operation that it has in hand, and goes on
+  pub ongoing : (name : Who) (s : CallState) → (last log).in_hand name ≡ Some s → IsOngoing log name s
   -- and an asynchronous call is in hand that its client is to be told of and that has not ended
   pub under_way : (a : ActorName) (c : AsyncCall) → Contains ((last log).pending a).unfinished c → IsCallInHand (last log) c.call
 

@@ -6,7 +6,9 @@ use Rattle.ckpt_types.specs.declared.answers.Outcome.TheVariants.{Done}
 use Rattle.ckpt_types.specs.declared.identities.CallId.{CallId}
 use Rattle.ckpt_types.specs.declared.operation.Op.{Op}
 use Rattle.ckpt_types.specs.declared.operation.Op.TheVariants as ops
+use Rattle.ckpt_types.specs.declared.words.OpWord.{OpWord}
 use Rattle.ckpt_types.specs.declared.words.OpWord.TheVariants as opwords
+use Rattle.ckpt_types.specs.OpWord.{word_of_op}
 use Rattle.node_msgs.specs.declared.steps.StepReply.TheVariants as words
 use Rattle.node_msgs.specs.declared.steps.Verb.TheVariants as verbs
 use Rattle.run_labels.specs.declared.labels.Label.{Label}
@@ -19,6 +21,12 @@ use Rattle.ckpt_machine.specs.Acknowledged.{HasBegun}
 use Rattle.ckpt_machine.specs.Machine.{Machine, Effect, ReplicaState}
 use Rattle.ckpt_machine.specs.Replays.{IsPrefix}
 use Rattle.ckpt_machine.specs.Runs.{last}
+
+-- the word asks for a synchronisation, for which its client waits or not
+abbrev pub IsSyncWord : OpWord → Type 0
+IsSyncWord opwords.Sync = Unit {0}
+IsSyncWord opwords.SyncAsync = Unit {0}
+IsSyncWord word = ⊥
 
 -- the label answers OK to this call, which asks for a synchronisation by its word, with this answer: by a step, or to one for which its client waits at
 -- its beginning
@@ -68,11 +76,12 @@ abbrev pub HaveFirst : Machine → List Label → CallId → ℕ → List Effect
 HaveFirst m log call k pulled =
     (e : Entry) (r : ℕ) (x : ReplicaState) → entry_of k m.cluster.entries ≡ Some e → m.replicas k r ≡ Some x → WasServed log call k r e x pulled
 
--- the call has pulled in the log from the active, and began in front of that with an operation on this checkpoint; the answer tells how many effects the
--- active had then; and the checkpoint is there, and each complete replica of it has its generation, and these first, but for one of a collocated checkpoint
--- on a node that is not the active and has failed since the call served it, as an open may have made that anew
+-- the call has pulled in the log from the active, and began in front of that with a synchronisation of this checkpoint; the answer tells how many effects
+-- the active had then; and the checkpoint is there, and each complete replica of it has its generation, and these first, but for one of a collocated
+-- checkpoint on a node that is not the active and has failed since the call served it, as an open may have made that anew
 pub record IsSynchronized (log : List Label) (call : CallId) (answer : Answer) : Type 0 where
   pub op : Op
+  pub asks : IsSyncWord (word_of_op op)
   pub ckpt : ℕ
   pub before : List Label
   pub behind : List Label

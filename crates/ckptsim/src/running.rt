@@ -8,6 +8,7 @@ ghost use Rattle.ckpt_machine.specs.Acknowledged.{AcknowledgedStay};
 ghost use Rattle.ckpt_machine.specs.Replays.{EffectsTellThroughout};
 ghost use Rattle.ckpt_machine.specs.InOrder.{EffectsKeepOrder};
 ghost use Rattle.ckpt_machine.specs.BrokenCorrupt.{OnlyBrokenCorrupt};
+ghost use Rattle.ckpt_machine.specs.Stays.{ReplicasStay};
 ghost use Rattle.ckpt_machine.specs.Synchronized.{SynchronizedTell};
 ghost use Rattle.ckpt_machine.specs.WasAsked.{OnlyAskedThroughout};
 ghost use Rattle.ckpt_machine.specs.Owners.{OwnersInHandThroughout};
@@ -55,6 +56,7 @@ pub fn ckpt_run<R: Threads + Wait + Sync, S: Source, K: Sink, G: Gate>(
     ensures acknowledged { AcknowledgedStay log.new.labels }
     ensures effects { EffectsTellThroughout log.new.labels }
     ensures order { EffectsKeepOrder log.new.labels }
+    ensures stay { ReplicasStay log.new.labels }
     ensures corrupted { OnlyBrokenCorrupt log.new.labels }
     ensures synchronized { SynchronizedTell log.new.labels }
     ensures asked { OnlyAskedThroughout log.new.labels }

@@ -7,6 +7,7 @@ ghost use Rattle.ckpt_types.specs.Limits.{nodes_max};
 ghost use Rattle.ckpt_types.specs.Reads.{read};
 ghost use Rattle.node_msgs.specs.declared.replies.Reply.TheVariants as replies;
 ghost use Rattle.cluster_record.specs.RecordState.{entry_of};
+ghost use Rattle.node_core.specs.Behind.{remains_at};
 ghost use Rattle.node_core.specs.Details.{details_told};
 ghost use Rattle.node_core.specs.Failing.{HoldsEachOnce};
 ghost use Rattle.ckpt_machine.specs.Asking.{MayCome, KeepsToDeclared};
@@ -66,7 +67,8 @@ impl Nodes {
     }
 
     /// The answer of a node to a request, by what it sees of the record. What travels beside the request is lent, and
-    /// what comes beside the reply stands in it. A reservation alone takes memory.
+    /// what comes beside the reply stands in it; what is not used stays as it was, and so do the other nodes. A reservation
+    /// alone takes memory.
     pub fn serve(
         &mut self,
         alloc: Global,
@@ -82,6 +84,7 @@ impl Nodes {
         ensures details { details_told result lent.new ≡ details_at request.now (payload_of lent.old) (seen_for seen.now (node_at self.old r) request.now) (served_for seen.now (node_at self.old r) request.now) }
         ensures iteration { lent.new.iteration ≡ iteration_behind request.now (seen_for seen.now (node_at self.old r) request.now) (served_for seen.now (node_at self.old r) request.now) lent.old.iteration }
         ensures snapshot { lent.new.snap ≡ snapshot_behind request.now (served_for seen.now (node_at self.old r) request.now) lent.old.snap }
+        ensures kept { lent.new ≡ remains_at request.now (served_for seen.now (node_at self.old r) request.now) result lent.new lent.old }
         ensures there { r < length self.old }
     {
         serve_node(self.list.as_mut_slice(), alloc, r, seen, request, lent)
@@ -99,7 +102,7 @@ impl Nodes {
     }
 
     /// The replica of a checkpoint on a node reads, as it does where `serve` asks for it: the pieces come into the empty
-    /// buffer. It takes no memory.
+    /// buffer, which a refusal leaves as it was. It takes no memory.
     #[inline(always)]
     pub fn read(
         &self,
@@ -115,6 +118,7 @@ impl Nodes {
         requires room { HasRoomToRead elements.now out.old }
         ensures answer { IfSome (replica_in self.now ckpt r) (λ x. result ≡ done_or_refused (replies.Done answers.Pieces) (read elements.now now x.sections)) }
         ensures pieces { IfSome (replica_in self.now ckpt r) (λ x. IfOk (read elements.now now x.sections) (λ pieces. out.new.pieces ≡ pieces)) }
+        ensures refused { IfSome (replica_in self.now ckpt r) (λ x. OnErr (read elements.now now x.sections) (out.new ≡ out.old)) }
     {
         read_at(self.list.as_slice(), r, ckpt, elements, now, out)
     }
@@ -191,6 +195,7 @@ fn serve_node(
     ensures details { details_told result lent.new ≡ details_at request.now (payload_of lent.old) (seen_for seen.now (node_at (nodes_shown nodes.old) r) request.now) (served_for seen.now (node_at (nodes_shown nodes.old) r) request.now) }
     ensures iteration { lent.new.iteration ≡ iteration_behind request.now (seen_for seen.now (node_at (nodes_shown nodes.old) r) request.now) (served_for seen.now (node_at (nodes_shown nodes.old) r) request.now) lent.old.iteration }
     ensures snapshot { lent.new.snap ≡ snapshot_behind request.now (served_for seen.now (node_at (nodes_shown nodes.old) r) request.now) lent.old.snap }
+    ensures kept { lent.new ≡ remains_at request.now (served_for seen.now (node_at (nodes_shown nodes.old) r) request.now) result lent.new lent.old }
 {
     let node = &mut nodes[r as usize];
     see_declared(node, request, lent);
@@ -231,6 +236,7 @@ fn read_at(
     requires room { HasRoomToRead elements.now out.old }
     ensures answer { IfSome (replica_in (nodes_shown nodes.now) ckpt r) (λ x. result ≡ done_or_refused (replies.Done answers.Pieces) (read elements.now now x.sections)) }
     ensures pieces { IfSome (replica_in (nodes_shown nodes.now) ckpt r) (λ x. IfOk (read elements.now now x.sections) (λ pieces. out.new.pieces ≡ pieces)) }
+    ensures refused { IfSome (replica_in (nodes_shown nodes.now) ckpt r) (λ x. OnErr (read elements.now now x.sections) (out.new ≡ out.old)) }
 {
     nodes[r as usize].read(ckpt, elements, now, out)
 }

@@ -104,7 +104,8 @@ impl Node {
     }
 
     /// The replica of a checkpoint reads what the elements say, as it does where `serve` asks for it: its pieces come into the
-    /// empty buffer. It takes no memory, and looks at no record. It requires that the node has the replica.
+    /// empty buffer, which a refusal leaves as it was. It takes no memory, and looks at no record. It requires that the node
+    /// has the replica.
     #[inline(always)]
     pub fn read(
         &self,
@@ -118,6 +119,7 @@ impl Node {
         requires room { HasRoomToRead elements.now out.old }
         ensures answer { IfSome (find_key replica_key ckpt self.now.replicas) (λ x. result ≡ done_or_refused (replies.Done answers.Pieces) (read elements.now now x.sections)) }
         ensures pieces { IfSome (find_key replica_key ckpt self.now.replicas) (λ x. IfOk (read elements.now now x.sections) (λ pieces. out.new.pieces ≡ pieces)) }
+        ensures refused { IfSome (find_key replica_key ckpt self.now.replicas) (λ x. OnErr (read elements.now now x.sections) (out.new ≡ out.old)) }
     {
         read_in(self.replicas.as_slice(), ckpt, elements, now, out)
     }

@@ -1,5 +1,5 @@
 //! What a replica tells: reads, a status, and iterations.
-ghost use Rattle.std.specs.Prelude.{◌≡◌, ◌^◌, ◌<◌, ◌≤◌, ℕ, None, Some, IfOk, IfSome, IsOk, IsSome, IsSomeAnd, MatchOption, length};
+ghost use Rattle.std.specs.Prelude.{◌≡◌, ◌^◌, ◌<◌, ◌≤◌, ℕ, None, Some, IfOk, IfSome, IsOk, IsSome, IsSomeAnd, MatchOption, OnErr, length};
 ghost use Rattle.ckpt_types.specs.declared.answers.Answer.TheVariants as answers;
 ghost use Rattle.ckpt_types.specs.Reads.{read, status, chosen, given};
 ghost use Rattle.section_iter.specs.Next.{kept_after};
@@ -88,6 +88,7 @@ pub(crate) fn read_in(
     requires room { HasRoomToRead elements.now out.old }
     ensures answer { IfSome (find_key replica_key ckpt replicas.now) (λ x. result ≡ done_or_refused (replies.Done answers.Pieces) (read elements.now now x.sections)) }
     ensures pieces { IfSome (find_key replica_key ckpt replicas.now) (λ x. IfOk (read elements.now now x.sections) (λ pieces. out.new.pieces ≡ pieces)) }
+    ensures refused { IfSome (find_key replica_key ckpt replicas.now) (λ x. OnErr (read elements.now now x.sections) (out.new ≡ out.old)) }
 {
     let Some(replica) = find_at(replicas, ckpt) else {
         unreachable!()
@@ -100,6 +101,7 @@ fn read_whole(store: &Store, elements: &[ReadElement], now: Moment, out: &mut Re
     requires room { HasRoomToRead elements.now out.old }
     ensures answer { result ≡ done_or_refused (replies.Done answers.Pieces) (read elements.now now store.now.sections) }
     ensures pieces { IfOk (read elements.now now store.now.sections) (λ pieces. out.new.pieces ≡ pieces) }
+    ensures refused { OnErr (read elements.now now store.now.sections) (out.new ≡ out.old) }
 {
     if let Err(refused) = check_read(store, elements, now) {
         return Reply::Refused(refused.error, refused.index);

@@ -1,5 +1,5 @@
 //! The log: the labels of a run in order.
-ghost use Rattle.std.specs.Prelude.{◌≡◌, ◌+◌, ◌≤◌, ◌<◌, [], ◌∷◌, ◌++◌, OnOk, Some, IsTrue, ◌↔◌, length, slice_get, take};
+ghost use Rattle.std.specs.Prelude.{◌≡◌, ◌+◌, ◌≤◌, ◌<◌, [], ◌∷◌, ◌++◌, OnOk, IsOk, Some, IsTrue, ◌↔◌, length, slice_get, take};
 
 use crate::labels::Label;
 use std::alloc::{AllocError, Global};
@@ -31,11 +31,12 @@ impl RunLog {
         }
     }
 
-    /// Takes room for so many labels more.
+    /// Takes room for so many labels more. Where it is there, none is taken, and nothing is refused.
     pub fn reserve(&mut self, n: usize) -> Result<(), AllocError>
         ensures labels { self.new.labels ≡ self.old.labels }
         ensures spare { OnOk result (n ≤ self.new.spare) }
         ensures kept { self.old.spare ≤ self.new.spare }
+        ensures sure { n ≤ self.old.spare → IsOk result }
     {
         self.items.reserve(n)
     }

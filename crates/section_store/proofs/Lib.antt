@@ -7,3 +7,8 @@ pub mod Expiring
 pub mod KeyLemmas
 pub mod SummaryLemmas
 pub mod StoreRows
+pub mod ExtentLemmas
+pub mod Sliding
+pub mod Turning
+pub mod RegionLemmas
+pub mod RegionPlaces

@@ -1,6 +1,10 @@
+pub mod Extents
 pub mod Keyed
 pub mod Keys
+pub mod Packing
 pub mod Places
+pub mod Region
+pub mod RegionState
 pub mod Store
 pub mod StoreState
 pub mod Stored

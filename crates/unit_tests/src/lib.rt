@@ -14,6 +14,8 @@ mod labels;
 #[cfg(test)]
 mod names;
 #[cfg(test)]
+mod regions;
+#[cfg(test)]
 mod replicas;
 #[cfg(test)]
 mod rows;

@@ -74,6 +74,18 @@ Comes w log (happenings.Put k r) = r < nodes_max
 Comes w log (happenings.Fail r) = r < nodes_max
 Comes w log (happenings.Join r) = r < nodes_max
 
+-- the event happens whatever memory there is, where the log has room for its label: nodes come up, fail and join, the moment is set, and a background
+-- snapshot is pulled and put without any; and a copying that is refused its own begins and ends with that
+abbrev pub IsSureToHappen : Event → Type 0
+IsSureToHappen (happenings.Nodes n) = Unit {0}
+IsSureToHappen (happenings.Begin (Node r) op) = Unit {0}
+IsSureToHappen (happenings.At t) = Unit {0}
+IsSureToHappen (happenings.Pull k) = Unit {0}
+IsSureToHappen (happenings.Put k r) = Unit {0}
+IsSureToHappen (happenings.Fail r) = Unit {0}
+IsSureToHappen (happenings.Join r) = Unit {0}
+IsSureToHappen event = ⊥
+
 -- this call is in hand
 abbrev pub IsThere : CallId → Op → Option InHand → Type 0
 IsThere call op None = ⊥

@@ -1,9 +1,9 @@
 //! The cluster, and the events that may happen to it.
-ghost use Rattle.std.specs.Prelude.{◌≡◌, ◌≤◌, IfOk, Ok, OnOk, OnErr, is_some};
+ghost use Rattle.std.specs.Prelude.{◌≡◌, ◌≤◌, IfOk, IsOk, Ok, OnOk, OnErr, is_some};
 ghost use Rattle.world_core.specs.Shows.{IsShown, HasNumbersLeft};
 ghost use Rattle.world_core.specs.Parts.{record_in, call_in_hand};
 ghost use Rattle.world_core.specs.Happenings.{Adds, ComesNow, IsAnswered};
-ghost use Rattle.world_core.specs.Runs.{IsNew, IsRunTo, MayHappen, Happens};
+ghost use Rattle.world_core.specs.Runs.{IsNew, IsRunTo, IsSureToHappen, MayHappen, Happens};
 ghost use Rattle.ckpt_machine.specs.Promises.{KeepsPromises};
 ghost use Rattle.world_core.specs.declared.world.World.{World};
 ghost use Rattle.world_core.specs.StepsLeft.{ComesNearer};
@@ -93,12 +93,14 @@ pub trait Cluster {
         ensures { result ≡ is_some (call_in_hand (shown self.now) who) };
 
     /// One event, and one label more, which answers it. Want of memory leaves the world and the log as
-    /// they were; a call whose own memory is refused ends with it instead.
+    /// they were; a call whose own memory is refused ends with it instead. An event that takes no memory of the
+    /// world is sure to happen where the log has room.
     fn event(&mut self, alloc: Global, event: Event, log: &mut RunLog) -> Result<(), AllocError>
         requires { MayHappen (shown self.old) log.old.labels event }
         ensures run { IsRunTo (shown self.new) log.new.labels }
         ensures happens { OnOk result (Happens event (shown self.old) (shown self.new) log.old.labels log.new.labels) }
         ensures err { OnErr result ((shown self.new ≡ shown self.old) × (log.new.labels ≡ log.old.labels)) }
+        ensures sure { IsSureToHappen event → 1 ≤ log.old.spare → IsOk result }
 
         // The log is a run, so it keeps all that a run promises.
         ensures promises { KeepsPromises log.new.labels }
@@ -134,6 +136,7 @@ impl World {
         ensures run { IsRunTo self.new log.new.labels }
         ensures happens { OnOk result (Happens event self.old self.new log.old.labels log.new.labels) }
         ensures err { OnErr result ((self.new ≡ self.old) × (log.new.labels ≡ log.old.labels)) }
+        ensures sure { IsSureToHappen event → 1 ≤ log.old.spare → IsOk result }
         ensures nearer { OnOk result (ComesNearer event self.old self.new) }
     {
         machine_law();
@@ -152,6 +155,7 @@ impl World {
         requires spare { 1 ≤ log.old.spare }
         ensures ok { OnOk result (Adds log.old log.new (IsAnswered event self.old self.new)) }
         ensures err { OnErr result ((self.new ≡ self.old) × (log.new.labels ≡ log.old.labels)) }
+        ensures sure { IsSureToHappen event → IsOk result }
     {
         match event {
             Event::Nodes(n) => {

@@ -15,6 +15,9 @@ returns-clause-effects g c = (c.machine_law.ensures.promises c.run_command.new.l
 pub returns-clause-order : goal.returns-clause-order
 returns-clause-order g c = (c.machine_law.ensures.promises c.run_command.new.log.labels c.run_command.ensures.run.run).order
 
+pub returns-clause-stay : goal.returns-clause-stay
+returns-clause-stay g c = (c.machine_law.ensures.promises c.run_command.new.log.labels c.run_command.ensures.run.run).stay
+
 pub returns-clause-corrupted : goal.returns-clause-corrupted
 returns-clause-corrupted g c = (c.machine_law.ensures.promises c.run_command.new.log.labels c.run_command.ensures.run.run).corrupted
 

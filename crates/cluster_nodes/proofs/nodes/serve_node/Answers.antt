@@ -2,6 +2,7 @@ use Rattle.std.proofs.Common.{sym, ap, subst, ◌∙◌}
 use Rattle.std.specs.Prelude.{slice_set}
 use Rattle.ckpt_machine.specs.Asking.{MayCome}
 use Rattle.ckpt_machine.proofs.Asking.{fits_that_comes}
+use Rattle.node_core.specs.Behind.{remains_at}
 use Rattle.node_core.specs.Nodes.{NodeState, MayReply, replicas_after, seen_for, served_for}
 use Rattle.node_core.specs.Payloads.{payload_of}
 use Rattle.node_core.specs.Serving.{details_at, iteration_behind, snapshot_behind}
@@ -42,3 +43,8 @@ pub returns-clause-snapshot : goal.returns-clause-snapshot
 returns-clause-snapshot c =
     c.serve.ensures.snapshot
     ∙ ap (λ (n : NodeState). snapshot_behind c.args.request.now (served_for c.args.seen.now n c.args.request.now) c.args.lent.now.snap) (sym (node_is c.args.nodes.now c.requires.numbered c.args.r c.index-nodes-r.result c.requires.node))
+
+pub returns-clause-kept : goal.returns-clause-kept
+returns-clause-kept c =
+    c.serve.ensures.kept
+    ∙ ap (λ (n : NodeState). remains_at c.args.request.now (served_for c.args.seen.now n c.args.request.now) c.serve.result c.serve.new.lent c.args.lent.now) (sym (node_is c.args.nodes.now c.requires.numbered c.args.r c.index-nodes-r.result c.requires.node))
