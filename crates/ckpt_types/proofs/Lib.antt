@@ -2,6 +2,8 @@ pub mod Accepted
 pub mod AttributeLaws
 mod Constants
 pub mod EndsLemmas
+pub mod Expirations
+pub mod FirstSections
 pub mod Fitting
 pub mod Lists
 pub mod Numbering

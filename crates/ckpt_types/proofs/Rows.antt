@@ -12,7 +12,7 @@ use Rattle.ckpt_types.specs.declared.update.Update.{Update}
 use Rattle.ckpt_types.specs.declared.update.Update.TheVariants as updates
 use Rattle.ckpt_types.specs.Limits.{wr_all_replicas, end_of_time, sections_any, sections_corrupted, sections_forever, sections_geq_expiration_time, sections_leq_expiration_time}
 use Rattle.ckpt_types.specs.Reads.{chosen, description, given, read, status}
-use Rattle.ckpt_types.specs.Sections.{Section, opening}
+use Rattle.ckpt_types.specs.Sections.{Section, opening, earliest_expiration}
 use Rattle.ckpt_types.specs.Updates.{generated_id, outcome, refuse, refuse_at}
 
 -- ---- the words of the examples
@@ -310,6 +310,12 @@ status_counts_present_sections = refl
 
 pub status_leaves_out_an_expired_section : status two_of_eight (pos 20) expiring_and_y ≡ record { attributes = two_of_eight; number_of_sections = 1; memory_used = 1 }
 status_leaves_out_an_expired_section = refl
+
+pub earliest_expiration_is_the_least : earliest_expiration expiring_and_y ≡ pos 20
+earliest_expiration_is_the_least = refl
+
+pub nothing_expires_where_there_is_no_section : earliest_expiration [] ≡ end_of_time
+nothing_expires_where_there_is_no_section = refl
 
 pub forever_chooses_what_never_expires : chosen (choice sections_forever 0) (pos 10) expiring_and_y ≡ codes "b" ∷ []
 forever_chooses_what_never_expires = refl

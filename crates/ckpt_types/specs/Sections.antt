@@ -1,6 +1,7 @@
 -- The sections of a checkpoint: a finite map from identifier to section, as the list of the sections in
 -- the order of their identifiers.
 use Rattle.std.specs.Prelude.{◌≡◌, ℕ, suc, ◌≤◌, List, [], ◌∷◌, length, filter, find, sum_by, All, Option, Some, None, is_some, Bool, not, nat_eq, ◌==◌, if◌then◌else◌, ℤ, int_lt}
+use Rattle.std.specs.Int.{int_min}
 use Rattle.std.specs.Option.{option_map}
 use Rattle.std.specs.Ordering.{nat_cmp, match_ordering}
 use Rattle.std.specs.declared.cmp.Ordering.{Ordering}
@@ -92,6 +93,11 @@ size_of s = length s.bytes
 -- how many bytes the sections have together
 abbrev pub memory_used : List Section → ℕ
 memory_used sections = sum_by size_of sections
+
+-- the least expiration of the sections, the end of time where there is none
+abbrev pub earliest_expiration : List Section → ℤ
+earliest_expiration [] = end_of_time
+earliest_expiration (s ∷ sections) = int_min s.expiration (earliest_expiration sections)
 
 -- the sections keep to what was declared
 pub record Fits (a : CreationAttributes) (sections : List Section) : Type 0 where

@@ -11,7 +11,7 @@ use Rattle.ckpt_types.specs.declared.update.NewId.TheVariants.{Given, Generated}
 use Rattle.ckpt_types.specs.declared.update.Update.{Update}
 use Rattle.ckpt_types.specs.declared.update.Update.TheVariants as updates
 use Rattle.ckpt_types.specs.Limits.{generated_id_bytes}
-use Rattle.ckpt_types.specs.Sections.{Section, section_at, is_taken, with_section, without_section, present, memory_used}
+use Rattle.ckpt_types.specs.Sections.{Section, section_at, place_of, is_taken, with_section, without_section, present, memory_used}
 
 -- why an update or a read is refused: the error, and for a vector the index of the refused element, from 0
 pub record Refusal : Type 0 where
@@ -122,6 +122,11 @@ element_written a t place e sections =
     if nat_lt a.max_section_size (e.offset + length e.bytes) then refuse_at place InvalidParam
     else if outgrows a after then refuse_at place NoSpace
     else Ok after)
+
+-- where the section stands that the first element goes to, 0 where there is no element or no such section
+abbrev pub first_place : List IoElement → List Section → ℕ
+first_place [] sections = 0
+first_place (e ∷ elements) sections = unwrap_or (place_of e.id sections) 0
 
 -- the elements in order, each over the sections that the earlier ones left
 abbrev pub elements_written : CreationAttributes → ℤ → ℕ → List IoElement → List Section → Result (List Section) Refusal

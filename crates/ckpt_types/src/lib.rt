@@ -8,6 +8,7 @@ mod attributes;
 mod byte_room;
 mod bytes;
 mod calls;
+mod counting;
 mod elements;
 mod identities;
 mod limits;
@@ -31,6 +32,7 @@ pub use bytes::{Bytes, SharedName, name_fits};
 pub use calls::{
     AsyncKind, Callback, CallbackSet, Count, Held, OpenAsk, RaceBlock, RaceLine, Version,
 };
+pub use counting::totals;
 pub use elements::Elements;
 pub use identities::{ActorName, CallId, CkptId, Incarnation, Moment, NodeId, Who};
 pub use limits::{

@@ -1,5 +1,5 @@
 //! What calls see of the sections of a checkpoint, whoever keeps them.
-ghost use Rattle.std.specs.Prelude.{◌≡◌, ◌<◌, ◌-◌, ◌^◌, List, length, slice_get, Option, Some, None, MatchOption};
+ghost use Rattle.std.specs.Prelude.{◌≡◌, ◌<◌, List, length, slice_get, Option, Some, None, MatchOption};
 
 use crate::attributes::CreationAttributes;
 use crate::identities::Moment;
@@ -95,12 +95,12 @@ pub struct Totals {
     /// How many they are.
     pub count: usize,
     /// How many bytes they have together.
-    pub bytes: u128,
+    pub bytes: u64,
 }
 
 /// A finite map of sections, by identifier, in the order of the identifiers.
 pub trait Sections {
-    ghost use Rattle.ckpt_types.specs.Sections.{Section, Rises, place_of, section_at, section_of, present, memory_used};
+    ghost use Rattle.ckpt_types.specs.Sections.{Section, Rises, place_of, section_at, section_of, memory_used, earliest_expiration};
 
     /// The sections, in the order of their identifiers.
     ghost sections: { Self → List Section };
@@ -120,9 +120,11 @@ pub trait Sections {
         ensures place { result ≡ place_of id.now (sections self.now) }
         ensures section { MatchOption result (section_at id.now (sections self.now) ≡ None) (λ place. section_at id.now (sections self.now) ≡ slice_get (sections self.now) place) };
 
-    /// How many sections are present, and how many bytes they have together.
-    fn totals(&self, now: Moment) -> Totals
-        ensures count { result.count ≡ length (present now (sections self.now)) }
-        ensures bytes { result.bytes ≡ memory_used (present now (sections self.now)) }
-        ensures small { result.bytes < 2 ^ 128 - 2 ^ 64 };
+    /// How many bytes all sections have together.
+    fn sum(&self) -> u64
+        ensures { result ≡ memory_used (sections self.now) };
+
+    /// The least expiration of all sections, `NEVER` where there is none.
+    fn earliest(&self) -> Moment
+        ensures { result ≡ earliest_expiration (sections self.now) };
 }

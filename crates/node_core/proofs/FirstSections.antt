@@ -3,7 +3,7 @@ use Rattle.std.proofs.Common.{◌≡◌, ℕ, ◌+◌, ◌≤◌, List, length, 
 use Rattle.std.proofs.lemmas.List.{take_all}
 use Rattle.std.proofs.lemmas.List.Elements.{All-push}
 use Rattle.ckpt_types.specs.Sections.{Section}
-use Rattle.snap_copy.proofs.TakenLemmas.{take-next}
+use Rattle.ckpt_types.proofs.FirstSections.{take-next}
 
 -- what holds of the first, and of the next one
 pub All-next : (P : Section → Type 0) (sections : List Section) (i : ℕ) (s : Section) → slice_get sections i ≡ Some s → All P (take i sections) → P s → All P (take (i + 1) sections)

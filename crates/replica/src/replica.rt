@@ -1,16 +1,19 @@
 //! A replica: what may be done to it, and what becomes of it. It knows no message and no other replica.
-ghost use Rattle.std.specs.Prelude.{◌≡◌, ◌≢◌, ◌+◌, ◌-◌, ◌^◌, ◌<◌, false, true, None, IfOk};
+ghost use Rattle.std.specs.Prelude.{◌≡◌, ◌≢◌, ◌+◌, ◌-◌, ◌^◌, ◌<◌, false, true, None, IfOk, IsOk};
 ghost use Rattle.ckpt_types.specs.Attributes.{is_malformed};
 ghost use Rattle.ckpt_types.specs.Sections.{Fits};
+ghost use Rattle.ckpt_types.specs.Updates.{outcome};
 ghost use Rattle.stage_slot.specs.Slots.{owner_of, IsOwnedBy, IsClaim};
 ghost use Rattle.update_rules.specs.Told.{check_answer};
+ghost use Rattle.update_rules.specs.Writes.{placed_first};
 ghost use Rattle.weak_marks.specs.Marks.{call_of, is_left, is_left_of, IsMarkedBy};
+ghost use Rattle.replica.specs.ReplicaView.{IsPlanOf};
 ghost use Rattle.replica.specs.Replicas.{opened_replica, outcome_on, answer_unless, staged, committed, withdrawn, applied, begun, element_done, elements_left, first_written, ended, abandoned, all_corrupted, IsWrite, CanGoOn, pull_result, pulled_unless, is_older, install_answer, taken_from, installed};
 
 use ckpt_types::{
     CallId, CkptId, CreationAttributes, Held, IoElement, Moment, SharedUpdate, Update,
 };
-use section_store::Store;
+use section_store::{Plan, Store};
 use snap_copy::Snap;
 use stage_slot::{Claimed, Slot};
 use std::alloc::{AllocError, Global};
@@ -42,6 +45,8 @@ pub struct Older {
 pub struct Replica {
     ckpt: CkptId,
     store: Store,
+    // Where the update goes that is staged, unless it is too long for a plan.
+    plan: Plan,
     // How many updates it has taken.
     count: u64,
     generation: u64,
@@ -76,6 +81,7 @@ impl Replica {
         Ok(Replica {
             ckpt,
             store: Store::reserve(alloc, attributes, made)?,
+            plan: Plan::reserve(alloc)?,
             count: 0,
             generation: 1,
             slot: Slot::empty(),
@@ -90,6 +96,7 @@ impl Replica {
         Ok(Replica {
             ckpt: self.ckpt,
             store: self.store.copy(alloc)?,
+            plan: self.plan.copy(alloc)?,
             count: self.count,
             generation: self.generation,
             slot: self.slot.copy(alloc)?,
@@ -114,8 +121,15 @@ impl Replica {
         if let Some(owner) = self.slot.owner() {
             return Err(StageRefused::Held(owner));
         }
-        if let Err(refused) = self.check(update.value(), moment) {
-            return Err(StageRefused::Rules(refused));
+        let checked = update_rules::check_placed(
+            self.store.attributes(),
+            &self.store,
+            update.value(),
+            moment,
+        );
+        match checked {
+            Ok(first) => plan_staged(&self.store, update.value(), first, moment, &mut self.plan),
+            Err(refused) => return Err(StageRefused::Rules(refused)),
         }
         let Ok(()) = self.slot.stage(by, update, moment, self.count) else {
             unreachable!()
@@ -141,7 +155,12 @@ impl Replica {
         let Some(staged) = self.slot.kept() else {
             unreachable!()
         };
-        self.store.apply(staged.update.value(), staged.moment);
+        let update = staged.update.value();
+        if Plan::has_room_for(update) {
+            self.store.apply_plan(update, staged.moment, &self.plan);
+        } else {
+            self.store.apply(update, staged.moment);
+        }
         self.count += 1;
         self.slot.clear(by);
     }
@@ -372,6 +391,24 @@ impl Replica {
         ensures attributes { result.now.attributes ≡ self.now.attributes }
     {
         &self.store
+    }
+}
+
+// Plans an update that the sections admit, where a plan has room for it. Of a write it is known where the section of its
+// first element stands.
+#[inline(always)]
+fn plan_staged(store: &Store, update: &Update, first: usize, moment: Moment, plan: &mut Plan)
+    requires accepted { IsOk (outcome store.now.attributes update.now moment store.now.sections) }
+    requires first { first ≡ placed_first update.now store.now.sections }
+    ensures { IsPlanOf update.now moment store.now plan.new }
+{
+    if !Plan::has_room_for(update) {
+        return;
+    }
+    if let Update::Write(elements) = update {
+        store.plan_write(elements.as_slice(), first, moment, plan);
+    } else {
+        store.plan(update, moment, plan);
     }
 }
 

@@ -6,7 +6,7 @@ use Rattle.std.proofs.lemmas.Bool.{cases_lt, cases_eq}
 use Rattle.std.proofs.lemmas.List.{get_or-take, get_or-drop, get_or_append_left, get_or-append_right, length-take-le, length-drop, length-replicate, append-nil, take_all, length-set, get_or-set_other, get_or-set_same, get_or_default, get_or-map}
 use Rattle.std.proofs.lemmas.List.Sums.{sum_by-cons}
 use Rattle.section_store.specs.declared.extents.Extent.{Extent}
-use Rattle.section_store.specs.Extents.{bytes_at, strings_in, extent_at, end_of, AreApart, AreLaid}
+use Rattle.section_store.specs.Extents.{no_extent, bytes_at, strings_in, extent_at, end_of, AreApart, AreLaid}
 use Rattle.section_store.specs.RegionState.{with_string, resized}
 
 -- ---- bytes
@@ -100,14 +100,14 @@ strings_in-changed b b' change (e ∷ es) (e' ∷ es') (suc p) len there same he
 pub strings_in-set : (b b' : List ℕ) (change : List ℕ → List ℕ) (es : List Extent) (p : ℕ) (e' : Extent) → p < length es → ((k : ℕ) → k < length es → k ≢ p → bytes_at b' (extent_at k es) ≡ bytes_at b (extent_at k es)) → bytes_at b' e' ≡ change (bytes_at b (extent_at p es))
     → strings_in b' (set es p e') ≡ with_string change p (strings_in b es)
 strings_in-set b b' change es p e' there same here =
-    let none : Extent = record { start = 0; len = 0 } in
+    let none : Extent = no_extent in
     strings_in-changed b b' change es (set es p e') p (length-set es p e') there
     (λ k lt other. ap (bytes_at b') (get_or-set_other es p k e' none other) ∙ same k lt other)
     (ap (bytes_at b') (get_or-set_same es p e' none there) ∙ here)
 
 -- the extent that is read at a place is that of the place
 pub extent_read : (es : List Extent) (p : ℕ) (e : Extent) → p < length es → e ≡ get_or es p e → extent_at p es ≡ e
-extent_read es p e there is = get_or_default es p (record { start = 0; len = 0 }) e there ∙ sym is
+extent_read es p e there is = get_or_default es p no_extent e there ∙ sym is
 
 -- a string that lies before an end lies there still where all bytes before the end are as they were
 pub bytes_at-before : (b b' : List ℕ) (e : Extent) (end : ℕ) → end_of e ≤ end → end ≤ length b → end ≤ length b' → ((i : ℕ) → i < end → get_or b' i 0 ≡ get_or b i 0) → bytes_at b' e ≡ bytes_at b e
@@ -117,7 +117,7 @@ bytes_at-before b b' e end before within within' same = bytes_at-moved b b' e.st
 
 -- the extent at a place, whatever is read behind all
 pub extent_at-any : (es : List Extent) (k : ℕ) (d : Extent) → k < length es → get_or es k d ≡ extent_at k es
-extent_at-any es k d lt = get_or_default es k d (record { start = 0; len = 0 }) lt
+extent_at-any es k d lt = get_or_default es k d no_extent lt
 
 -- two strings are apart in either order
 pub AreApart-sym : (a e : Extent) → AreApart a e → AreApart e a
@@ -182,7 +182,7 @@ cut-within b b' e a cut (inr is) shorter within apart before empty =
 pub strings_in-set-same : (b b' : List ℕ) (es : List Extent) (p : ℕ) (e' : Extent) → p < length es → ((k : ℕ) → k < length es → k ≢ p → bytes_at b' (extent_at k es) ≡ bytes_at b (extent_at k es)) → bytes_at b' e' ≡ bytes_at b (extent_at p es)
     → strings_in b' (set es p e') ≡ strings_in b es
 strings_in-set-same b b' es p e' there same here =
-    let none : Extent = record { start = 0; len = 0 } in
+    let none : Extent = no_extent in
     strings_in-same b b' es (set es p e') (length-set es p e')
     (λ k lt. elim (cases_eq k p) [
       | inl at ↦ ap (λ n. bytes_at b' (extent_at n (set es p e'))) at ∙ ap (bytes_at b') (get_or-set_same es p e' none there) ∙ here ∙ ap (λ n. bytes_at b (extent_at n es)) (sym at)
@@ -199,7 +199,7 @@ sum-strings_in b (e ∷ es) within =
 -- where the strings are the same, each has its length
 pub same_lengths : (b b' : List ℕ) (es es' : List Extent) (k : ℕ) → end_of (extent_at k es) ≤ length b → end_of (extent_at k es') ≤ length b' → k < length es → length es' ≡ length es → strings_in b' es' ≡ strings_in b es → (extent_at k es').len ≡ (extent_at k es).len
 same_lengths b b' es es' k within within' lt size same =
-    let none : Extent = record { start = 0; len = 0 } in
+    let none : Extent = no_extent in
     let e = extent_at k es in
     let e' = extent_at k es' in
     let here : bytes_at b' e' ≡ bytes_at b e = sym (get_or-map (bytes_at b') es' k none [] (omega arith)) ∙ ap (λ xs. get_or xs k []) same ∙ get_or-map (bytes_at b) es k none [] lt in

@@ -17,7 +17,7 @@ use Rattle.ckpt_types.proofs.AttributeLaws.{IsWellFormed-from_check}
 use Rattle.ckpt_types.proofs.Fitting.{length-new_id-le, Fits-element_written, Fits-overwritten, Fits-expiration_set, Fits-without_section, Fits-section_created, Fits-with_section_over}
 use Rattle.ckpt_types.proofs.Options.{none_of}
 use Rattle.section_store.specs.Places.{count_below, changed_at}
-use Rattle.section_store.specs.StoreState.{with_corrupted, corrupted_where}
+use Rattle.section_store.specs.StoreState.{new_section, with_corrupted, corrupted_where}
 use Rattle.section_store.proofs.PlaceLemmas.{slice_get-within, with_section-changed_at, with_section-insert, without_section-remove}
 
 -- an update is not refused and leaves these sections, which rise and keep to what was declared
@@ -114,6 +114,25 @@ section_created-insert a new expiration bytes t sections rises fits accepted =
     let section : Section = record { id = new_id new sections; bytes = bytes; expiration = expiration; state = Valid; last_update = t } in
     Leaves-same a _ after _ (sym done.left ∙ with_section-insert section sections (none_of (section_at section.id sections) done.free)) is
     (subst Rises done.left (Rises-with_section section sections rises)) (Fits-section_created a new expiration bytes t sections after rises fits done)
+
+-- ---- where the place and the moment are told in other words
+
+pub overwritten-told : (a : CreationAttributes) (id bytes : List ℕ) (t m : ℤ) (sections : List Section) (i : ℕ) → m ≡ t → Rises sections → Fits a sections → place_of id sections ≡ Some i → IsOk (overwritten a id bytes t sections)
+    → Leaves a (overwritten a id bytes t sections) (changed_at (λ s. record s { bytes = bytes; state = Valid; last_update = m }) i sections)
+overwritten-told a id bytes t m sections i moment rises fits place accepted =
+    subst (λ n. Leaves a (overwritten a id bytes t sections) (changed_at (λ s. record s { bytes = bytes; state = Valid; last_update = n }) i sections)) (sym moment) (overwritten-changed_at a id bytes t sections i rises fits place accepted)
+
+pub expiration_set-told : (a : CreationAttributes) (id : List ℕ) (expiration m t : ℤ) (sections : List Section) (i : ℕ) → m ≡ expiration → Rises sections → Fits a sections → place_of id sections ≡ Some i → IsOk (expiration_set a id expiration t sections)
+    → Leaves a (expiration_set a id expiration t sections) (changed_at (λ s. record s { expiration = m }) i sections)
+expiration_set-told a id expiration m t sections i moment rises fits place accepted =
+    subst (λ n. Leaves a (expiration_set a id expiration t sections) (changed_at (λ s. record s { expiration = n }) i sections)) (sym moment) (expiration_set-changed_at a id expiration t sections i rises fits place accepted)
+
+pub section_created-told : (a : CreationAttributes) (new : NewId) (expiration e : ℤ) (bytes : List ℕ) (t m : ℤ) (sections : List Section) (id : List ℕ) (i : ℕ) → e ≡ expiration → m ≡ t → id ≡ new_id new sections → i ≡ count_below (new_id new sections) sections
+    → Rises sections → Fits a sections → IsOk (section_created a new expiration bytes t sections) → Leaves a (section_created a new expiration bytes t sections) (insert sections i (new_section id bytes e m))
+section_created-told a new expiration e bytes t m sections id i end moment named place rises fits accepted =
+    let same : insert sections i (new_section id bytes e m) ≡ insert sections (count_below (new_id new sections) sections) (new_section (new_id new sections) bytes expiration t) =
+    λ k. insert sections (place k) (new_section (named k) bytes (end k) (moment k)) in
+    subst (Leaves a (section_created a new expiration bytes t sections)) (sym same) (section_created-insert a new expiration bytes t sections rises fits accepted)
 
 -- an element that is not refused at one place of a vector is not refused at another
 pub element_written-any_place : (a : CreationAttributes) (t : ℤ) (place other : ℕ) (e : IoElement) (sections after : List Section) → element_written a t place e sections ≡ Ok after → element_written a t other e sections ≡ Ok after

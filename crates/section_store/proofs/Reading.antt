@@ -1,23 +1,19 @@
--- What a read gives, element by element, and what is present of the sections that are kept.
-use Rattle.std.proofs.Common.{◌≡◌, ℕ, zero, suc, ◌+◌, ◌-◌, ◌<◌, ◌≤◌, List, [], ◌∷◌, ◌++◌, length, take, drop, get_or, Some, Result, Ok, Err, true, false, if◌then◌else◌, nat_lt, ℤ, sum_by, sym, ap, ◌∙◌, refl, arith, length-append, append_assoc, append-nil, drop-cons}
-use Rattle.std.specs.Global.{Box}
+-- What a read gives, element by element.
+use Rattle.std.proofs.Common.{◌≡◌, ℕ, zero, suc, ◌+◌, ◌-◌, ◌<◌, ◌≤◌, List, [], ◌∷◌, ◌++◌, length, take, drop, get_or, Some, Result, Ok, Err, nat_lt, ℤ, sum_by, sym, ap, ◌∙◌, refl, arith, length-append, append_assoc, drop-cons}
 use Rattle.std.specs.Prelude.{IsOk, IfOk}
 use Rattle.std.specs.Result.{result_unwrap_or}
 use Rattle.std.proofs.lemmas.Bool.{ltb-false}
-use Rattle.std.proofs.lemmas.List.{take-append-drop, map-append}
-use Rattle.std.proofs.lemmas.List.Elements.{filter-append}
+use Rattle.std.proofs.lemmas.List.{take-append-drop}
 use Rattle.std.proofs.lemmas.List.Sums.{sum_by-append, sum_by-cons}
 use Rattle.ckpt_types.specs.declared.update.ReadElement.{ReadElement}
 use Rattle.ckpt_types.specs.Buffer.{Buffer, with_piece}
 use Rattle.ckpt_types.specs.Reads.{piece_read, pieces_read, read}
-use Rattle.ckpt_types.specs.Sections.{Section, Rises, section_at, present, is_present, size_of, memory_used}
+use Rattle.ckpt_types.specs.Sections.{Section, Rises, section_at, present, size_of}
 use Rattle.ckpt_types.specs.Updates.{Refusal, and_then}
 use Rattle.ckpt_types.proofs.Accepted.{on_section-Ok, and_then-Ok, if-Ok_last, accepted_same}
 use Rattle.ckpt_types.proofs.Presence.{section_at-present, where_present-Some}
 use Rattle.section_store.proofs.Placed.{Ok_from_IsOk}
 use Rattle.section_store.specs.StoreState.{with_pieces}
-use Rattle.section_store.specs.Stored.{kept_section, kept_sections}
-use Rattle.section_store.specs.declared.stored.Stored.{Stored}
 
 -- ---- one element
 
@@ -143,41 +139,6 @@ piece-fits all i piece spare next room =
     let halves : sum_by length all ≡ sum_by length (take i all) + sum_by length (drop i all) = ap (sum_by length) (sym (take-append-drop i all)) ∙ sum_by-append length (take i all) (drop i all) in
     let first : sum_by length (drop i all) ≡ length piece + sum_by length (drop (suc i) all) = ap (sum_by length) next ∙ sum_by-cons length piece (drop (suc i) all) in
     omega arith
-
--- ---- those present
-
--- the sections of the first records, and one more
-pub kept_sections-take : (kept : List (Box Stored)) (i : ℕ) (s : Box Stored) → i < length kept → s ≡ get_or kept i s → kept_sections (take (suc i) kept) ≡ kept_sections (take i kept) ++ kept_section s.value ∷ []
-kept_sections-take [] i s there is = absurd (omega arith)
-kept_sections-take (k ∷ kept) zero s there is = ap (λ x. kept_section x.value ∷ []) (sym is)
-kept_sections-take (k ∷ kept) (suc i) s there is = ap (λ xs. kept_section k.value ∷ xs) (kept_sections-take kept i s (omega arith) is)
-
--- those present among the first, and one more
-pub present-take : (t : ℤ) (kept : List (Box Stored)) (i : ℕ) (s : Box Stored) → i < length kept → s ≡ get_or kept i s → present t (kept_sections (take (suc i) kept)) ≡ present t (kept_sections (take i kept)) ++ (if is_present t (kept_section s.value) then kept_section s.value ∷ [] else [])
-present-take t kept i s there is = ap (present t) (kept_sections-take kept i s there is) ∙ filter-append (is_present t) (kept_sections (take i kept)) (kept_section s.value ∷ [])
-
--- the first sections have at most the bytes of all
-pub memory_used-take-le : (kept : List (Box Stored)) (i : ℕ) → memory_used (kept_sections (take i kept)) ≤ memory_used (kept_sections kept)
-memory_used-take-le kept i =
-    let whole : kept_sections kept ≡ kept_sections (take i kept) ++ kept_sections (drop i kept) = ap kept_sections (sym (take-append-drop i kept)) ∙ map-append (λ b. kept_section b.value) (take i kept) (drop i kept) in
-    omega (arith, ap memory_used whole, sum_by-append size_of (kept_sections (take i kept)) (kept_sections (drop i kept)))
-
--- what is counted of the first records and one more that is present
-pub totals-present : (t : ℤ) (kept : List (Box Stored)) (i : ℕ) (s : Box Stored) → i < length kept → s ≡ get_or kept i s → is_present t (kept_section s.value) ≡ true
-    → (length (present t (kept_sections (take (i + 1) kept))) ≡ length (present t (kept_sections (take i kept))) + 1) × (memory_used (present t (kept_sections (take (i + 1) kept))) ≡ memory_used (present t (kept_sections (take i kept))) + length s.value.bytes.items)
-totals-present t kept i s there is here =
-    let before = present t (kept_sections (take i kept)) in
-    let next : i + 1 ≡ suc i = omega arith in
-    let more : present t (kept_sections (take (i + 1) kept)) ≡ before ++ kept_section s.value ∷ [] =
-    ap (λ m. present t (kept_sections (take m kept))) next ∙ present-take t kept i s there is ∙ ap (λ b. before ++ (if b then kept_section s.value ∷ [] else [])) here in
-    (ap length more ∙ length-append before (kept_section s.value ∷ []), omega (arith, ap memory_used more, sum_by-append size_of before (kept_section s.value ∷ [])))
-
--- what is counted stays where one more is not present
-pub totals-absent : (t : ℤ) (kept : List (Box Stored)) (i : ℕ) (s : Box Stored) → i < length kept → s ≡ get_or kept i s → is_present t (kept_section s.value) ≡ false → present t (kept_sections (take (i + 1) kept)) ≡ present t (kept_sections (take i kept))
-totals-absent t kept i s there is gone =
-    let before = present t (kept_sections (take i kept)) in
-    let next : i + 1 ≡ suc i = omega arith in
-    ap (λ m. present t (kept_sections (take m kept))) next ∙ present-take t kept i s there is ∙ ap (λ b. before ++ (if b then kept_section s.value ∷ [] else [])) gone ∙ append-nil before
 
 -- where a read is not refused, it reads of those present what it reads of all
 pub read-all : (t : ℤ) (elements : List ReadElement) (sections : List Section) → Rises sections → IsOk (read elements t sections) → read elements t sections ≡ pieces_read 0 elements sections

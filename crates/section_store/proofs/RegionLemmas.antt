@@ -8,7 +8,7 @@ use Rattle.std.proofs.lemmas.List.Sums.{sum_by-cons}
 use Rattle.std.proofs.lemmas.Grind.{same_number_lists}
 use Rattle.ckpt_types.specs.Updates.{padded, written}
 use Rattle.section_store.specs.declared.extents.Extent.{Extent}
-use Rattle.section_store.specs.Extents.{bytes_at, strings_in, extent_at, end_of, AreApart, AreLaid}
+use Rattle.section_store.specs.Extents.{no_extent, bytes_at, strings_in, extent_at, end_of, AreApart, AreLaid}
 use Rattle.section_store.specs.RegionState.{string_at, with_string, resized}
 use Rattle.section_store.proofs.ExtentLemmas.{length-bytes_at, get_or-bytes_at, bytes_at-moved, bytes_at-before, strings_in-same, strings_in-changed, extent_at-any, AreApart-sym}
 
@@ -42,10 +42,10 @@ remove-with_string change (suc p) (s ∷ strings) = ap (λ xs. s ∷ xs) (remove
 pub length-string_at : (b : List ℕ) (es : List Extent) (p : ℕ) → p < length es → end_of (extent_at p es) ≤ length b → length (string_at p (strings_in b es)) ≡ (extent_at p es).len
 length-string_at b es p there within =
     let e = extent_at p es in
-    ap length (get_or-map (bytes_at b) es p (record { start = 0; len = 0 }) [] there) ∙ length-bytes_at b e.start e.len within
+    ap length (get_or-map (bytes_at b) es p no_extent [] there) ∙ length-bytes_at b e.start e.len within
 
 -- an empty string is put in
-pub strings_in-insert : (b : List ℕ) (es : List Extent) (p : ℕ) → strings_in b (insert es p (record { start = 0; len = 0 })) ≡ insert (strings_in b es) p []
+pub strings_in-insert : (b : List ℕ) (es : List Extent) (p : ℕ) → strings_in b (insert es p no_extent) ≡ insert (strings_in b es) p []
 strings_in-insert b es p = simp (map-append, take-map, drop-map)
 
 -- a string is taken away
@@ -57,7 +57,7 @@ strings_in-remove b es p = simp (map-append, take-map, drop-map)
 -- a string that is put in at a place lies apart from the others
 inserted_from : (es : List Extent) (i : ℕ) (e' : Extent) (k : ℕ) → i ≤ length es → k < length (insert es i e') → ((k ≡ i) × (extent_at k (insert es i e') ≡ e')) ⊎ ((j : ℕ) × (j < length es) × (extent_at k (insert es i e') ≡ extent_at j es) × (((k < i) × (j ≡ k)) ⊎ ((i < k) × (j + 1 ≡ k))))
 inserted_from es i e' k place lt =
-    let none : Extent = record { start = 0; len = 0 } in
+    let none : Extent = no_extent in
     let size = length-insert es i e' place in
     elim (cases_eq k i) [
       | inl same ↦ inl (same, ap (λ n. extent_at n (insert es i e')) same ∙ get_or-insert_at es i e' none place)
@@ -78,7 +78,7 @@ inserted_same i j k m n (inr a) (inr b) same = omega (arith, a, b)
 
 pub AreLaid-insert : (end end' : ℕ) (es : List Extent) (i : ℕ) (e' : Extent) → AreLaid end es → i ≤ length es → end ≤ end' → end_of e' ≤ end' → (e'.len ≡ 0 → e'.start ≡ 0) → ((k : ℕ) → k < length es → AreApart e' (extent_at k es)) → AreLaid end' (insert es i e')
 AreLaid-insert end end' es i e' laid place longer within empty apart =
-    let none : Extent = record { start = 0; len = 0 } in
+    let none : Extent = no_extent in
     record {
       within = λ k d lt. subst (λ x. end_of x ≤ end') (sym (extent_at-any (insert es i e') k d lt)) (elim (inserted_from es i e' k place lt) [
         | inl here ↦ subst (λ x. end_of x ≤ end') (sym here.1) within
@@ -106,7 +106,7 @@ AreLaid-insert end end' es i e' laid place longer within empty apart =
 -- the others lie apart where a string is taken away
 removed_from : (es : List Extent) (i k : ℕ) → i < length es → k < length (remove es i) → (j : ℕ) × (j < length es) × (extent_at k (remove es i) ≡ extent_at j es) × (((k < i) × (j ≡ k)) ⊎ ((i ≤ k) × (j ≡ k + 1)))
 removed_from es i k there lt =
-    let none : Extent = record { start = 0; len = 0 } in
+    let none : Extent = no_extent in
     let size = length-remove es i there in
     elim (cases_lt k i) [
       | inl below ↦ (k, omega arith, get_or-remove_below es i none k below there, inl (below, refl))
@@ -121,7 +121,7 @@ removed_same i j k m n (inr a) (inr b) same = omega (arith, a, b)
 
 pub AreLaid-remove : (end : ℕ) (es : List Extent) (i : ℕ) → AreLaid end es → i < length es → AreLaid end (remove es i)
 AreLaid-remove end es i laid there =
-    let none : Extent = record { start = 0; len = 0 } in
+    let none : Extent = no_extent in
     record {
       within = λ k d lt. let old = removed_from es i k there lt in subst (λ x. end_of x ≤ end) (sym (extent_at-any (remove es i) k d lt ∙ old.2)) (laid.within old.0 none old.1);
       apart = λ j k d differ lt_j lt_k.
@@ -189,7 +189,7 @@ bytes_at-put_at b s len offset bytes within inside =
 pub strings_in-put_at : (b : List ℕ) (es : List Extent) (p offset : ℕ) (bytes : List ℕ) → AreLaid (length b) es → p < length es → offset + length bytes ≤ (extent_at p es).len
     → strings_in (put_at ((extent_at p es).start + offset) bytes b) es ≡ with_string (λ s. written s offset bytes) p (strings_in b es)
 strings_in-put_at b es p offset bytes laid there inside =
-    let none : Extent = record { start = 0; len = 0 } in
+    let none : Extent = no_extent in
     let e = extent_at p es in
     let b' = put_at (e.start + offset) bytes b in
     let within : end_of e ≤ length b = laid.within p none there in
@@ -217,9 +217,9 @@ bytes_at-end b bytes start (inl at) =
     same_number_lists (take (length bytes) (drop start (b ++ bytes))) bytes long
     (λ k lt. get_or-bytes_at (b ++ bytes) start (length bytes) k (omega arith) ∙ get_or-append_right b bytes start (start + k) 0 (sym at) (omega arith) ∙ ap (λ n. get_or bytes n 0) (let first : start + k - start ≡ k = omega arith in first))
 
-pub strings_in-append : (b bytes : List ℕ) (es : List Extent) (start : ℕ) → AreLaid (length b) es → (start ≡ length b) ⊎ (length bytes ≡ 0) → strings_in (b ++ bytes) (es ++ record { start = start; len = length bytes } ∷ []) ≡ strings_in b es ++ bytes ∷ []
+pub strings_in-append : (b bytes : List ℕ) (es : List Extent) (start : ℕ) → AreLaid (length b) es → (start ≡ length b) ⊎ (length bytes ≡ 0) → strings_in (b ++ bytes) (es ++ record { start = start; len = length bytes; place = 0 } ∷ []) ≡ strings_in b es ++ bytes ∷ []
 strings_in-append b bytes es start laid at =
-    let e' : Extent = record { start = start; len = length bytes } in
+    let e' : Extent = record { start = start; len = length bytes; place = 0 } in
     let before : strings_in (b ++ bytes) es ≡ strings_in b es = strings_in-same b (b ++ bytes) es es refl
     (λ k lt. bytes_at-before b (b ++ bytes) (extent_at k es) (length b) (laid.within k _ lt) (omega arith) (omega (arith, length-append b bytes)) (λ i lt_i. get_or_append_left b bytes 0 i lt_i)) in
     map-append (bytes_at (b ++ bytes)) es (e' ∷ []) ∙ (λ i. before i ++ bytes_at-end b bytes start at i ∷ [])

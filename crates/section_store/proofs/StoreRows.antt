@@ -11,6 +11,7 @@ use Rattle.ckpt_types.specs.Limits.{wr_all_replicas, end_of_time}
 use Rattle.ckpt_types.specs.Reads.{read, status}
 use Rattle.ckpt_types.specs.Sections.{Section, opening, present}
 use Rattle.ckpt_types.specs.Updates.{Refusal, generated_id, outcome}
+use Rattle.section_store.specs.Planned.{planned}
 use Rattle.section_store.specs.StoreState.{with_corrupted}
 
 -- ---- the words of the examples
@@ -85,3 +86,16 @@ first_goes = refl
 
 pub deleted_number_is_made_again : next_id (made_at 2 end_of_time (codes "efgh") 6 ∷ []) (pos 9) ≡ numbered 1
 deleted_number_is_made_again = refl
+
+-- ---- the plan of a write of two elements to the second section, at 10, where the first is absent: it has place 0 then
+
+abbrev absent_at_10 : List Section
+absent_at_10 = made_at 1 (pos 10) (codes "ab") 6 ∷ made_at 2 end_of_time (codes "ef") 6 ∷ []
+
+pub both_elements_are_planned : planned (eight_in 2 4) (updates.Write (record { id = numbered 2; offset = 3; bytes = codes "h" } ∷ record { id = numbered 2; offset = 0; bytes = codes "e" } ∷ [])) (pos 10) absent_at_10
+    ≡ record { place = 0; size = 4 } ∷ record { place = 0; size = 4 } ∷ []
+both_elements_are_planned = refl
+
+-- at 9 it has place 1, and another write of one byte leaves its size
+pub one_element_is_planned : planned (eight_in 2 4) (updates.Write (record { id = numbered 2; offset = 0; bytes = codes "e" } ∷ [])) (pos 9) absent_at_10 ≡ record { place = 1; size = 2 } ∷ []
+one_element_is_planned = refl

@@ -1,8 +1,8 @@
 -- What is kept of the sections beside them, where one of them is changed, put in or taken away.
 use Rattle.std.proofs.Common.{◌≡◌, ℕ, zero, suc, ◌+◌, ◌^◌, ◌<◌, ◌≤◌, List, [], ◌∷◌, length, min, max, Some, slice_get, insert, remove, is_some, true, false, cond, sym, ap, ◌∙◌, refl, inl, inr, arith}
 use Rattle.std.proofs.lemmas.Bool.{true≢false, cases_eq, cases_lt}
-use Rattle.std.proofs.lemmas.Option.{none-some, same_Some, slice_get_within, get_or_from_slice_get}
-use Rattle.std.proofs.lemmas.List.Sums.{sum_by-cons, sum_by-remove}
+use Rattle.std.proofs.lemmas.Option.{none-some, same_Some}
+use Rattle.std.proofs.lemmas.List.Sums.{sum_by-cons}
 use Rattle.ckpt_types.specs.Sections.{Section, is_named, is_taken, section_at, memory_used, size_of}
 use Rattle.ckpt_types.specs.Updates.{numbered_id, free_number}
 use Rattle.ckpt_types.proofs.Numbering.{free_number-free, free_number-least, one-le-free_number}
@@ -14,15 +14,6 @@ use Rattle.section_store.proofs.KeyLemmas.{key_of-numbered_id}
 
 -- ---- how many bytes they have together
 
--- a section that is changed has other bytes, and the others have theirs
-pub memory_used-changed_at : (change : Section → Section) (sections : List Section) (i : ℕ) (s : Section) → slice_get sections i ≡ Some s → memory_used (changed_at change i sections) + size_of s ≡ memory_used sections + size_of (change s)
-memory_used-changed_at change [] i s is = absurd (none-some s is)
-memory_used-changed_at change (x ∷ sections) zero s is =
-    let same : x ≡ s = same_Some x s is in
-    omega (arith, sum_by-cons size_of (change x) sections, sum_by-cons size_of x sections, ap size_of same, ap (λ y. size_of (change y)) same)
-memory_used-changed_at change (x ∷ sections) (suc i) s is =
-    omega (arith, sum_by-cons size_of x (changed_at change i sections), sum_by-cons size_of x sections, memory_used-changed_at change sections i s is)
-
 -- a change that leaves the sizes leaves their sum
 pub memory_used-changed_at-same : (change : Section → Section) (i : ℕ) (sections : List Section) → ((s : Section) → size_of (change s) ≡ size_of s) → memory_used (changed_at change i sections) ≡ memory_used sections
 memory_used-changed_at-same change i [] same = refl
@@ -30,16 +21,7 @@ memory_used-changed_at-same change zero (x ∷ sections) same = omega (arith, su
 memory_used-changed_at-same change (suc i) (x ∷ sections) same =
     omega (arith, sum_by-cons size_of x (changed_at change i sections), sum_by-cons size_of x sections, memory_used-changed_at-same change i sections same)
 
--- one less
-pub memory_used-remove : (sections : List Section) (i : ℕ) (s : Section) → slice_get sections i ≡ Some s → memory_used (remove sections i) + size_of s ≡ memory_used sections
-memory_used-remove sections i s is =
-    omega (arith, sum_by-remove size_of sections i s (slice_get_within sections i s is), ap size_of (get_or_from_slice_get sections i s s is))
-
 -- ---- the numbers that are taken
-
--- no number is below 1
-pub AreTaken-1 : (sections : List Section) → AreTaken 1 sections
-AreTaken-1 sections = record { counted = omega arith; taken = λ n first below. absurd (omega arith) }
 
 -- the free number is not below one below which all are taken
 pub AreTaken-le : (first : ℕ) (sections : List Section) → length sections + 1 < 2 ^ 64 → AreTaken first sections → first ≤ free_number sections

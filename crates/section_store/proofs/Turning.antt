@@ -3,7 +3,7 @@ use Rattle.std.proofs.Common.{◌≡◌, ◌≢◌, ℕ, ◌+◌, ◌-◌, ◌<�
 use Rattle.std.proofs.lemmas.Bool.{cases_eq}
 use Rattle.std.proofs.lemmas.Bool.Decides.{nat_tests}
 use Rattle.std.proofs.lemmas.List.{get_or-take, get_or-drop, length-drop, length-take-le, get_or_append_left, get_or-append_right, get_or-set_other, get_or-set_same, get_or-map, length-set, length-map}
-use Rattle.section_store.specs.Extents.{bytes_at, strings_in, extent_at, end_of, AreApart, AreLaid}
+use Rattle.section_store.specs.Extents.{no_extent, bytes_at, strings_in, extent_at, end_of, AreApart, AreLaid}
 use Rattle.section_store.specs.Packing.{lowered}
 use Rattle.section_store.specs.declared.extents.Extent.{Extent}
 use Rattle.section_store.proofs.ExtentLemmas.{bytes_at-moved, strings_in-same, extent_at-any}
@@ -53,12 +53,12 @@ pub IsLowered-lowered : (e a : Extent) → AreApart e a → 0 < e.len → IsLowe
 unfolding IsLowered
 IsLowered-lowered e a (inl behind) some =
     let test : nat_lt a.start (end_of e) ≡ false = grind (arith, nat_tests) in
-    let other : Extent = record { start = a.start - e.len; len = a.len } in
+    let other : Extent = record a { start = a.start - e.len } in
     let is : lowered e a ≡ other = ap (λ b. cond b a other) test in
     inl (behind, omega (arith, ap (λ x. x.start) is), ap (λ x. x.len) is)
 IsLowered-lowered e a (inr front) some =
     let test : nat_lt a.start (end_of e) ≡ true = grind (arith, nat_tests) in
-    let is : lowered e a ≡ a = ap (λ b. cond b a (record { start = a.start - e.len; len = a.len })) test in
+    let is : lowered e a ≡ a = ap (λ b. cond b a (record a { start = a.start - e.len })) test in
     inr (front, ap (λ x. x.start) is, ap (λ x. x.len) is)
 
 -- two that are lowered share no byte
@@ -109,7 +109,7 @@ pub turned-is : (size : ℕ) (es : List Extent) (p : ℕ) (e' : Extent) → AreL
 turned-is size es p e' laid there some =
     let e = extent_at p es in
     let down = map (lowered e) es in
-    let none : Extent = record { start = 0; len = 0 } in
+    let none : Extent = no_extent in
     let long : length down ≡ length es = length-map es (lowered e) in
     record {
       len = length-set down p e' ∙ long;
@@ -124,7 +124,7 @@ pub strings_in-turned : (b : List ℕ) (es : List Extent) (p : ℕ) (e' : Extent
 strings_in-turned b es p e' es' laid there is end len =
     let e = extent_at p es in
     let b' = turned e.start e.len b in
-    let none : Extent = record { start = 0; len = 0 } in
+    let none : Extent = no_extent in
     let within : end_of e ≤ length b = laid.within p none there in
     let size = length-turned e.start e.len b within in
     strings_in-same b b' es es' is.len
@@ -139,7 +139,7 @@ strings_in-turned b es p e' es' laid there is end len =
 pub AreLaid-turned : (size : ℕ) (es : List Extent) (p : ℕ) (e' : Extent) (es' : List Extent) → AreLaid size es → p < length es → 0 < (extent_at p es).len → IsTurned es p e' es' → e'.start + (extent_at p es).len ≡ size → e'.len ≡ (extent_at p es).len → AreLaid size es'
 AreLaid-turned size es p e' es' laid there some is end len =
     let e = extent_at p es in
-    let none : Extent = record { start = 0; len = 0 } in
+    let none : Extent = no_extent in
     let within : end_of e ≤ size = laid.within p none there in
     let before : (k : ℕ) → k < length es → k ≢ p → end_of (extent_at k es') ≤ e'.start = λ k lt other. lowered-before e (extent_at k es) (extent_at k es') e'.start size (is.others k lt other) within (laid.within k none lt) end in
     record {

@@ -10,9 +10,13 @@ bytes_at buffer e = take e.len (drop e.start buffer)
 abbrev pub strings_in : List ℕ → List Extent → List (List ℕ)
 strings_in buffer extents = map (bytes_at buffer) extents
 
+-- the extent of a place where no string is
+abbrev pub no_extent : Extent
+no_extent = record { start = 0; len = 0; place = 0 }
+
 -- where the string of a place lies
 abbrev pub extent_at : ℕ → List Extent → Extent
-extent_at place extents = slice_index_or extents place (record { start = 0; len = 0 })
+extent_at place extents = slice_index_or extents place no_extent
 
 -- where a string ends
 abbrev pub end_of : Extent → ℕ

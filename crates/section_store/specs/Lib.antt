@@ -1,11 +1,14 @@
 pub mod Extents
+pub mod Kept
+pub mod KeptState
 pub mod Keyed
 pub mod Keys
 pub mod Packing
 pub mod Places
+pub mod PlanView
+pub mod Planned
 pub mod Region
 pub mod RegionState
 pub mod Store
 pub mod StoreState
-pub mod Stored
 pub mod Summary

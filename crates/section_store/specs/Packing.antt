@@ -1,26 +1,13 @@
--- The order in which strings lie in one buffer, and how they are moved there.
-use Rattle.std.specs.Prelude.{◌≡◌, ◌-◌, ◌<◌, ◌==◌, ℕ, List, All, length, sum_by, nat_lt, if◌then◌else◌}
-use Rattle.std.specs.List.Sorted.{IsNonDecreasingBy}
+-- How strings are moved in one buffer.
+use Rattle.std.specs.Prelude.{◌≡◌, ◌-◌, ◌<◌, ℕ, List, length, nat_lt, if◌then◌else◌}
 use Rattle.section_store.specs.Extents.{extent_at, end_of}
 use Rattle.section_store.specs.declared.extents.Extent.{Extent}
-use Rattle.section_store.specs.declared.packing.Ending.{Ending}
 
--- how often a place is among them
-abbrev pub times : ℕ → List Ending → ℕ
-times place order = sum_by (λ x. if x.place == place then 1 else 0) order
-
--- how many bytes the strings of these places have together
-abbrev pub bytes_of : List Extent → List Ending → ℕ
-bytes_of extents order = sum_by (λ x. (extent_at x.place extents).len) order
-
--- the places of all strings, each once, with the ends of the strings, which rise
-pub record IsInOrder (extents : List Extent) (order : List Ending) : Type 0 where
-  pub places : All (λ x. x.place < length extents) order
-  pub ends : All (λ x. x.end ≡ end_of (extent_at x.place extents)) order
-  pub once : (place : ℕ) → place < length extents → times place order ≡ 1
-  pub rise : IsNonDecreasingBy (λ x. x.end) order
-  pub bytes : bytes_of extents order ≡ sum_by (λ e. e.len) extents
+-- the same extents, each of which tells the place at which it stands
+pub record TellPlaces (old extents : List Extent) : Type 0 where
+  pub len : length extents ≡ length old
+  pub each : (place : ℕ) → place < length old → extent_at place extents ≡ record (extent_at place old) { place = place }
 
 -- a string that lay behind another starts earlier by the length of that one
 abbrev pub lowered : Extent → Extent → Extent
-lowered moved e = if nat_lt e.start (end_of moved) then e else record { start = e.start - moved.len; len = e.len }
+lowered moved e = if nat_lt e.start (end_of moved) then e else record e { start = e.start - moved.len }

@@ -1,7 +1,7 @@
 -- What a store holds, as its callers see it, and the changes that no update makes.
-use Rattle.std.specs.Prelude.{ℕ, ◌-◌, List, ◌++◌, length, sum_by, Option, Some, None}
+use Rattle.std.specs.Prelude.{ℕ, ℤ, ◌-◌, List, ◌++◌, length, sum_by, Option, Some, None}
 use Rattle.ckpt_types.specs.declared.attributes.CreationAttributes.{CreationAttributes}
-use Rattle.ckpt_types.specs.declared.sections.SectionState.TheVariants.{Corrupted}
+use Rattle.ckpt_types.specs.declared.sections.SectionState.TheVariants.{Valid, Corrupted}
 use Rattle.ckpt_types.specs.Buffer.{Buffer}
 use Rattle.ckpt_types.specs.Sections.{Section, section_at, with_section}
 
@@ -9,6 +9,10 @@ use Rattle.ckpt_types.specs.Sections.{Section, section_at, with_section}
 pub record StoreState : Type 0 where
   pub attributes : CreationAttributes
   pub sections : List Section
+
+-- a section that is made at a moment, with these bytes
+abbrev pub new_section : List ℕ → List ℕ → ℤ → ℤ → Section
+new_section id bytes expiration t = record { id = id; bytes = bytes; expiration = expiration; state = Valid; last_update = t }
 
 -- the sections, of which the one found is corrupted now; all else stays
 abbrev pub corrupted_where : Option Section → List Section → List Section

@@ -1,13 +1,12 @@
 //! The identifiers that the service makes for new sections: the least number that is free.
-ghost use Rattle.std.specs.Prelude.{◌≡◌, ◌<◌, ◌≤◌, ℕ, length, insert, remove, is_some, IfSome};
+ghost use Rattle.std.specs.Prelude.{◌≡◌, ◌<◌, ◌≤◌, ◌^◌, ℕ, length, insert, remove, is_some, IfSome};
 ghost use Rattle.ckpt_types.specs.Limits.{section_id_max};
 ghost use Rattle.ckpt_types.specs.Sections.{Section, Rises, is_taken, place_of, present};
 ghost use Rattle.ckpt_types.specs.Updates.{free_number, new_id, numbered_id};
-ghost use Rattle.section_store.specs.Stored.{kept_sections};
 ghost use Rattle.section_store.specs.Summary.{AreTaken};
 
+use crate::kept::Kept;
 use crate::order::find;
-use crate::stored::Stored;
 use ckpt_types::{Moment, NewId, SectionId};
 
 /// The identifier of a new section, and a number below which all are taken once it is there.
@@ -18,12 +17,13 @@ pub(crate) struct Made {
 }
 
 /// The identifier of a new section, where all numbers below the first one are taken.
-pub(crate) fn new_id(new: &NewId, kept: &[Box<Stored>], first: u64, now: Moment) -> Made
-    requires rises { Rises (kept_sections kept.now) }
-    requires taken { AreTaken first (present now (kept_sections kept.now)) }
-    requires short { length (new_id new.now (present now (kept_sections kept.now))) ≤ section_id_max }
-    ensures id { result.id ≡ new_id new.now (present now (kept_sections kept.now)) }
-    ensures first { (place : ℕ) → (s : Section) → s.id ≡ result.id → AreTaken result.first (insert (present now (kept_sections kept.now)) place s) }
+pub(crate) fn new_id(new: &NewId, kept: &Kept, first: u64, now: Moment) -> Made
+    requires rises { Rises kept.now.sections }
+    requires few { length kept.now.sections < 2 ^ 32 }
+    requires taken { AreTaken first (present now kept.now.sections) }
+    requires short { length (new_id new.now (present now kept.now.sections)) ≤ section_id_max }
+    ensures id { result.id ≡ new_id new.now (present now kept.now.sections) }
+    ensures first { (place : ℕ) → (s : Section) → s.id ≡ result.id → AreTaken result.first (insert (present now kept.now.sections) place s) }
 {
     match new {
         NewId::Given(id) => {
@@ -43,10 +43,11 @@ pub(crate) fn new_id(new: &NewId, kept: &[Box<Stored>], first: u64, now: Moment)
 }
 
 /// The least number that is free, where all below the first one that is tried are taken.
-pub(crate) fn free_number(kept: &[Box<Stored>], first: u64, now: Moment) -> u64
-    requires rises { Rises (kept_sections kept.now) }
-    requires taken { AreTaken first (present now (kept_sections kept.now)) }
-    ensures { result ≡ free_number (present now (kept_sections kept.now)) }
+pub(crate) fn free_number(kept: &Kept, first: u64, now: Moment) -> u64
+    requires rises { Rises kept.now.sections }
+    requires few { length kept.now.sections < 2 ^ 32 }
+    requires taken { AreTaken first (present now kept.now.sections) }
+    ensures { result ≡ free_number (present now kept.now.sections) }
 {
     let mut number = first;
     let mut near = 0;
@@ -58,12 +59,12 @@ pub(crate) fn free_number(kept: &[Box<Stored>], first: u64, now: Moment) -> u64
 }
 
 /// A number up to which all are taken still when the section at a place is gone.
-pub(crate) fn first_without(kept: &[Box<Stored>], first: u64, place: usize) -> u64
-    requires there { place < length kept.now }
-    requires taken { AreTaken first (kept_sections kept.now) }
-    ensures { AreTaken result (remove (kept_sections kept.now) place) }
+pub(crate) fn first_without(kept: &Kept, first: u64, place: usize) -> u64
+    requires there { place < length kept.now.sections }
+    requires taken { AreTaken first kept.now.sections }
+    ensures { AreTaken result (remove kept.now.sections place) }
 {
-    first.min(kept[place].id.key().max(1))
+    first.min(kept.id(place).key().max(1))
 }
 
 /// The identifier of a number.
@@ -77,12 +78,12 @@ pub(crate) fn numbered(number: u64) -> SectionId
 }
 
 /// The place of the section of that number, which is looked for at `near` first.
-fn find_number(kept: &[Box<Stored>], number: u64, near: usize) -> Option<usize>
-    requires { Rises (kept_sections kept.now) }
-    ensures place { result ≡ place_of (numbered_id number) (kept_sections kept.now) }
-    ensures within { IfSome result (λ place. place < length kept.now) }
+fn find_number(kept: &Kept, number: u64, near: usize) -> Option<usize>
+    requires { Rises kept.now.sections }
+    ensures place { result ≡ place_of (numbered_id number) kept.now.sections }
+    ensures within { IfSome result (λ place. place < length kept.now.sections) }
 {
-    if near < kept.len() && kept[near].id.is_number(number) {
+    if near < kept.len() && kept.id(near).is_number(number) {
         Some(near)
     } else {
         find(kept, numbered(number).as_slice())
@@ -90,13 +91,13 @@ fn find_number(kept: &[Box<Stored>], number: u64, near: usize) -> Option<usize>
 }
 
 /// The place of the section of that number, where it is present. It is looked for at `near` first.
-fn place_taken(kept: &[Box<Stored>], number: u64, near: usize, now: Moment) -> Option<usize>
-    requires { Rises (kept_sections kept.now) }
-    ensures taken { is_some result ≡ is_taken (numbered_id number) (present now (kept_sections kept.now)) }
-    ensures within { IfSome result (λ place. place < length kept.now) }
+fn place_taken(kept: &Kept, number: u64, near: usize, now: Moment) -> Option<usize>
+    requires { Rises kept.now.sections }
+    ensures taken { is_some result ≡ is_taken (numbered_id number) (present now kept.now.sections) }
+    ensures within { IfSome result (λ place. place < length kept.now.sections) }
 {
     match find_number(kept, number, near) {
-        Some(place) if kept[place].is_present(now) => Some(place),
+        Some(place) if kept.is_present(place, now) => Some(place),
         _ => None,
     }
 }

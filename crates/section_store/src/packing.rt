@@ -1,24 +1,18 @@
 //! Strings that lie in one buffer are moved together, or behind one another.
 ghost use Rattle.std.specs.Prelude.{◌≡◌, ◌≢◌, ◌⊎◌, ◌+◌, ◌^◌, ◌≤◌, ◌<◌, ◌++◌, ℕ, All, length, map, slice_set, sum_by, take, drop, vec_capacity};
 ghost use Rattle.std.specs.List.{CopiedTo, SameBelow, SameFrom};
+ghost use Rattle.std.specs.List.Sorted.{IsNonDecreasingBy, IsPermutation};
 ghost use Rattle.section_store.specs.Extents.{strings_in, extent_at, end_of, AreLaid};
-ghost use Rattle.section_store.specs.Packing.{IsInOrder, lowered};
+ghost use Rattle.section_store.specs.Packing.{TellPlaces, lowered};
 ghost use Rattle.section_store.specs.RegionState.{resized, with_string};
 
 use crate::extents::{Extent, cut, grow_copied, grow_last};
 
-/// The place of a string, and where it ended in the buffer.
-#[derive(Clone, Copy)]
-pub(crate) struct Ending {
-    pub end: usize,
-    pub place: usize,
-}
-
 /// Cuts the string at a place, or extends it by zeros, in a buffer of that size.
+#[inline]
 pub(crate) fn set_len(
     buffer: &mut Vec<u8>,
     extents: &mut Vec<Extent>,
-    order: &mut Vec<Ending>,
     size: usize,
     place: usize,
     len: usize,
@@ -27,7 +21,6 @@ pub(crate) fn set_len(
     requires fits { sum_by length (strings_in buffer.old.items extents.old.items) + len ≤ size + (extent_at place extents.old.items).len }
     requires end { length buffer.old.items ≤ size }
     requires room { size ≤ vec_capacity buffer.old }
-    requires order { length extents.old.items ≤ vec_capacity order.old }
     requires laid { AreLaid (length buffer.old.items) extents.old.items }
     ensures strings { strings_in buffer.new.items extents.new.items ≡ with_string (resized len) place (strings_in buffer.old.items extents.old.items) }
     ensures laid { AreLaid (length buffer.new.items) extents.new.items }
@@ -35,26 +28,18 @@ pub(crate) fn set_len(
     ensures end { length buffer.new.items ≤ size }
     ensures bytes { vec_capacity buffer.old ≤ vec_capacity buffer.new }
     ensures places { vec_capacity extents.new ≡ vec_capacity extents.old }
-    ensures order { vec_capacity order.new ≡ vec_capacity order.old }
 {
     if len <= extents[place].len {
         cut(buffer, extents, place, len);
     } else {
-        grow(buffer, extents, order, size, place, len);
+        grow(buffer, extents, size, place, len);
     }
 }
 
 /// Moves the strings together where no room for so many bytes is behind them, in a buffer of that size.
-pub(crate) fn make_room(
-    buffer: &mut Vec<u8>,
-    extents: &mut Vec<Extent>,
-    order: &mut Vec<Ending>,
-    size: usize,
-    len: usize,
-)
+pub(crate) fn make_room(buffer: &mut Vec<u8>, extents: &mut Vec<Extent>, size: usize, len: usize)
     requires fits { sum_by length (strings_in buffer.old.items extents.old.items) + len ≤ size }
     requires end { length buffer.old.items ≤ size }
-    requires order { length extents.old.items ≤ vec_capacity order.old }
     requires laid { AreLaid (length buffer.old.items) extents.old.items }
     ensures strings { strings_in buffer.new.items extents.new.items ≡ strings_in buffer.old.items extents.old.items }
     ensures laid { AreLaid (length buffer.new.items) extents.new.items }
@@ -62,28 +47,19 @@ pub(crate) fn make_room(
     ensures len { length extents.new.items ≡ length extents.old.items }
     ensures bytes { vec_capacity buffer.new ≡ vec_capacity buffer.old }
     ensures places { vec_capacity extents.new ≡ vec_capacity extents.old }
-    ensures order { vec_capacity order.new ≡ vec_capacity order.old }
 {
     if len > size - buffer.len() {
-        pack(buffer, extents, order);
+        pack(buffer, extents);
     }
 }
 
 /// Extends the string at a place by zeros, wherever there is room for so many bytes in a buffer of that size.
-fn grow(
-    buffer: &mut Vec<u8>,
-    extents: &mut Vec<Extent>,
-    order: &mut Vec<Ending>,
-    size: usize,
-    place: usize,
-    len: usize,
-)
+fn grow(buffer: &mut Vec<u8>, extents: &mut Vec<Extent>, size: usize, place: usize, len: usize)
     requires there { place < length extents.old.items }
     requires longer { (extent_at place extents.old.items).len < len }
     requires fits { sum_by length (strings_in buffer.old.items extents.old.items) + len ≤ size + (extent_at place extents.old.items).len }
     requires end { length buffer.old.items ≤ size }
     requires room { size ≤ vec_capacity buffer.old }
-    requires order { length extents.old.items ≤ vec_capacity order.old }
     requires laid { AreLaid (length buffer.old.items) extents.old.items }
     ensures strings { strings_in buffer.new.items extents.new.items ≡ with_string (resized len) place (strings_in buffer.old.items extents.old.items) }
     ensures laid { AreLaid (length buffer.new.items) extents.new.items }
@@ -91,7 +67,6 @@ fn grow(
     ensures end { length buffer.new.items ≤ size }
     ensures bytes { vec_capacity buffer.old ≤ vec_capacity buffer.new }
     ensures places { vec_capacity extents.new ≡ vec_capacity extents.old }
-    ensures order { vec_capacity order.new ≡ vec_capacity order.old }
 {
     let extent = extents[place];
     if extent.start + extent.len == buffer.len() && len <= size - extent.start {
@@ -99,7 +74,7 @@ fn grow(
     } else if len <= size - buffer.len() {
         grow_copied(buffer, extents, place, len);
     } else {
-        pack(buffer, extents, order);
+        pack(buffer, extents);
         grow_packed(buffer, extents, size, place, len);
     }
 }
@@ -134,8 +109,8 @@ fn grow_packed(
 }
 
 /// Moves all strings together, in the order in which they lie, so that no byte is between them or behind them.
-fn pack(buffer: &mut Vec<u8>, extents: &mut Vec<Extent>, order: &mut Vec<Ending>)
-    requires places { length extents.old.items ≤ vec_capacity order.old }
+#[inline(never)]
+fn pack(buffer: &mut Vec<u8>, extents: &mut Vec<Extent>)
     requires laid { AreLaid (length buffer.old.items) extents.old.items }
     ensures strings { strings_in buffer.new.items extents.new.items ≡ strings_in buffer.old.items extents.old.items }
     ensures laid { AreLaid (length buffer.new.items) extents.new.items }
@@ -145,34 +120,49 @@ fn pack(buffer: &mut Vec<u8>, extents: &mut Vec<Extent>, order: &mut Vec<Ending>
     ensures len { length extents.new.items ≡ length extents.old.items }
     ensures bytes { vec_capacity buffer.new ≡ vec_capacity buffer.old }
     ensures places { vec_capacity extents.new ≡ vec_capacity extents.old }
-    ensures order { vec_capacity order.new ≡ vec_capacity order.old }
 {
-    put_in_order(order, extents.as_slice());
-    let end = slide_all(buffer, extents, order.as_slice());
+    tell_places(extents);
+    put_in_order(extents);
+    let end = slide_all(buffer, extents);
     buffer.truncate(end);
+    put_back(extents);
 }
 
-/// The places of all strings, in the order in which they end in the buffer.
-fn put_in_order(order: &mut Vec<Ending>, extents: &[Extent])
-    requires places { length extents.now ≤ vec_capacity order.old }
-    requires within { All (λ e. end_of e < 2 ^ 64) extents.now }
-    ensures order { IsInOrder extents.now order.new.items }
-    ensures places { vec_capacity order.new ≡ vec_capacity order.old }
+/// Each extent tells the place at which it stands.
+fn tell_places(extents: &mut Vec<Extent>)
+    ensures told { TellPlaces extents.old.items extents.new.items }
+    ensures capacity { vec_capacity extents.new ≡ vec_capacity extents.old }
 {
-    order.clear();
     for place in 0..extents.len() {
-        let extent = extents[place];
-        let end = extent.start + extent.len;
-        order.push_reserved(Ending { end, place });
+        extents[place].place = place;
     }
-    order.sort_unstable_by_key(|ending| ending.end);
+}
+
+/// The extents are put in the order in which the strings end in the buffer.
+fn put_in_order(extents: &mut Vec<Extent>)
+    requires within { All (λ e. end_of e < 2 ^ 64) extents.old.items }
+    ensures reordered { IsPermutation extents.old.items extents.new.items }
+    ensures rise { IsNonDecreasingBy end_of extents.new.items }
+    ensures capacity { vec_capacity extents.new ≡ vec_capacity extents.old }
+{
+    extents.sort_unstable_by_key(|extent| extent.start.saturating_add(extent.len));
+}
+
+/// The extents are put in the order of the places that they tell.
+fn put_back(extents: &mut Vec<Extent>)
+    ensures reordered { IsPermutation extents.old.items extents.new.items }
+    ensures rise { IsNonDecreasingBy (λ e. e.place) extents.new.items }
+    ensures capacity { vec_capacity extents.new ≡ vec_capacity extents.old }
+{
+    extents.sort_unstable_by_key(|extent| extent.place);
 }
 
 /// Moves each string down to the end of the one before it, and says where the last one ends.
-fn slide_all(buffer: &mut Vec<u8>, extents: &mut Vec<Extent>, order: &[Ending]) -> usize
+fn slide_all(buffer: &mut Vec<u8>, extents: &mut Vec<Extent>) -> usize
     requires laid { AreLaid (length buffer.old.items) extents.old.items }
-    requires order { IsInOrder extents.old.items order.now }
+    requires rise { IsNonDecreasingBy end_of extents.old.items }
     ensures strings { strings_in buffer.new.items extents.new.items ≡ strings_in buffer.old.items extents.old.items }
+    ensures told { (k : ℕ) → (extent_at k extents.new.items).place ≡ (extent_at k extents.old.items).place }
     ensures laid { AreLaid result extents.new.items }
     ensures end { result ≡ sum_by (λ e. e.len) extents.old.items }
     ensures within { result ≤ length buffer.new.items }
@@ -182,9 +172,9 @@ fn slide_all(buffer: &mut Vec<u8>, extents: &mut Vec<Extent>, order: &[Ending]) 
     ensures places { vec_capacity extents.new ≡ vec_capacity extents.old }
 {
     let mut end = 0;
-    for ending in order {
-        slide(buffer, extents, ending.place, end);
-        end += extents[ending.place].len;
+    for place in 0..extents.len() {
+        slide(buffer, extents, place, end);
+        end += extents[place].len;
     }
     end
 }
@@ -197,14 +187,14 @@ fn slide(buffer: &mut Vec<u8>, extents: &mut Vec<Extent>, place: usize, start: u
     requires laid { AreLaid (length buffer.old.items) extents.old.items }
     ensures strings { strings_in buffer.new.items extents.new.items ≡ strings_in buffer.old.items extents.old.items }
     ensures laid { AreLaid (length buffer.new.items) extents.new.items }
-    ensures extents { extents.new.items ≡ slice_set extents.old.items place (record { start = start; len = (extent_at place extents.old.items).len }) }
+    ensures extents { extents.new.items ≡ slice_set extents.old.items place (record (extent_at place extents.old.items) { start = start }) }
     ensures size { length buffer.new.items ≡ length buffer.old.items }
     ensures bytes { vec_capacity buffer.new ≡ vec_capacity buffer.old }
     ensures places { vec_capacity extents.new ≡ vec_capacity extents.old }
 {
-    let Extent { start: from, len } = extents[place];
-    copy_down(buffer, from, len, start);
-    extents[place] = Extent { start, len };
+    let extent = extents[place];
+    copy_down(buffer, extent.start, extent.len, start);
+    extents[place] = Extent { start, ..extent };
 }
 
 /// Copies so many bytes down from an offset to another, where that is another one.
@@ -241,7 +231,7 @@ fn move_last(buffer: &mut Vec<u8>, extents: &mut Vec<Extent>, place: usize)
     move_down(extents, moved);
     extents[place] = Extent {
         start: buffer.len() - moved.len,
-        len: moved.len,
+        ..moved
     };
 }
 

@@ -4,7 +4,7 @@ ghost use Rattle.ckpt_types.specs.Updates.{written};
 ghost use Rattle.section_store.specs.RegionState.{string_at, with_string, resized};
 
 use crate::extents::{Extent, append, cut, put_over};
-use crate::packing::{Ending, make_room, set_len};
+use crate::packing::{make_room, set_len};
 use std::alloc::{AllocError, Global};
 use std::marker::Model;
 
@@ -15,11 +15,7 @@ pub struct Region {
     buffer: Vec<u8>,
     /// Where each string lies, in the order of the places.
     extents: Vec<Extent>,
-    /// Room for all places, in which they are sorted when the strings are moved together.
-    order: Vec<Ending>,
-    /// How many bytes the strings have together.
-    used: usize,
-    /// How many bytes they may have together.
+    /// How many bytes the strings may have together.
     size: usize,
     /// For how many strings more there are places.
     spare: usize,
@@ -46,14 +42,13 @@ impl Region {
         Ok(Region {
             buffer: Vec::with_capacity(alloc, size)?,
             extents: Vec::with_capacity(alloc, spare)?,
-            order: Vec::with_capacity(alloc, spare)?,
-            used: 0,
             size,
             spare,
         })
     }
 
     /// How many strings there are.
+    #[inline]
     pub fn len(&self) -> usize
         ensures { result ≡ length self.now.strings }
     {
@@ -61,6 +56,7 @@ impl Region {
     }
 
     /// The string at a place.
+    #[inline]
     pub fn bytes(&self, place: usize) -> &[u8]
         requires { place < length self.now.strings }
         ensures { slice_get self.now.strings place ≡ Some result.now }
@@ -69,13 +65,26 @@ impl Region {
         &self.buffer[extent.start..extent.start + extent.len]
     }
 
+    /// How long the string at a place is.
+    #[inline]
+    pub fn len_at(&self, place: usize) -> usize
+        requires { place < length self.now.strings }
+        ensures { result ≡ length (string_at place self.now.strings) }
+    {
+        self.extents[place].len
+    }
+
     /// Puts an empty string in at a place. It takes no memory.
     pub fn insert(&mut self, place: usize)
         requires spare { 0 < self.old.spare }
         requires place { place ≤ length self.old.strings }
         ensures { self.new ≡ record self.old { strings = insert self.old.strings place []; spare = self.old.spare - 1 } }
     {
-        let extent = Extent { start: 0, len: 0 };
+        let extent = Extent {
+            start: 0,
+            len: 0,
+            place: 0,
+        };
         let Ok(()) = self.extents.insert(place, extent) else {
             unreachable!()
         };
@@ -87,30 +96,23 @@ impl Region {
         requires { place < length self.old.strings }
         ensures { self.new ≡ record self.old { strings = remove self.old.strings place; spare = self.old.spare + 1 } }
     {
-        self.used -= self.extents[place].len;
         cut(&mut self.buffer, &mut self.extents, place, 0);
         self.extents.remove(place);
         self.spare += 1;
     }
 
     /// Cuts the string at a place, or extends it by zeros. It takes no memory.
+    #[inline]
     pub fn resize(&mut self, place: usize, len: usize)
         requires there { place < length self.old.strings }
         requires fits { sum_by length (remove self.old.strings place) + len ≤ self.old.size }
         ensures { self.new ≡ record self.old { strings = with_string (resized len) place self.old.strings } }
     {
-        self.used = self.used - self.extents[place].len + len;
-        set_len(
-            &mut self.buffer,
-            &mut self.extents,
-            &mut self.order,
-            self.size,
-            place,
-            len,
-        );
+        set_len(&mut self.buffer, &mut self.extents, self.size, place, len);
     }
 
     /// Writes other bytes over those of the string at a place, from an offset on.
+    #[inline]
     pub fn write(&mut self, place: usize, offset: usize, bytes: &[u8])
         requires there { place < length self.old.strings }
         requires within { offset + length bytes.now ≤ length (string_at place self.old.strings) }
@@ -126,15 +128,8 @@ impl Region {
         requires fits { sum_by length self.old.strings + length bytes.now ≤ self.old.size }
         ensures { self.new ≡ record self.old { strings = self.old.strings ++ bytes.now ∷ []; spare = self.old.spare - 1 } }
     {
-        make_room(
-            &mut self.buffer,
-            &mut self.extents,
-            &mut self.order,
-            self.size,
-            bytes.len(),
-        );
+        make_room(&mut self.buffer, &mut self.extents, self.size, bytes.len());
         append(&mut self.buffer, &mut self.extents, bytes);
-        self.used += bytes.len();
         self.spare -= 1;
     }
 
@@ -145,6 +140,5 @@ impl Region {
         self.spare += self.extents.len();
         self.extents.clear();
         self.buffer.clear();
-        self.used = 0;
     }
 }

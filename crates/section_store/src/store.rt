@@ -1,25 +1,23 @@
 //! The store: each update, read and count of one replica's sections.
-ghost use Rattle.std.specs.Prelude.{◌≡◌, ◌+◌, ◌≤◌, ◌<◌, [], ◌∷◌, Ok, IfOk, IsOk, false, length, sum_by};
+ghost use Rattle.std.specs.Prelude.{◌≡◌, ◌+◌, ◌≤◌, ◌<◌, [], ◌∷◌, Ok, Some, IfOk, IsOk, false, length, sum_by, insert, remove};
 ghost use Rattle.ckpt_types.specs.Attributes.{is_malformed};
+ghost use Rattle.ckpt_types.specs.declared.sections.SectionState.TheVariants.{Valid};
 ghost use Rattle.ckpt_types.specs.declared.update.Update.TheVariants as updates;
 ghost use Rattle.ckpt_types.specs.Reads.{read, status};
-ghost use Rattle.ckpt_types.specs.Sections.{Fits, opening, default_section, present};
-ghost use Rattle.ckpt_types.specs.Updates.{outcome, element_written, elements_written, overwritten, section_created, section_deleted, expiration_set, generated_id};
-ghost use Rattle.section_store.specs.StoreState.{with_corrupted, with_pieces};
+ghost use Rattle.ckpt_types.specs.Sections.{Rises, Fits, opening, default_section, place_of, present};
+ghost use Rattle.ckpt_types.specs.Updates.{outcome, element_written, elements_written, overwritten, section_created, section_deleted, expiration_set, generated_id, new_id};
+ghost use Rattle.section_store.specs.Places.{changed_at, count_below};
+ghost use Rattle.section_store.specs.StoreState.{new_section, with_corrupted, with_pieces};
 ghost use Rattle.section_store.specs.Summary.{AreTaken};
 
-use crate::expiry::drop_absent;
-use crate::identifiers::{first_without, free_number, new_id, numbered};
-use crate::order::{
-    buffers, copy_in, corrupt_at, expire_at, find, overwrite_at, place_for, put_in, take_out,
-    take_out_behind, write_into,
-};
-use crate::reads::{read_all, totals};
-use crate::stored::Stored;
-use crate::summary::Summary;
+use crate::identifiers::{Made, first_without, free_number, new_id, numbered};
+use crate::kept::Kept;
+use crate::order::{find, place_for};
+use crate::reads::read_all;
+use crate::summary::{Summary, earliest_without};
 use ckpt_types::{
     CheckpointDescriptor, CreationAttributes, IoElement, Moment, NEVER, NewId, ReadBuf,
-    ReadElement, SectionId, SectionRef, SectionState, Sections, Totals, Update,
+    ReadElement, SectionId, SectionRef, SectionState, Sections, Update, totals,
 };
 use moment_rules::expired;
 use std::alloc::{AllocError, Global};
@@ -30,10 +28,8 @@ use std::marker::Model;
 pub struct Store {
     attributes: CreationAttributes,
     summary: Summary,
-    /// The sections, in the order of their identifiers. Each stays where it is in memory.
-    kept: Vec<Box<Stored>>,
-    /// Buffers for as many sections as may still come.
-    spare: Vec<Box<Stored>>,
+    /// The sections, in the order of their identifiers.
+    pub(crate) kept: Kept,
 }
 
 impl Model for Store {
@@ -104,17 +100,16 @@ impl Store {
         requires { Fits self.old.attributes (S.sections other.now) }
         ensures { self.new ≡ record self.old { sections = S.sections other.now } }
     {
-        take_out_behind(&mut self.kept, &mut self.spare, 0);
-        copy_in(&mut self.kept, &mut self.spare, other);
-        self.summary = Summary::of(self.kept.as_slice());
+        self.kept.copy_from(other);
+        self.summary = Summary::of(&self.kept);
     }
 
     /// Makes the section of that identifier a corrupted one, where one stands.
     pub fn corrupt(&mut self, id: &[u8])
         ensures { self.new ≡ record self.old { sections = with_corrupted id.now self.old.sections } }
     {
-        if let Some(place) = find(self.kept.as_slice(), id) {
-            corrupt_at(&mut self.kept, place);
+        if let Some(place) = find(&self.kept, id) {
+            self.kept.corrupt(place);
         }
     }
 
@@ -123,7 +118,7 @@ impl Store {
         ensures { result ≡ generated_id (present now self.now.sections) }
     {
         let first = self.first_number(now);
-        numbered(free_number(self.kept.as_slice(), first, now))
+        numbered(free_number(&self.kept, first, now))
     }
 
     /// Adds the bytes that each element reads to the buffer. It takes no memory.
@@ -134,18 +129,18 @@ impl Store {
         ensures { IfOk (read elements.now now self.now.sections) (λ pieces. out.new ≡ with_pieces pieces out.old) }
     {
         // Whatever is read is present, so nothing is left to ask of the moment.
-        read_all(self.kept.as_slice(), elements, out);
+        read_all(&self.kept, elements, out);
     }
 
     /// What a status tells of the checkpoint.
     pub fn descriptor(&self, now: Moment) -> CheckpointDescriptor
         ensures { result ≡ status self.now.attributes now self.now.sections }
     {
-        let totals = self.totals(now);
+        let totals = totals(self, now);
         CheckpointDescriptor {
             attributes: self.attributes,
             number_of_sections: totals.count as u32,
-            memory_used: totals.bytes as u64,
+            memory_used: totals.bytes,
         }
     }
 
@@ -170,9 +165,8 @@ impl Store {
         requires { is_malformed attrs.now ≡ false }
         ensures { IfOk result (λ s. s ≡ record { attributes = attrs.now; sections = [] }) }
     {
-        let count = attrs.max_sections as usize;
-        let kept = Vec::with_capacity(alloc, count)?;
-        let spare = buffers(alloc, count, attrs.max_section_size as usize)?;
+        let size = attrs.checkpoint_size as usize;
+        let kept = Kept::reserve(alloc, size, attrs.max_sections)?;
         Ok(Store {
             attributes: *attrs,
             summary: Summary {
@@ -181,7 +175,6 @@ impl Store {
                 first: 1,
             },
             kept,
-            spare,
         })
     }
 
@@ -208,16 +201,24 @@ impl Store {
             state: SectionState::Valid,
             last_update: made,
         };
-        put_in(&mut self.kept, &mut self.spare, 0, &section);
+        self.kept.put_in(0, &section);
     }
 
-    fn drop_absent(&mut self, now: Moment)
+    #[inline(always)]
+    pub(crate) fn drop_absent(&mut self, now: Moment)
         ensures { self.new ≡ record self.old { sections = present now self.old.sections } }
     {
         if expired(self.summary.earliest, now) {
-            drop_absent(&mut self.kept, &mut self.spare, now);
-            self.summary = Summary::of(self.kept.as_slice());
+            self.drop_some(now);
         }
+    }
+
+    #[inline(never)]
+    fn drop_some(&mut self, now: Moment)
+        ensures { self.new ≡ record self.old { sections = present now self.old.sections } }
+    {
+        self.kept.drop_absent(now);
+        self.summary = Summary::of(&self.kept);
     }
 
     fn write(&mut self, elements: &[IoElement], now: Moment)
@@ -235,16 +236,24 @@ impl Store {
         ensures attributes { self.new.attributes ≡ self.old.attributes }
         ensures sections { element_written self.old.attributes now 0 element.now self.old.sections ≡ Ok self.new.sections }
     {
-        let Some(place) = find(self.kept.as_slice(), element.id.as_slice()) else {
+        let Some(place) = find(&self.kept, element.id.as_slice()) else {
             unreachable!()
         };
-        let grown = write_into(
-            &mut self.kept,
-            place,
-            element.offset as usize,
-            element.bytes.as_slice(),
-            now,
-        );
+        self.write_at(place, element, now);
+    }
+
+    /// Writes an element into the section of its identifier, which stands at that place.
+    #[inline(always)]
+    pub(crate) fn write_at(&mut self, place: usize, element: &IoElement, now: Moment)
+        requires place { place_of element.now.id self.old.sections ≡ Some place }
+        requires accepted { IsOk (element_written self.old.attributes now 0 element.now self.old.sections) }
+        ensures attributes { self.new.attributes ≡ self.old.attributes }
+        ensures sections { element_written self.old.attributes now 0 element.now self.old.sections ≡ Ok self.new.sections }
+    {
+        let offset = element.offset as usize;
+        let grown = self
+            .kept
+            .write_into(place, offset, element.bytes.as_slice(), now);
         self.summary.used += grown;
     }
 
@@ -253,10 +262,20 @@ impl Store {
         ensures attributes { self.new.attributes ≡ self.old.attributes }
         ensures sections { overwritten self.old.attributes id.now bytes.now now self.old.sections ≡ Ok self.new.sections }
     {
-        let Some(place) = find(self.kept.as_slice(), id) else {
+        let Some(place) = find(&self.kept, id) else {
             unreachable!()
         };
-        let before = overwrite_at(&mut self.kept, place, bytes, now);
+        self.overwrite_at(place, bytes, now);
+    }
+
+    /// The section at a place has these bytes, and is valid.
+    pub(crate) fn overwrite_at(&mut self, place: usize, bytes: &[u8], now: Moment)
+        requires there { place < length self.old.sections }
+        requires rises { Rises (changed_at (λ s. record s { bytes = bytes.now; state = Valid; last_update = now }) place self.old.sections) }
+        requires fits { Fits self.old.attributes (changed_at (λ s. record s { bytes = bytes.now; state = Valid; last_update = now }) place self.old.sections) }
+        ensures { self.new ≡ record self.old { sections = changed_at (λ s. record s { bytes = bytes.now; state = Valid; last_update = now }) place self.old.sections } }
+    {
+        let before = self.kept.overwrite(place, bytes, now);
         self.summary.used = self.summary.used + bytes.len() - before;
     }
 
@@ -266,7 +285,38 @@ impl Store {
         ensures attributes { self.new.attributes ≡ self.old.attributes }
         ensures sections { section_created self.old.attributes new.now expiration bytes.now now self.old.sections ≡ Ok self.new.sections }
     {
-        let made = new_id(new, self.kept.as_slice(), self.summary.first, now);
+        let made = new_id(new, &self.kept, self.summary.first, now);
+        let place = place_for(&self.kept, made.id.as_slice());
+        self.put_at(place, &made, expiration, bytes, now);
+    }
+
+    /// Makes a new section at the place of its identifier.
+    pub(crate) fn create_at(
+        &mut self,
+        place: usize,
+        new: &NewId,
+        expiration: Moment,
+        bytes: &[u8],
+        now: Moment,
+    )
+        requires place { place ≡ count_below (new_id new.now self.old.sections) self.old.sections }
+        requires accepted { IsOk (section_created self.old.attributes new.now expiration bytes.now now self.old.sections) }
+        requires all_present { present now self.old.sections ≡ self.old.sections }
+        ensures attributes { self.new.attributes ≡ self.old.attributes }
+        ensures sections { section_created self.old.attributes new.now expiration bytes.now now self.old.sections ≡ Ok self.new.sections }
+    {
+        let made = new_id(new, &self.kept, self.summary.first, now);
+        self.put_at(place, &made, expiration, bytes, now);
+    }
+
+    /// Puts a new section in at a place.
+    fn put_at(&mut self, place: usize, made: &Made, expiration: Moment, bytes: &[u8], now: Moment)
+        requires there { place ≤ length self.old.sections }
+        requires rises { Rises (insert self.old.sections place (new_section made.now.id bytes.now expiration now)) }
+        requires fits { Fits self.old.attributes (insert self.old.sections place (new_section made.now.id bytes.now expiration now)) }
+        requires taken { AreTaken made.now.first (insert self.old.sections place (new_section made.now.id bytes.now expiration now)) }
+        ensures { self.new ≡ record self.old { sections = insert self.old.sections place (new_section made.now.id bytes.now expiration now) } }
+    {
         let section = SectionRef {
             id: &made.id,
             bytes,
@@ -274,8 +324,7 @@ impl Store {
             state: SectionState::Valid,
             last_update: now,
         };
-        let place = place_for(self.kept.as_slice(), made.id.as_slice());
-        put_in(&mut self.kept, &mut self.spare, place, &section);
+        self.kept.put_in(place, &section);
         self.summary = Summary {
             earliest: self.summary.earliest.min(expiration),
             used: self.summary.used + bytes.len(),
@@ -288,12 +337,27 @@ impl Store {
         ensures attributes { self.new.attributes ≡ self.old.attributes }
         ensures sections { section_deleted self.old.attributes id.now self.old.sections ≡ Ok self.new.sections }
     {
-        let Some(place) = find(self.kept.as_slice(), id) else {
+        let Some(place) = find(&self.kept, id) else {
             unreachable!()
         };
-        self.summary.first = first_without(self.kept.as_slice(), self.summary.first, place);
-        let before = take_out(&mut self.kept, &mut self.spare, place);
-        self.summary.used -= before;
+        self.delete_at(place);
+    }
+
+    /// The section at a place goes.
+    pub(crate) fn delete_at(&mut self, place: usize)
+        requires there { place < length self.old.sections }
+        requires rises { Rises (remove self.old.sections place) }
+        requires fits { Fits self.old.attributes (remove self.old.sections place) }
+        ensures { self.new ≡ record self.old { sections = remove self.old.sections place } }
+    {
+        let gone = self.kept.expiration(place);
+        let first = first_without(&self.kept, self.summary.first, place);
+        let before = self.kept.take_out(place);
+        self.summary = Summary {
+            earliest: earliest_without(&self.kept, self.summary.earliest, gone),
+            used: self.summary.used - before,
+            first,
+        };
     }
 
     fn set_expiration(&mut self, id: &[u8], expiration: Moment, now: Moment)
@@ -301,11 +365,23 @@ impl Store {
         ensures attributes { self.new.attributes ≡ self.old.attributes }
         ensures sections { expiration_set self.old.attributes id.now expiration now self.old.sections ≡ Ok self.new.sections }
     {
-        let Some(place) = find(self.kept.as_slice(), id) else {
+        let Some(place) = find(&self.kept, id) else {
             unreachable!()
         };
-        self.summary.earliest = self.summary.earliest.min(expiration);
-        expire_at(&mut self.kept, place, expiration);
+        self.expire_at(place, expiration);
+    }
+
+    /// The section at a place has another expiration.
+    pub(crate) fn expire_at(&mut self, place: usize, expiration: Moment)
+        requires there { place < length self.old.sections }
+        requires rises { Rises (changed_at (λ s. record s { expiration = expiration }) place self.old.sections) }
+        requires fits { Fits self.old.attributes (changed_at (λ s. record s { expiration = expiration }) place self.old.sections) }
+        ensures { self.new ≡ record self.old { sections = changed_at (λ s. record s { expiration = expiration }) place self.old.sections } }
+    {
+        let gone = self.kept.expiration(place);
+        self.kept.expire(place, expiration);
+        let earliest = self.summary.earliest.min(expiration);
+        self.summary.earliest = earliest_without(&self.kept, earliest, gone);
     }
 }
 
@@ -317,27 +393,18 @@ impl Sections for Store {
     }
 
     fn at(&self, place: usize) -> SectionRef<'_> {
-        let stored = &*self.kept[place];
-        SectionRef {
-            id: stored.id.id(),
-            bytes: stored.bytes.as_slice(),
-            expiration: stored.expiration,
-            state: stored.state,
-            last_update: stored.last_update,
-        }
+        self.kept.section(place)
     }
 
     fn find(&self, id: &[u8]) -> Option<usize> {
-        find(self.kept.as_slice(), id)
+        find(&self.kept, id)
     }
 
-    fn totals(&self, now: Moment) -> Totals {
-        if expired(self.summary.earliest, now) {
-            return totals(self.kept.as_slice(), now);
-        }
-        Totals {
-            count: self.kept.len(),
-            bytes: self.summary.used as u128,
-        }
+    fn sum(&self) -> u64 {
+        self.summary.used as u64
+    }
+
+    fn earliest(&self) -> Moment {
+        self.summary.earliest
     }
 }

@@ -1,3 +1,3 @@
 mod HeadLemmas
 mod PlaceLemmas
-pub mod TakenLemmas
+mod TakenLemmas

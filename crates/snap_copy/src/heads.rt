@@ -1,9 +1,9 @@
 //! Sections whose bytes stand one behind another in one buffer, with a head for each.
-ghost use Rattle.std.specs.Prelude.{◌≡◌, ◌+◌, ◌≤◌, ◌<◌, ◌^◌, ℕ, List, [], ◌∷◌, ◌++◌, length, vec_capacity};
-ghost use Rattle.ckpt_types.specs.Sections.{Rises, place_of, present, memory_used, section_of};
+ghost use Rattle.std.specs.Prelude.{◌≡◌, ◌+◌, ◌≤◌, ◌<◌, ℕ, List, [], ◌∷◌, ◌++◌, length, vec_capacity};
+ghost use Rattle.ckpt_types.specs.Sections.{Rises, place_of, memory_used, earliest_expiration, section_of};
 ghost use Rattle.snap_copy.specs.Heads.{section_in, sections_in, IsWithin, AreWithin};
 
-use ckpt_types::{Moment, SectionId, SectionRef, SectionState, Sections, Totals, extend_reserved};
+use ckpt_types::{Moment, NEVER, SectionId, SectionRef, SectionState, Sections, extend_reserved};
 
 /// What is kept of a section beside its bytes, and where these stand.
 #[derive(Drop)]
@@ -39,6 +39,7 @@ pub(crate) fn copy_in<S: Sections>(bytes: &mut Vec<u8>, heads: &mut Vec<Head>, f
     ensures sections { sections_in bytes.new.items heads.new.items ≡ S.sections from.now }
     ensures rises { Rises (S.sections from.now) }
     ensures within { AreWithin (length bytes.new.items) heads.new.items }
+    ensures bytes_len { length bytes.new.items ≡ memory_used (S.sections from.now) }
     ensures bytes_capacity { vec_capacity bytes.old ≤ vec_capacity bytes.new }
     ensures heads_capacity { vec_capacity heads.old ≤ vec_capacity heads.new }
 {
@@ -94,21 +95,13 @@ pub(crate) fn find(heads: &[Head], id: &[u8]) -> Option<usize>
     None
 }
 
-/// How many sections are present, and how many bytes they have together.
-pub(crate) fn totals(bytes: &[u8], heads: &[Head], now: Moment) -> Totals
-    requires within { AreWithin (length bytes.now) heads.now }
-    requires small { memory_used (sections_in bytes.now heads.now) < 2 ^ 64 }
-    ensures count { result.count ≡ length (present now (sections_in bytes.now heads.now)) }
-    ensures bytes { result.bytes ≡ memory_used (present now (sections_in bytes.now heads.now)) }
+/// The least expiration of the sections, `NEVER` where there is none, whatever the bytes are.
+pub(crate) fn earliest(heads: &[Head]) -> Moment
+    ensures { (bytes : List ℕ) → result ≡ earliest_expiration (sections_in bytes heads.now) }
 {
-    let mut count = 0;
-    let mut used: u128 = 0;
+    let mut earliest = NEVER;
     for head in heads {
-        let section = section_in(bytes, head);
-        if section.is_present(now) {
-            count += 1;
-            used += section.bytes.len() as u128;
-        }
+        earliest = earliest.min(head.expiration);
     }
-    Totals { count, bytes: used }
+    earliest
 }

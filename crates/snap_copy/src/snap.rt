@@ -3,8 +3,8 @@ ghost use Rattle.std.specs.Prelude.{◌≡◌, [], false, IfOk};
 ghost use Rattle.ckpt_types.specs.Attributes.{is_malformed};
 ghost use Rattle.ckpt_types.specs.Sections.{Fits};
 
-use crate::heads::{Head, copy_in, find, section_in, totals};
-use ckpt_types::{CreationAttributes, Moment, SectionRef, Sections, Totals};
+use crate::heads::{Head, copy_in, earliest, find, section_in};
+use ckpt_types::{CreationAttributes, Moment, SectionRef, Sections};
 use std::alloc::{AllocError, Global};
 use std::marker::Model;
 
@@ -117,8 +117,11 @@ impl Sections for Snap {
         find(self.block.heads.as_slice(), id)
     }
 
-    fn totals(&self, now: Moment) -> Totals {
-        let kept = &*self.block;
-        totals(kept.bytes.as_slice(), kept.heads.as_slice(), now)
+    fn sum(&self) -> u64 {
+        self.block.bytes.len() as u64
+    }
+
+    fn earliest(&self) -> Moment {
+        earliest(self.block.heads.as_slice())
     }
 }

@@ -1,4 +1,5 @@
 pub mod FreeIdentifier
+pub mod OneElement
 pub mod PresentLemmas
 pub mod Singles
 pub mod Sizes

@@ -15,7 +15,7 @@ use Rattle.ckpt_types.proofs.Accepted.{element_written-Ok}
 use Rattle.ckpt_types.proofs.Fitting.{length-written}
 use Rattle.update_rules.specs.declared.refused.Refused.{Refused}
 use Rattle.update_rules.specs.Present.{size_at}
-use Rattle.update_rules.specs.Told.{check_answer}
+use Rattle.update_rules.specs.Told.{answer_with}
 use Rattle.update_rules.specs.Writes.{with_data, with_element, with_elements, element_end, end_in, last_end_in, measured}
 use Rattle.update_rules.proofs.Sizes.{size_at-Some, size_at-None, two_conditions, memory_used-in_place}
 
@@ -139,23 +139,23 @@ element_written-with_element a t place e sections after is =
 -- ---- the elements in order
 
 -- a refused element refuses the write
-check_answer-elements_written-Err : (a : CreationAttributes) (t : ℤ) (place : ℕ) (e : IoElement) (elements : List IoElement) (sections : List Section) (refused : Refused) → measured (element_written a t place e sections) ≡ Err refused → check_answer (elements_written a t place (e ∷ elements) sections) ≡ Err refused
-check_answer-elements_written-Err a t place e elements sections refused is = step (element_written a t place e sections) is
+pub answer_with-elements_written-Err : {B : Type 0} (first : B) (a : CreationAttributes) (t : ℤ) (place : ℕ) (e : IoElement) (elements : List IoElement) (sections : List Section) (refused : Refused) → measured (element_written a t place e sections) ≡ Err refused → answer_with first (elements_written a t place (e ∷ elements) sections) ≡ Err refused
+answer_with-elements_written-Err first a t place e elements sections refused is = step (element_written a t place e sections) is
   where
-    step : (first : Result (List Section) Refusal) → measured first ≡ Err refused → check_answer (and_then first (elements_written a t (place + 1) elements)) ≡ Err refused
+    step : (made : Result (List Section) Refusal) → measured made ≡ Err refused → answer_with first (and_then made (elements_written a t (place + 1) elements)) ≡ Err refused
     step (Ok after) is = absurd (cc is)
     step (Err refusal) is = cc is
 
 -- where an element is not refused the others tell, over what it leaves
-check_answer-elements_written-Ok : (a : CreationAttributes) (t : ℤ) (place : ℕ) (e : IoElement) (elements : List IoElement) (sections : List Section) (used : ℕ) → measured (element_written a t place e sections) ≡ Ok used → (check_answer (elements_written a t place (e ∷ elements) sections) ≡ check_answer (elements_written a t (place + 1) elements (with_element t e sections))) × (used ≡ memory_used (with_element t e sections))
-check_answer-elements_written-Ok a t place e elements sections used is = step (element_written a t place e sections) refl is
+pub answer_with-elements_written-Ok : {B : Type 0} (first : B) (a : CreationAttributes) (t : ℤ) (place : ℕ) (e : IoElement) (elements : List IoElement) (sections : List Section) (used : ℕ) → measured (element_written a t place e sections) ≡ Ok used → (answer_with first (elements_written a t place (e ∷ elements) sections) ≡ answer_with first (elements_written a t (place + 1) elements (with_element t e sections))) × (used ≡ memory_used (with_element t e sections))
+answer_with-elements_written-Ok first a t place e elements sections used is = step (element_written a t place e sections) refl is
   where
-    step : (first : Result (List Section) Refusal) → element_written a t place e sections ≡ first → measured first ≡ Ok used → (check_answer (and_then first (elements_written a t (place + 1) elements)) ≡ check_answer (elements_written a t (place + 1) elements (with_element t e sections))) × (used ≡ memory_used (with_element t e sections))
-    step (Ok after) first is =
-        let left : after ≡ with_element t e sections = element_written-with_element a t place e sections after first in
+    step : (made : Result (List Section) Refusal) → element_written a t place e sections ≡ made → measured made ≡ Ok used → (answer_with first (and_then made (elements_written a t (place + 1) elements)) ≡ answer_with first (elements_written a t (place + 1) elements (with_element t e sections))) × (used ≡ memory_used (with_element t e sections))
+    step (Ok after) leaves is =
+        let left : after ≡ with_element t e sections = element_written-with_element a t place e sections after leaves in
         let bytes : memory_used after ≡ used = cc is in
-        (ap (λ sections. check_answer (elements_written a t (place + 1) elements sections)) left, sym bytes ∙ ap memory_used left)
-    step (Err refusal) first is = absurd (cc is)
+        (ap (λ sections. answer_with first (elements_written a t (place + 1) elements sections)) left, sym bytes ∙ ap memory_used left)
+    step (Err refusal) refuses is = absurd (cc is)
 
 -- ---- the loop over the elements
 
@@ -169,20 +169,20 @@ with_elements_more t elements i e sections lt is =
     ap (λ es. with_elements t es sections) (take_more elements i e lt ∙ ap (λ x. take i elements ++ x ∷ []) (sym is)) ∙ with_elements-append t (take i elements) (e ∷ []) sections
 
 -- a write is refused with the first of its elements that is refused
-pub write_stops : (a : CreationAttributes) (t : ℤ) (elements : List IoElement) (i : ℕ) (e : IoElement) (sections : List Section) (refused : Refused) → i < length elements → e ≡ get_or elements i e → check_answer (elements_written a t 0 elements sections) ≡ check_answer (elements_written a t i (drop i elements) (with_elements t (take i elements) sections)) → Err refused ≡ measured (element_written a t (length (take i elements)) e (with_elements t (take i elements) sections)) → check_answer (elements_written a t 0 elements sections) ≡ Err refused
-write_stops a t elements i e sections refused lt is rest here =
+pub write_stops : {B : Type 0} (first : B) (a : CreationAttributes) (t : ℤ) (elements : List IoElement) (i : ℕ) (e : IoElement) (sections : List Section) (refused : Refused) → i < length elements → e ≡ get_or elements i e → answer_with first (elements_written a t 0 elements sections) ≡ answer_with first (elements_written a t i (drop i elements) (with_elements t (take i elements) sections)) → Err refused ≡ measured (element_written a t (length (take i elements)) e (with_elements t (take i elements) sections)) → answer_with first (elements_written a t 0 elements sections) ≡ Err refused
+write_stops first a t elements i e sections refused lt is rest here =
     let left = with_elements t (take i elements) sections in
     let place : length (take i elements) ≡ i = length-take-le i elements (omega arith) in
-    rest ∙ ap (λ es. check_answer (elements_written a t i es left)) (drop_element elements i e lt is)
-    ∙ check_answer-elements_written-Err a t i e (drop (i + 1) elements) left refused (ap (λ n. measured (element_written a t n e left)) (sym place) ∙ sym here)
+    rest ∙ ap (λ es. answer_with first (elements_written a t i es left)) (drop_element elements i e lt is)
+    ∙ answer_with-elements_written-Err first a t i e (drop (i + 1) elements) left refused (ap (λ n. measured (element_written a t n e left)) (sym place) ∙ sym here)
 
 -- a write goes on where an element is not refused
-pub write_goes_on : (a : CreationAttributes) (t : ℤ) (elements : List IoElement) (i : ℕ) (e : IoElement) (sections : List Section) (used : ℕ) → i < length elements → e ≡ get_or elements i e → check_answer (elements_written a t 0 elements sections) ≡ check_answer (elements_written a t i (drop i elements) (with_elements t (take i elements) sections)) → Ok used ≡ measured (element_written a t (length (take i elements)) e (with_elements t (take i elements) sections)) → (check_answer (elements_written a t 0 elements sections) ≡ check_answer (elements_written a t (i + 1) (drop (i + 1) elements) (with_elements t (take (i + 1) elements) sections))) × (used ≡ memory_used (with_elements t (take (i + 1) elements) sections))
-write_goes_on a t elements i e sections used lt is rest here =
+pub write_goes_on : {B : Type 0} (first : B) (a : CreationAttributes) (t : ℤ) (elements : List IoElement) (i : ℕ) (e : IoElement) (sections : List Section) (used : ℕ) → i < length elements → e ≡ get_or elements i e → answer_with first (elements_written a t 0 elements sections) ≡ answer_with first (elements_written a t i (drop i elements) (with_elements t (take i elements) sections)) → Ok used ≡ measured (element_written a t (length (take i elements)) e (with_elements t (take i elements) sections)) → (answer_with first (elements_written a t 0 elements sections) ≡ answer_with first (elements_written a t (i + 1) (drop (i + 1) elements) (with_elements t (take (i + 1) elements) sections))) × (used ≡ memory_used (with_elements t (take (i + 1) elements) sections))
+write_goes_on first a t elements i e sections used lt is rest here =
     let left = with_elements t (take i elements) sections in
     let place : length (take i elements) ≡ i = length-take-le i elements (omega arith) in
     let more : with_elements t (take (i + 1) elements) sections ≡ with_element t e left = with_elements_more t elements i e sections lt is in
-    let (goes, sum) = check_answer-elements_written-Ok a t i e (drop (i + 1) elements) left used (ap (λ n. measured (element_written a t n e left)) (sym place) ∙ sym here) in (
-      rest ∙ ap (λ es. check_answer (elements_written a t i es left)) (drop_element elements i e lt is) ∙ goes ∙ ap (λ s. check_answer (elements_written a t (i + 1) (drop (i + 1) elements) s)) (sym more),
+    let (goes, sum) = answer_with-elements_written-Ok first a t i e (drop (i + 1) elements) left used (ap (λ n. measured (element_written a t n e left)) (sym place) ∙ sym here) in (
+      rest ∙ ap (λ es. answer_with first (elements_written a t i es left)) (drop_element elements i e lt is) ∙ goes ∙ ap (λ s. answer_with first (elements_written a t (i + 1) (drop (i + 1) elements) s)) (sym more),
       sum ∙ ap memory_used (sym more),
     )

@@ -7,7 +7,11 @@ use Rattle.update_rules.specs.declared.refused.Refused.{Refused}
 abbrev pub refused_of : Refusal → Refused
 refused_of refusal = record { error = refusal.error; index = refusal.index }
 
+-- the answer of a check that tells a value where there is no refusal
+abbrev pub answer_with : {A B : Type 0} → B → Result A Refusal → Result B Refused
+answer_with value (Ok x) = Ok value
+answer_with value (Err refusal) = Err (refused_of refusal)
+
 -- the answer of a check: the refusal, or only that there is none
 abbrev pub check_answer : {A : Type 0} → Result A Refusal → Result (Unit {0}) Refused
-check_answer (Ok x) = Ok tt
-check_answer (Err refusal) = Err (refused_of refusal)
+check_answer outcome = answer_with tt outcome

@@ -1,9 +1,11 @@
--- What the first elements of a write leave, as it is followed without making the sections.
+-- A write, as it is followed without making the sections: what its first elements leave, and where it goes to first.
 use Rattle.std.specs.Prelude.{ℕ, ◌+◌, max, List, [], ◌∷◌, length, Option, Some, None, Result, Ok, Err, nat_eq, if◌then◌else◌, ℤ}
 use Rattle.std.specs.Cmp.Lexicographic.{pointwise}
 use Rattle.ckpt_types.specs.declared.update.IoElement.{IoElement}
 use Rattle.ckpt_types.specs.Sections.{Section, section_at, with_section, memory_used}
-use Rattle.ckpt_types.specs.Updates.{Refusal, written}
+use Rattle.ckpt_types.specs.declared.update.Update.{Update}
+use Rattle.ckpt_types.specs.declared.update.Update.TheVariants as updates
+use Rattle.ckpt_types.specs.Updates.{Refusal, written, first_place}
 use Rattle.update_rules.specs.declared.refused.Refused.{Refused}
 use Rattle.update_rules.specs.Told.{refused_of}
 
@@ -38,3 +40,8 @@ last_end_in id (e ∷ elements) = max (end_in id e) (last_end_in id elements)
 abbrev pub measured : Result (List Section) Refusal → Result ℕ Refused
 measured (Ok sections) = Ok (memory_used sections)
 measured (Err refusal) = Err (refused_of refusal)
+
+-- where the section stands that a write goes to first, 0 for any other update
+abbrev pub placed_first : Update → List Section → ℕ
+placed_first (updates.Write elements) sections = first_place elements sections
+placed_first other sections = 0

@@ -9,4 +9,4 @@ mod writes;
 
 pub use reads::check_read;
 pub use refused::Refused;
-pub use updates::check;
+pub use updates::{check, check_placed};

@@ -1,7 +1,7 @@
 //! The sections that a rule sees: those that are present at the moment.
-ghost use Rattle.std.specs.Prelude.{◌≡◌};
+ghost use Rattle.std.specs.Prelude.{◌≡◌, ◌<◌, length, IfSome};
 ghost use Rattle.ckpt_types.specs.Sections.{Rises, present};
-ghost use Rattle.update_rules.specs.Present.{size_at};
+ghost use Rattle.update_rules.specs.Present.{size_at, place_present};
 
 use ckpt_types::{Moment, Sections};
 
@@ -10,10 +10,20 @@ pub(crate) fn size_present<S: Sections>(sections: &S, id: &[u8], now: Moment) ->
     requires in_order { Rises (S.sections sections.now) }
     ensures { result ≡ size_at id.now (present now (S.sections sections.now)) }
 {
+    let place = find_present(sections, id, now)?;
+    Some(sections.at(place).bytes.len() as u64)
+}
+
+/// Where the section of that identifier stands among all, where it is present.
+#[inline(always)]
+pub(crate) fn find_present<S: Sections>(sections: &S, id: &[u8], now: Moment) -> Option<usize>
+    requires in_order { Rises (S.sections sections.now) }
+    ensures found { result ≡ place_present id.now now (S.sections sections.now) }
+    ensures within { IfSome result (λ place. place < length (S.sections sections.now)) }
+{
     let place = sections.find(id)?;
-    let section = sections.at(place);
-    if section.is_present(now) {
-        Some(section.bytes.len() as u64)
+    if sections.at(place).is_present(now) {
+        Some(place)
     } else {
         None
     }

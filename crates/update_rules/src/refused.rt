@@ -12,8 +12,8 @@ pub struct Refused {
     pub index: u32,
 }
 
-/// Refuses an update that has no vector.
-pub(crate) fn refuse(error: AisError) -> Result<(), Refused>
+/// Refuses an update that has no vector, or the first element of one.
+pub(crate) fn refuse<T>(error: AisError) -> Result<T, Refused>
     ensures { result ≡ Err (record { error = error; index = 0 }) }
 {
     Err(Refused { error, index: 0 })

@@ -2,13 +2,14 @@
 ghost use Rattle.std.specs.Prelude.{◌≡◌, ◌+◌, ◌^◌, ◌<◌, ◌||◌, nat_le, nat_lt, length};
 ghost use Rattle.ckpt_types.specs.Sections.{Rises, is_taken, present, memory_used};
 ghost use Rattle.ckpt_types.specs.Updates.{outcome, section_created, section_deleted, expiration_set, overwritten, is_bad_id, new_id};
-ghost use Rattle.update_rules.specs.Told.{check_answer};
+ghost use Rattle.update_rules.specs.Told.{check_answer, answer_with};
+ghost use Rattle.update_rules.specs.Writes.{placed_first};
 
 use crate::present::size_present;
 use crate::refused::{Refused, refuse};
 use crate::writes::check_write;
 use ckpt_types::{
-    AisError, CreationAttributes, GENERATED_ID_BYTES, Moment, NewId, Sections, Update,
+    AisError, CreationAttributes, GENERATED_ID_BYTES, Moment, NewId, Sections, Update, totals,
 };
 use moment_rules::expired;
 
@@ -25,7 +26,10 @@ pub fn check<S: Sections>(
     // The clause of `len` tells that the identifiers rise.
     let _count = sections.len();
     match update {
-        Update::Write(vector) => check_write(attrs, sections, vector.as_slice(), now),
+        Update::Write(vector) => match check_write(attrs, sections, vector.as_slice(), now) {
+            Ok(_) => Ok(()),
+            Err(refused) => Err(refused),
+        },
         Update::Overwrite(id, bytes) => {
             check_overwrite(attrs, sections, id.as_slice(), bytes.as_slice(), now)
         }
@@ -37,6 +41,28 @@ pub fn check<S: Sections>(
             check_expiration(attrs, sections, id.as_slice(), *expiration, now)
         }
         Update::Nothing => Ok(()),
+    }
+}
+
+/// As `check`, and where nothing is refused it tells where the section stands that a write goes to first, so that it
+/// need not be looked up again. Of any other update, and of a write of no element, it tells 0.
+#[inline(always)]
+pub fn check_placed<S: Sections>(
+    attrs: &CreationAttributes,
+    sections: &S,
+    update: &Update,
+    now: Moment,
+) -> Result<usize, Refused>
+    ensures { result ≡ answer_with (placed_first update.now (S.sections sections.now)) (outcome attrs.now update.now now (S.sections sections.now)) }
+{
+    if let Update::Write(vector) = update {
+        // The clause of `len` tells that the identifiers rise.
+        let _count = sections.len();
+        return check_write(attrs, sections, vector.as_slice(), now);
+    }
+    match check(attrs, sections, update, now) {
+        Ok(()) => Ok(0),
+        Err(refused) => Err(refused),
     }
 }
 
@@ -97,9 +123,9 @@ fn is_taken<S: Sections>(sections: &S, new: &NewId, now: Moment) -> bool
 fn lacks_room<S: Sections>(attrs: &CreationAttributes, sections: &S, len: u64, now: Moment) -> bool
     ensures { result ≡ (nat_le attrs.now.max_sections (length (present now (S.sections sections.now))) || nat_lt attrs.now.checkpoint_size (memory_used (present now (S.sections sections.now)) + len)) }
 {
-    let totals = sections.totals(now);
+    let totals = totals(sections, now);
     attrs.max_sections as usize <= totals.count
-        || totals.bytes + u128::from(len) > u128::from(attrs.checkpoint_size)
+        || u128::from(totals.bytes) + u128::from(len) > u128::from(attrs.checkpoint_size)
 }
 
 fn check_delete<S: Sections>(
@@ -159,7 +185,7 @@ fn check_overwrite<S: Sections>(
     if len > attrs.max_section_size {
         return refuse(AisError::InvalidParam);
     }
-    let bytes_before = sections.totals(now).bytes;
+    let bytes_before = u128::from(totals(sections, now).bytes);
     if bytes_before + u128::from(len) > u128::from(attrs.checkpoint_size) + u128::from(size) {
         return refuse(AisError::NoSpace);
     }

@@ -1,30 +1,73 @@
 //! When a write is refused, whose elements are written one after another.
 ghost use Rattle.std.specs.Prelude.{◌≡◌, ◌-◌, ◌^◌, ◌<◌, max, length, IfOk};
 ghost use Rattle.ckpt_types.specs.Sections.{Rises, present, memory_used};
-ghost use Rattle.ckpt_types.specs.Updates.{element_written, elements_written};
-ghost use Rattle.update_rules.specs.Told.{check_answer};
+ghost use Rattle.ckpt_types.specs.Updates.{element_written, elements_written, first_place};
+ghost use Rattle.update_rules.specs.Told.{answer_with};
 ghost use Rattle.update_rules.specs.Writes.{with_elements, element_end, end_in, last_end_in, measured};
 
-use crate::present::size_present;
-use crate::refused::Refused;
-use ckpt_types::{AisError, CreationAttributes, IoElement, Moment, Sections};
+use crate::present::{find_present, size_present};
+use crate::refused::{Refused, refuse};
+use ckpt_types::{AisError, CreationAttributes, IoElement, Moment, Sections, totals};
 
-/// Refuses a write with its first element that is refused over what the elements before it leave.
+/// Refuses a write with its first element that is refused over what the elements before it leave. Where none is, it
+/// tells where the section of the first element stands.
+#[inline(always)]
 pub(crate) fn check_write<S: Sections>(
     attrs: &CreationAttributes,
     sections: &S,
     elements: &[IoElement],
     now: Moment,
-) -> Result<(), Refused>
+) -> Result<usize, Refused>
     requires few { length elements.now < 2 ^ 32 }
     requires in_order { Rises (S.sections sections.now) }
-    ensures { result ≡ check_answer (elements_written attrs.now now 0 elements.now (present now (S.sections sections.now))) }
+    ensures { result ≡ answer_with (first_place elements.now (S.sections sections.now)) (elements_written attrs.now now 0 elements.now (present now (S.sections sections.now))) }
 {
-    let mut used = sections.totals(now).bytes;
+    // Most writes have one element.
+    let [element] = elements else {
+        return check_several(attrs, sections, elements, now);
+    };
+    let used = u128::from(totals(sections, now).bytes);
+    let Some(place) = find_present(sections, element.id.as_slice(), now) else {
+        return refuse(AisError::NotExist);
+    };
+    let size = sections.at(place).bytes.len() as u128;
+    let end = end_of(element);
+    if end > u128::from(attrs.max_section_size) {
+        return refuse(AisError::InvalidParam);
+    }
+    if used + end.saturating_sub(size) > u128::from(attrs.checkpoint_size) {
+        return refuse(AisError::NoSpace);
+    }
+    Ok(place)
+}
+
+/// The same of any number of elements.
+#[inline(never)]
+fn check_several<S: Sections>(
+    attrs: &CreationAttributes,
+    sections: &S,
+    elements: &[IoElement],
+    now: Moment,
+) -> Result<usize, Refused>
+    requires few { length elements.now < 2 ^ 32 }
+    requires in_order { Rises (S.sections sections.now) }
+    ensures { result ≡ answer_with (first_place elements.now (S.sections sections.now)) (elements_written attrs.now now 0 elements.now (present now (S.sections sections.now))) }
+{
+    let mut used = u128::from(totals(sections, now).bytes);
     for (place, element) in elements.iter().enumerate() {
         used = bytes_after(attrs, sections, &elements[..place], element, used, now)?;
     }
-    Ok(())
+    Ok(place_of_first(sections, elements))
+}
+
+/// Where the section stands that the first element goes to, 0 where there is none.
+fn place_of_first<S: Sections>(sections: &S, elements: &[IoElement]) -> usize
+    ensures { result ≡ first_place elements.now (S.sections sections.now) }
+{
+    match elements.first() {
+        Some(first) => sections.find(first.id.as_slice()).unwrap_or(0),
+        None => 0,
+    }
 }
 
 /// How many bytes the sections have together once an element is written, or its refusal.

@@ -1,6 +1,6 @@
 use Rattle.std.proofs.Common.{◌≡◌, false, true, arith}
 use Rattle.ckpt_types.specs.Sections.{section_of}
-use Rattle.snap_copy.proofs.TakenLemmas.{memory_used-next, memory_used-room}
+use Rattle.ckpt_types.proofs.FirstSections.{memory_used-next, memory_used-room}
 use Rattle.node_core.proofs.keeping.are_within.Goals as goal
 
 pub returns-then-size-left : goal.returns-then-size-left

@@ -1,15 +1,11 @@
 use Rattle.std.proofs.Common.{◌≡◌, ℕ, ◌+◌, ◌^◌, ◌<◌, ◌≤◌, true, false, ℤ, List, length, is_some, w64, to_z, of_z, ap, ◌∙◌, sym, subst, inl, inr, arith, rules}
-use Rattle.std.specs.Global.{Box}
 use Rattle.std.proofs.lemmas.Bool.{true≢false, cases_eq}
 use Rattle.std.proofs.lemmas.Int.{to_z-of_z}
 use Rattle.ckpt_types.specs.Sections.{Section, is_taken, present}
 use Rattle.ckpt_types.specs.Updates.{free_number, numbered_id}
 use Rattle.ckpt_types.proofs.Numbering.{free_number-free, free_number-least, free_number-le}
 use Rattle.ckpt_types.proofs.Presence.{length-present-le}
-use Rattle.section_store.specs.Stored.{kept_sections}
 use Rattle.section_store.specs.Summary.{AreTaken}
-use Rattle.section_store.specs.declared.stored.Stored.{Stored}
-use Rattle.section_store.proofs.StoredLemmas.{length-kept_sections}
 use Rattle.section_store.proofs.SummaryLemmas.{AreTaken-le}
 use Rattle.section_store.proofs.identifiers.free_number.Goals as goal
 
@@ -28,31 +24,31 @@ free_here sections n first le free = elim (cases_eq n (free_number sections)) [
 ]
 
 -- few sections are present where few are kept
-few_present : (t : ℤ) (kept : List (Box Stored)) → length kept + 1 < 2 ^ 64 → length (present t (kept_sections kept)) + 1 < 2 ^ 64
-few_present t kept few = omega (arith, length-present-le t (kept_sections kept), length-kept_sections kept)
+few_present : (t : ℤ) (sections : List Section) → length sections + 1 < 2 ^ 64 → length (present t sections) + 1 < 2 ^ 64
+few_present t sections few = omega (arith, length-present-le t sections)
 
 pub loop-place-init : goal.loop-place-init
 loop-place-init c =
-    let few : length c.args.kept.now + 1 < 2 ^ 64 = search rules in
+    let few : length c.args.kept.now.sections + 1 < 2 ^ 64 = omega (arith, c.requires.few) in
     let t = to_z w64 (of_z w64 c.args.now) in
-    let taken = subst (λ m. AreTaken c.args.first (present m (kept_sections c.args.kept.now))) (sym (to_z-of_z w64 c.args.now c.ranges.now)) c.requires.taken in
-    record { first = taken.counted; least = AreTaken-le c.args.first (present t (kept_sections c.args.kept.now)) (few_present t c.args.kept.now few) taken }
+    let taken = subst (λ m. AreTaken c.args.first (present m c.args.kept.now.sections)) (sym (to_z-of_z w64 c.args.now c.ranges.now)) c.requires.taken in
+    record { first = taken.counted; least = AreTaken-le c.args.first (present t c.args.kept.now.sections) (few_present t c.args.kept.now.sections few) taken }
 
 -- the number that was tried is below the free one
-tried_below : (c : goal.In-Some) → c.loop-place.number < free_number (present (to_z w64 (of_z w64 c.args.now)) (kept_sections c.args.kept.now))
+tried_below : (c : goal.In-Some) → c.loop-place.number < free_number (present (to_z w64 (of_z w64 c.args.now)) c.args.kept.now.sections)
 tried_below c =
-    let few : length c.args.kept.now + 1 < 2 ^ 64 = search rules in
+    let few : length c.args.kept.now.sections + 1 < 2 ^ 64 = omega (arith, c.requires.few) in
     let t = to_z w64 (of_z w64 c.args.now) in
-    let sections = present t (kept_sections c.args.kept.now) in
+    let sections = present t c.args.kept.now.sections in
     let taken : is_taken (numbered_id c.loop-place.number) sections ≡ true = sym c.place_taken.ensures.taken ∙ ap is_some c.in-Some.is in
-    taken_below sections c.loop-place.number (few_present t c.args.kept.now few) c.loop-place.invariant.least taken
+    taken_below sections c.loop-place.number (few_present t c.args.kept.now.sections few) c.loop-place.invariant.least taken
 
 pub overflow_add-number : goal.overflow_add-number
 overflow_add-number c =
-    let few : length c.args.kept.now + 1 < 2 ^ 64 = search rules in
+    let few : length c.args.kept.now.sections + 1 < 2 ^ 64 = omega (arith, c.requires.few) in
     let t = to_z w64 (of_z w64 c.args.now) in
-    let sections = present t (kept_sections c.args.kept.now) in
-    let all : length sections + 1 < 2 ^ 64 = few_present t c.args.kept.now few in
+    let sections = present t c.args.kept.now.sections in
+    let all : length sections + 1 < 2 ^ 64 = few_present t c.args.kept.now.sections few in
     let below : c.loop-place.number + 1 < 2 ^ 64 = omega (arith, tried_below c, free_number-le sections) in
     search (rules, below)
 
@@ -65,7 +61,7 @@ loop-place-preserved c = let below = tried_below c in record { first = omega ari
 pub returns : goal.returns
 returns c =
     let moment : to_z w64 (of_z w64 c.args.now) ≡ c.args.now = to_z-of_z w64 c.args.now c.ranges.now in
-    let sections = present (to_z w64 (of_z w64 c.args.now)) (kept_sections c.args.kept.now) in
+    let sections = present (to_z w64 (of_z w64 c.args.now)) c.args.kept.now.sections in
     let free : is_taken (numbered_id c.loop-place.number) sections ≡ false = sym c.place_taken.ensures.taken ∙ ap is_some c.in_default.is in
     let here : c.loop-place.number ≡ free_number sections = free_here sections c.loop-place.number c.loop-place.invariant.first c.loop-place.invariant.least free in
-    here ∙ ap (λ t. free_number (present t (kept_sections c.args.kept.now))) moment
+    here ∙ ap (λ t. free_number (present t c.args.kept.now.sections)) moment

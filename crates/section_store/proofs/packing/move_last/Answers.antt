@@ -30,7 +30,7 @@ returns-clause-strings c =
     let b = c.args.buffer.now.items in
     let p = c.args.place in
     let e = extent_at p es in
-    let e' : Extent = record { start = c.len.result - c.index-moved.result.now.len; len = c.index-moved.result.now.len } in
+    let e' : Extent = record c.index-moved.result.now { start = c.len.result - c.index-moved.result.now.len } in
     let within : end_of e ≤ length b = c.requires.laid.within p _ c.requires.there in
     let len : e'.len ≡ e.len = ap (λ x. x.len) (read c) in
     let end : e'.start + e.len ≡ length b = omega (arith, size c, len, c.len.ensures) in
@@ -42,7 +42,7 @@ returns-clause-laid c =
     let b = c.args.buffer.now.items in
     let p = c.args.place in
     let e = extent_at p es in
-    let e' : Extent = record { start = c.len.result - c.index-moved.result.now.len; len = c.index-moved.result.now.len } in
+    let e' : Extent = record c.index-moved.result.now { start = c.len.result - c.index-moved.result.now.len } in
     let within : end_of e ≤ length b = c.requires.laid.within p _ c.requires.there in
     let len : e'.len ≡ e.len = ap (λ x. x.len) (read c) in
     let end : e'.start + e.len ≡ length b = omega (arith, size c, len, c.len.ensures) in

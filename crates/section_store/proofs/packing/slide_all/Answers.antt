@@ -1,44 +1,44 @@
-use Rattle.std.proofs.Common.{◌≡◌, ◌+◌, ◌<◌, ◌≤◌, length, drop, get_or, set, [], ap, sym, subst, refl, ◌∙◌, arith}
-use Rattle.std.proofs.lemmas.List.{length-set, get_or-set_same, drop_all}
+use Rattle.std.proofs.Common.{◌≡◌, ◌+◌, ◌<◌, ◌≤◌, length, set, ap, sym, subst, refl, inl, inr, ◌∙◌, arith}
+use Rattle.std.proofs.lemmas.Bool.{cases_eq}
+use Rattle.std.proofs.lemmas.List.{length-set, get_or-set_same, get_or-set_other}
 use Rattle.std.proofs.lemmas.List.Sums.{sum_by-drop_more}
-use Rattle.section_store.specs.Extents.{extent_at, end_of}
-use Rattle.section_store.specs.Packing.{times}
+use Rattle.section_store.specs.Extents.{no_extent, extent_at, end_of}
 use Rattle.section_store.specs.declared.extents.Extent.{Extent}
-use Rattle.section_store.specs.declared.packing.Ending.{Ending}
 use Rattle.section_store.proofs.ExtentLemmas.{extent_read, extent_at-any}
-use Rattle.section_store.proofs.Sliding.{IsSliding, sliding-can, sliding-next}
+use Rattle.section_store.proofs.Sliding.{IsSliding, CanSlide, sliding-can, sliding-next}
 use Rattle.section_store.proofs.packing.slide_all.Goals as goal
 
 pub slide-requires-clause-free : goal.slide-requires-clause-free
 slide-requires-clause-free c =
-    let was = c.loop-ending.invariant in
-    (sliding-can c.args.extents.now.items c.loop-ending.extents.items _ c.loop-ending.end c.args.order.now c.loop-ending.ending-index (record { end = 0; place = 0 }) c.requires.order was.len was.laid (omega arith) was.sliding).free
+    let was = c.loop-place.invariant in
+    (sliding-can c.args.extents.now.items c.loop-place.extents.items _ c.loop-place.end c.loop-place.place c.requires.rise was.len was.laid (omega arith) was.sliding).free
 
-pub loop-ending-preserved : goal.loop-ending-preserved
-loop-ending-preserved c =
-    let was = c.loop-ending.invariant in
+pub loop-place-preserved : goal.loop-place-preserved
+loop-place-preserved c =
+    let was = c.loop-place.invariant in
     let old = c.args.extents.now.items in
-    let order = c.args.order.now in
-    let es = c.loop-ending.extents.items in
-    let i = c.loop-ending.ending-index in
-    let d : Ending = record { end = 0; place = 0 } in
-    let p = (get_or order i d).place in
-    let end = c.loop-ending.end in
+    let es = c.loop-place.extents.items in
+    let i = c.loop-place.place in
+    let end = c.loop-place.end in
     let e = c.index.result.now in
-    let e' : Extent = record { start = end; len = (extent_at p es).len } in
-    let there : i < length order = omega arith in
-    let can = sliding-can old es _ end order i d c.requires.order was.len was.laid there was.sliding in
-    let next = sliding-next old es _ end order i d e' c.requires.order was.len was.laid there was.sliding refl in
-    let moved : c.slide.new.extents.items ≡ set es p e' = c.slide.ensures.extents in
-    let size : length c.slide.new.extents.items ≡ length es = ap length moved ∙ length-set es p e' in
-    let read : e ≡ e' = sym (extent_read c.slide.new.extents.items p e (omega (arith, size, can.there)) c.index.ensures) ∙ ap (extent_at p) moved ∙ get_or-set_same es p e' (record { start = 0; len = 0 }) can.there in
-    let len : e.len ≡ (extent_at p old).len = ap (λ x. x.len) read ∙ ap (λ x. x.len) can.same in
+    let e' : Extent = record (extent_at i es) { start = end } in
+    let there : i < length old = omega arith in
+    let can : CanSlide old i end es = sliding-can old es _ end i c.requires.rise was.len was.laid there was.sliding in
+    let next : IsSliding old (i + 1) (end + e'.len) (set es i e') = sliding-next old es _ end i e' c.requires.rise was.len was.laid there was.sliding refl refl in
+    let moved : c.slide.new.extents.items ≡ set es i e' = c.slide.ensures.extents in
+    let size : length c.slide.new.extents.items ≡ length es = ap length moved ∙ length-set es i e' in
+    let read : e ≡ e' = sym (extent_read c.slide.new.extents.items i e (omega (arith, size, can.there)) c.index.ensures) ∙ ap (extent_at i) moved ∙ get_or-set_same es i e' no_extent can.there in
+    let len : e.len ≡ (extent_at i old).len = ap (λ x. x.len) read ∙ ap (λ x. x.len) can.same in
     record {
       strings = c.slide.ensures.strings ∙ was.strings;
+      told = λ k. ap (λ xs. (extent_at k xs).place) moved ∙ elim (cases_eq k i) [
+        | inl at ↦ ap (λ n. (extent_at n (set es i e')).place) at ∙ ap (λ x. x.place) (get_or-set_same es i e' no_extent can.there) ∙ ap (λ n. (extent_at n es).place) (sym at)
+        | inr other ↦ ap (λ x. x.place) (get_or-set_other es i k e' no_extent other)
+      ] ∙ was.told k;
       laid = c.slide.ensures.laid;
-      sliding = subst (λ xs. IsSliding old (drop (i + 1) order) (end + e.len) xs) (sym moved) (subst (λ n. IsSliding old (drop (i + 1) order) (end + n) (set es p e')) (ap (λ x. x.len) (sym read)) next);
-      sum = omega (arith, was.sum, len, sum_by-drop_more (λ (x : Ending). (extent_at x.place old).len) order i d there);
-      within = omega (arith, c.slide.ensures.size, can.down, ap (λ x. x.len) read, was.laid.within p (extent_at p es) can.there);
+      sliding = subst (λ xs. IsSliding old (i + 1) (end + e.len) xs) (sym moved) (subst (λ n. IsSliding old (i + 1) (end + n) (set es i e')) (ap (λ x. x.len) (sym read)) next);
+      sum = omega (arith, was.sum, len, sum_by-drop_more (λ (x : Extent). x.len) old i no_extent there);
+      within = omega (arith, c.slide.ensures.size, can.down, ap (λ x. x.len) read, was.laid.within i no_extent can.there);
       size = c.slide.ensures.size ∙ was.size;
       len = size ∙ was.len;
       bytes = c.slide.ensures.bytes ∙ was.bytes;
@@ -47,12 +47,10 @@ loop-ending-preserved c =
 
 pub returns-clause-laid : goal.returns-clause-laid
 returns-clause-laid c =
-    let was = c.loop-ending.invariant in
-    let es = c.loop-ending.extents.items in
-    let left = drop c.loop-ending.ending-index c.args.order.now in
-    let none : left ≡ [] = drop_all c.loop-ending.ending-index c.args.order.now (omega arith) in
+    let was = c.loop-place.invariant in
+    let es = c.loop-place.extents.items in
     record {
-      within = λ k d lt. subst (λ x. end_of x ≤ c.loop-ending.end) (sym (extent_at-any es k d lt)) (was.sliding.done k (omega (arith, was.len)) (ap (times k) none));
+      within = λ k d lt. subst (λ x. end_of x ≤ c.loop-place.end) (sym (extent_at-any es k d lt)) (was.sliding.done k (omega (arith, was.len)) (omega (arith, was.len)));
       apart = was.laid.apart;
       empty = was.laid.empty;
     }

@@ -4,13 +4,12 @@ use Rattle.std.proofs.lemmas.List.{take_all}
 use Rattle.ckpt_types.specs.Buffer.{with_piece}
 use Rattle.ckpt_types.specs.Reads.{pieces_read}
 use Rattle.section_store.specs.StoreState.{with_pieces}
-use Rattle.section_store.specs.Stored.{kept_sections}
 use Rattle.section_store.proofs.Reading.{IfOk-unwrap_or, IfOk-from_unwrap_or, Ok-unwrap_or, pieces_read-drop, piece-fits, with_pieces-push, length-pieces_read}
 use Rattle.section_store.proofs.reads.read_all.Goals as goal
 
 pub push-requires-clause-room : goal.push-requires-clause-room
 push-requires-clause-room c =
-    let sections = kept_sections c.args.kept.now in
+    let sections = c.args.kept.now.sections in
     let elements = c.args.elements.now in
     let all = result_unwrap_or (pieces_read 0 elements sections) [] in
     let i = c.loop-element.element-index in
@@ -20,7 +19,7 @@ push-requires-clause-room c =
 
 pub loop-element-preserved : goal.loop-element-preserved
 loop-element-preserved c =
-    let sections = kept_sections c.args.kept.now in
+    let sections = c.args.kept.now.sections in
     let elements = c.args.elements.now in
     let all = result_unwrap_or (pieces_read 0 elements sections) [] in
     let i = c.loop-element.element-index in
@@ -35,7 +34,7 @@ loop-element-preserved c =
 
 pub returns : goal.returns
 returns c =
-    let sections = kept_sections c.args.kept.now in
+    let sections = c.args.kept.now.sections in
     let elements = c.args.elements.now in
     let read = pieces_read 0 elements sections in
     let all = result_unwrap_or read [] in

@@ -1,7 +1,7 @@
 use Rattle.std.proofs.lemmas.Grind.{common_steps}
 use Rattle.std.proofs.Common.{◌++◌, ◌∷◌, [], ap, ◌∙◌, sym, arith}
 use Rattle.ckpt_types.specs.Sections.{section_of}
-use Rattle.snap_copy.proofs.TakenLemmas.{take-next, memory_used-next, memory_used-room}
+use Rattle.ckpt_types.proofs.FirstSections.{take-next, memory_used-next, memory_used-room}
 use Rattle.snap_copy.proofs.heads.copy_in.Goals as goal
 
 pub add-requires-clause-bytes_room : goal.add-requires-clause-bytes_room

@@ -1,23 +1,45 @@
-use Rattle.std.proofs.Common.{FitsSigned, to_z, of_z, w64, sym, arith, rules}
+use Rattle.std.proofs.Common.{◌≡◌, ◌∷◌, [], Some, None, sym, ap, ◌∙◌, FitsSigned, w64, arith}
 use Rattle.std.proofs.lemmas.Int.{to_z-of_z}
-use Rattle.std.proofs.lemmas.Result.{err_from_is_err_and}
-use Rattle.ckpt_types.specs.Sections.{present}
-use Rattle.update_rules.proofs.WriteLemmas.{write_stops, write_goes_on}
+use Rattle.ckpt_types.specs.Sections.{section_of, present, memory_used}
+use Rattle.ckpt_types.specs.Updates.{first_place}
+use Rattle.update_rules.specs.Present.{place_present}
+use Rattle.update_rules.proofs.OneElement.{only_one, one_absent, one_long, one_full, one_fine}
 use Rattle.update_rules.proofs.writes.check_write.Goals as goal
 
-pub returns-in_err-used : goal.returns-in_err-used
-returns-in_err-used g c =
+pub returns-in_default-find_present : goal.returns-in_default-find_present
+returns-in_default-find_present g c =
     let fits : FitsSigned w64 c.args.now = c.ranges.now in
-    let p = err_from_is_err_and c.from_residual.result c.from_residual.ensures.1 in
-    let t = to_z w64 (of_z w64 c.args.now) in
-    let stops = write_stops c.args.attrs.now t c.args.elements.now c.loop-place.place c.index-elements-place.result (present t (g.S.Sections.sections c.args.sections.now)) c.in_err-used.field-0.0 c.loop-place-test.true c.index-elements-place.is c.loop-place.invariant.rest c.in_err-used.ensures.bytes in
-    rw (p.1, p.2) (sym (simp to_z-of_z at stops))
+    let sections = g.S.Sections.sections c.args.sections.now in
+    let one : c.args.elements.now ≡ c.element-item.result ∷ [] = only_one c.args.elements.now c.element-item.result (omega arith) c.element-item.is in
+    let found : None ≡ place_present c.as_slice.result.now c.args.now sections = simp to_z-of_z at c.in_default-find_present.ensures.found in
+    let at : None ≡ place_present c.element-item.result.id c.args.now sections = found ∙ ap (λ id. place_present id c.args.now sections) c.as_slice.ensures in
+    cc (one_absent (first_place c.args.elements.now sections) c.args.attrs.now c.args.now c.args.elements.now c.element-item.result sections one c.requires.in_order (sym at))
 
-pub loop-place-preserved : goal.loop-place-preserved
-loop-place-preserved g c =
-    let t = to_z w64 (of_z w64 c.args.now) in
-    let goes_on = write_goes_on c.args.attrs.now t c.args.elements.now c.loop-place.place c.index-elements-place.result (present t (g.S.Sections.sections c.args.sections.now)) c.in_ok-used.used c.loop-place-test.true c.index-elements-place.is c.loop-place.invariant.rest c.in_ok-used.ensures.bytes in
-    record { rest = goes_on.0; used = goes_on.1; small = omega (arith, c.in_ok-used.ensures.small) }
+pub returns-then-end-from : goal.returns-then-end-from
+returns-then-end-from g c =
+    let fits : FitsSigned w64 c.args.now = c.ranges.now in
+    let sections = g.S.Sections.sections c.args.sections.now in
+    let one : c.args.elements.now ≡ c.element-item.result ∷ [] = only_one c.args.elements.now c.element-item.result (omega arith) c.element-item.is in
+    let found : Some c.in-Some.place ≡ place_present c.as_slice.result.now c.args.now sections = simp to_z-of_z at c.in-Some.ensures.found in
+    let at : Some c.in-Some.place ≡ place_present c.element-item.result.id c.args.now sections = found ∙ ap (λ id. place_present id c.args.now sections) c.as_slice.ensures in
+    cc (one_long (first_place c.args.elements.now sections) c.args.attrs.now c.args.now c.args.elements.now c.element-item.result sections c.in-Some.place (section_of c.at.result) one c.requires.in_order (sym at) c.at.ensures (omega arith))
 
-pub loop-place-init : goal.loop-place-init
-loop-place-init g c = search rules
+pub returns-then-used-saturating_sub : goal.returns-then-used-saturating_sub
+returns-then-used-saturating_sub g c =
+    let fits : FitsSigned w64 c.args.now = c.ranges.now in
+    let sections = g.S.Sections.sections c.args.sections.now in
+    let one : c.args.elements.now ≡ c.element-item.result ∷ [] = only_one c.args.elements.now c.element-item.result (omega arith) c.element-item.is in
+    let found : Some c.in-Some.place ≡ place_present c.as_slice.result.now c.args.now sections = simp to_z-of_z at c.in-Some.ensures.found in
+    let at : Some c.in-Some.place ≡ place_present c.element-item.result.id c.args.now sections = found ∙ ap (λ id. place_present id c.args.now sections) c.as_slice.ensures in
+    let sum : c.totals.result.bytes ≡ memory_used (present c.args.now sections) = simp to_z-of_z at c.totals.ensures.bytes in
+    cc (one_full (first_place c.args.elements.now sections) c.args.attrs.now c.args.now c.args.elements.now c.element-item.result sections c.in-Some.place (section_of c.at.result) c.totals.result.bytes one c.requires.in_order (sym at) c.at.ensures sum (omega arith) (omega arith))
+
+pub returns : goal.returns
+returns g c =
+    let fits : FitsSigned w64 c.args.now = c.ranges.now in
+    let sections = g.S.Sections.sections c.args.sections.now in
+    let one : c.args.elements.now ≡ c.element-item.result ∷ [] = only_one c.args.elements.now c.element-item.result (omega arith) c.element-item.is in
+    let found : Some c.in-Some.place ≡ place_present c.as_slice.result.now c.args.now sections = simp to_z-of_z at c.in-Some.ensures.found in
+    let at : Some c.in-Some.place ≡ place_present c.element-item.result.id c.args.now sections = found ∙ ap (λ id. place_present id c.args.now sections) c.as_slice.ensures in
+    let sum : c.totals.result.bytes ≡ memory_used (present c.args.now sections) = simp to_z-of_z at c.totals.ensures.bytes in
+    cc (one_fine c.args.attrs.now c.args.now c.args.elements.now c.element-item.result sections c.in-Some.place (section_of c.at.result) c.totals.result.bytes one c.requires.in_order (sym at) c.at.ensures sum (omega arith) (omega arith))

@@ -1,8 +1,7 @@
-use Rattle.std.proofs.Common.{◌≡◌, ◌+◌, ◌-◌, ◌≤◌, ◌<◌, [], ℕ, length, inl, ap, sym, subst, refl, ◌∙◌, arith}
-use Rattle.std.specs.Prelude.{insert, sum_by}
+use Rattle.std.proofs.Common.{◌≡◌, ◌+◌, ◌-◌, ◌≤◌, ◌<◌, [], length, inl, ap, sym, subst, refl, ◌∙◌, arith}
+use Rattle.std.specs.Prelude.{insert}
 use Rattle.std.proofs.lemmas.List.{length-map}
-use Rattle.std.proofs.lemmas.List.Sums.{sum_by-insert}
-use Rattle.section_store.specs.Extents.{bytes_at, strings_in, AreLaid}
+use Rattle.section_store.specs.Extents.{no_extent, bytes_at, strings_in, AreLaid}
 use Rattle.section_store.specs.declared.extents.Extent.{Extent}
 use Rattle.section_store.proofs.RegionLemmas.{strings_in-insert, AreLaid-insert}
 use Rattle.section_store.proofs.region.Region.insert.Goals as goal
@@ -16,18 +15,15 @@ invariant_of-self c =
     let was = c.self.invariant in
     let b = c.self.inside.buffer.items in
     let es = c.self.inside.extents.items in
-    let none : Extent = record { start = 0; len = 0 } in
+    let none : Extent = no_extent in
     let place : c.args.place ≤ length es = omega (arith, length-map es (bytes_at b), ap (λ r. length r.strings) c.self.view_is) in
     let spare : 0 < c.self.inside.spare = omega (arith, ap (λ r. r.spare) c.self.view_is) in
     let size : length c.insert.new.self.items ≡ length es + 1 = omega (arith, c.in-Ok.ensures.len) in
     record {
       laid = subst (AreLaid (length b)) (sym c.in-Ok.ensures.items) (AreLaid-insert (length b) (length b) es c.args.place none was.laid place (omega arith) (omega arith) (λ is. refl) (λ k lt. inl (omega arith)));
-      used = was.used ∙ sym (ap (sum_by length) (inserted c) ∙ (let same : sum_by length (insert (strings_in b es) c.args.place []) ≡ sum_by length (strings_in b es) = omega (arith, sum_by-insert (length {A = ℕ}) (strings_in b es) c.args.place []) in same));
-      fits = was.fits;
       inside = was.inside;
       bytes = was.bytes;
       places = omega (arith, was.places, c.in-Ok.ensures.capacity);
-      order = omega (arith, was.order);
     }
 
 pub returns : goal.returns

@@ -13,12 +13,9 @@ invariant_of-self c =
     let done = has_written c.self.inside c.args.place c.args.offset c.index.result.now c.args.bytes.now c.put_over.new.buffer.items was place inside c.put_over.ensures.items in
     record {
       laid = subst (λ n. AreLaid n c.self.inside.extents.items) (sym done.size) was.laid;
-      used = was.used ∙ sym done.sum;
-      fits = was.fits;
       inside = omega (arith, done.size, was.inside);
       bytes = omega (arith, c.put_over.ensures.capacity, was.bytes);
       places = was.places;
-      order = was.order;
     }
 
 pub returns : goal.returns
