@@ -1,1 +1,2 @@
 pub mod AlonePlaces
+pub mod CopiedPieces

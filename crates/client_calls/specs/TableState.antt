@@ -1,5 +1,5 @@
 -- What is kept of a client: the number of its next call, its tables, and its asynchronous calls that are not dispatched.
-use Rattle.std.specs.Prelude.{◌≡◌, ℕ, ◌+◌, ◌<◌, IsFalse, Bool, true, Option, Some, None}
+use Rattle.std.specs.Prelude.{◌≡◌, ℕ, ◌+◌, ◌<◌, IsFalse, Bool, true, Option, Some, None, if◌then◌else◌}
 use Rattle.ckpt_types.specs.declared.answers.Outcome.{Outcome}
 use Rattle.client_handles.specs.ClientState.{ClientState}
 use Rattle.ckpt_types.specs.Asks.{asked}
@@ -41,6 +41,10 @@ kept_in (Some t) = t.client
 abbrev pub pending_in : Option TableState → PendingCalls
 pending_in None = no_pending
 pending_in (Some t) = t.pending
+
+-- its handles and iterations, once the room for them was taken
+abbrev pub client_part : TableState → Option ClientState
+client_part t = if t.roomy then Some t.client else None
 
 -- ---- what changes
 

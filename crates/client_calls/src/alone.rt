@@ -1,5 +1,5 @@
 //! The asynchronous calls of one client that go on by themselves.
-ghost use Rattle.std.specs.Prelude.{◌≡◌, ◌∷◌, ◌++◌, filter, Some, None, [], IfNone, IfSome, OnOk, OnErr, IsSome, MatchOption};
+ghost use Rattle.std.specs.Prelude.{◌≡◌, ◌∷◌, ◌++◌, filter, Some, None, [], IfNone, IfOk, IfSome, OnOk, OnErr, IsSome, MatchOption};
 ghost use Rattle.std.specs.Borrow.{sem};
 ghost use Rattle.cluster_record.specs.Calls.{same_actor};
 ghost use Rattle.client_calls.specs.Abandoning.{calls_left};
@@ -11,6 +11,7 @@ ghost use Rattle.ckpt_machine.specs.After.{goes_with, is_over};
 ghost use Rattle.client_calls.specs.AlonePlaces.{found_alone, has_call, has_other, meets, without_met, IsPlaceOf};
 
 use crate::abandoning::is_on;
+use crate::copying::copy_of_places;
 use crate::in_hand::InHand;
 use call_dispatch::Pending;
 use ckpt_types::{ActorName, AsyncKind, CallId, NodeId};
@@ -41,6 +42,15 @@ impl AloneCalls {
         AloneCalls {
             list: Vec::new(alloc),
         }
+    }
+
+    /// Equal calls in the same order.
+    pub fn copy(&self, alloc: Global) -> Result<AloneCalls, AllocError>
+        ensures { IfOk result (λ copy. copy ≡ self.now) }
+    {
+        Ok(AloneCalls {
+            list: copy_of_places(alloc, self.list.as_slice())?,
+        })
     }
 
     /// The call of that name.

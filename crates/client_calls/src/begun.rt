@@ -70,7 +70,7 @@ pub fn begin_hand(
     ensures driver { IfOk result (λ hand. driver_start call (asked op.now) (kept_at_beginning cluster.now call.actor handle.now) ≡ Some hand.driver) }
 {
     let driver = Driver::start(call, op, handle, cluster)?;
-    let op = copy(op)?;
+    let op = copy_of_op(op)?;
     Ok(InHand {
         call,
         op,
@@ -81,7 +81,8 @@ pub fn begin_hand(
     })
 }
 
-fn copy(op: &Op) -> Result<Op, AllocError>
+/// An equal operation, with shares of what it keeps.
+pub(crate) fn copy_of_op(op: &Op) -> Result<Op, AllocError>
     ensures { IfOk result (λ copied. copied ≡ op.now) }
 {
     op.clone()

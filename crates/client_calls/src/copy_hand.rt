@@ -14,6 +14,7 @@ ghost use Rattle.client_calls.specs.CopyHands.{IsCopyHand, copy_hand};
 ghost use Rattle.client_calls.specs.Lending.{IsLentBy};
 ghost use Rattle.client_calls.specs.Taking.{hand_outcome, hand_told};
 
+use crate::copying::copy_of_snapshot;
 use crate::in_hand::index_told;
 use crate::lending::{lent_by, lent_of};
 use ckpt_types::{Answer, CallId, Op, Outcome, SharedUpdate, Update};
@@ -61,6 +62,19 @@ impl CopyHand {
             driver: CopyCall::begin(call, UpdateCall::begin(call, 0)),
             update,
             snapshot: None,
+        })
+    }
+
+    /// An equal one, with as much room, and with a share of its update.
+    pub fn copy(&self, alloc: Global) -> Result<CopyHand, AllocError>
+        ensures { IfOk result (λ copy. copy ≡ self.now) }
+    {
+        let driver = self.driver.copy(alloc)?;
+        Ok(CopyHand {
+            call: self.call,
+            driver,
+            update: self.update.share()?,
+            snapshot: copy_of_snapshot(alloc, &self.snapshot)?,
         })
     }
 

@@ -14,6 +14,7 @@ ghost use Rattle.ckpt_machine.specs.Due.{declares_at, kept_at_beginning};
 ghost use Rattle.ckpt_machine.specs.Tables.{rooms_in};
 ghost use Rattle.ckpt_machine.specs.Granting.{event_granted};
 ghost use Rattle.ckpt_machine.specs.Drivers.{Once, Open};
+ghost use Rattle.ckpt_machine.specs.Drivers as kinds;
 ghost use Rattle.cluster_record.specs.DueOpen.{open_begun};
 
 use crate::beginning::{choice_of, ckpt_of_handle};
@@ -28,7 +29,7 @@ use drive_open::{OpenCall, SharedAsk};
 use drive_sync::SyncCall;
 use drive_update::UpdateCall;
 use node_msgs::{Next, RecordStep};
-use std::alloc::AllocError;
+use std::alloc::{AllocError, Global};
 use std::marker::Model;
 
 /// What drives a call that is in hand.
@@ -132,6 +133,19 @@ impl Driver {
         }
     }
 
+    /// An equal one, with shares of the name and the attributes, if it keeps them.
+    pub fn copy(&self, alloc: Global) -> Result<Driver, AllocError>
+        ensures { IfOk result (λ copy. copy ≡ self.now) }
+    {
+        match &self.kind {
+            DriverKind::Once(step) => copy_of_once(step),
+            DriverKind::Open(open_call) => copy_of_open(alloc, open_call),
+            DriverKind::Update(update) => copy_of_update(alloc, update),
+            DriverKind::Active(active) => copy_of_active(alloc, active),
+            DriverKind::Sync(sync) => copy_of_sync(alloc, sync),
+        }
+    }
+
     /// The checkpoint that the call is making, if it is.
     pub fn making(&self) -> Option<CkptId>
         ensures { result ≡ making_in self.now }
@@ -158,6 +172,46 @@ impl Driver {
             DriverKind::Sync(sync) => sync.next(cluster),
         }
     }
+}
+
+// What drives a call that is an equal one of each kind.
+
+fn copy_of_once(step: &OneStep) -> Result<Driver, AllocError>
+    ensures { IfOk result (λ copy. copy ≡ Once (step_in step.now)) }
+{
+    Ok(Driver::once(step.copy()?))
+}
+
+fn copy_of_open(alloc: Global, open_call: &OpenCall) -> Result<Driver, AllocError>
+    ensures { IfOk result (λ copy. copy ≡ Open open_call.now) }
+{
+    Ok(Driver {
+        kind: DriverKind::Open(open_call.copy(alloc)?),
+    })
+}
+
+fn copy_of_update(alloc: Global, update: &UpdateCall) -> Result<Driver, AllocError>
+    ensures { IfOk result (λ copy. copy ≡ kinds.Update update.now) }
+{
+    Ok(Driver {
+        kind: DriverKind::Update(update.copy(alloc)?),
+    })
+}
+
+fn copy_of_active(alloc: Global, active: &ActiveCall) -> Result<Driver, AllocError>
+    ensures { IfOk result (λ copy. copy ≡ kinds.Active active.now) }
+{
+    Ok(Driver {
+        kind: DriverKind::Active(active.copy(alloc)?),
+    })
+}
+
+fn copy_of_sync(alloc: Global, sync: &SyncCall) -> Result<Driver, AllocError>
+    ensures { IfOk result (λ copy. copy ≡ kinds.Sync sync.now) }
+{
+    Ok(Driver {
+        kind: DriverKind::Sync(sync.copy(alloc)?),
+    })
 }
 
 // An open, which ends at this moment at the latest, if at one.

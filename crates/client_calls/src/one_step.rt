@@ -1,5 +1,5 @@
 //! The calls of one step of the record: what each does next.
-ghost use Rattle.std.specs.Prelude.{◌≡◌, Some};
+ghost use Rattle.std.specs.Prelude.{◌≡◌, Some, IfOk};
 ghost use Rattle.ckpt_types.specs.declared.answers.Cause.TheVariants.{Plain};
 ghost use Rattle.ckpt_types.specs.declared.answers.Outcome.TheVariants.{Refused};
 ghost use Rattle.node_msgs.specs.declared.next.Next.TheVariants.{End};
@@ -12,6 +12,7 @@ use ckpt_types::{
 };
 use cluster_record::Record;
 use node_msgs::{Next, RecordStep, Reply};
+use std::alloc::AllocError;
 
 /// What a call of one step does.
 #[derive(Drop)]
@@ -54,6 +55,20 @@ impl OneStep {
             },
             Reply::NoMemory => Some(Outcome::NoMemory),
             _ => None,
+        }
+    }
+
+    /// An equal one, with a share of the name that it unlinks. It takes no memory, and fails only where the shares can't be
+    /// counted.
+    pub(crate) fn copy(&self) -> Result<OneStep, AllocError>
+        ensures { IfOk result (λ copy. copy ≡ self.now) }
+    {
+        match self {
+            OneStep::Enter(node) => Ok(OneStep::Enter(*node)),
+            OneStep::Leave => Ok(OneStep::Leave),
+            OneStep::Close(ckpt) => Ok(OneStep::Close(*ckpt)),
+            OneStep::Unlink(name) => Ok(OneStep::Unlink(name.share()?)),
+            OneStep::Retain(ckpt, duration) => Ok(OneStep::Retain(*ckpt, *duration)),
         }
     }
 }

@@ -1,5 +1,5 @@
 //! What one client keeps: numbers, handles, iterations and places, and its asynchronous calls.
-ghost use Rattle.std.specs.Prelude.{◌≡◌, ◌-◌, ◌+◌, ◌^◌, ◌<◌, ◌≤◌, true, IfOk, IsSome, OnErr, OnOk, MatchOption, length, map, take};
+ghost use Rattle.std.specs.Prelude.{◌≡◌, ◌-◌, ◌+◌, ◌^◌, ◌<◌, ◌≤◌, true, IfOk, IsSome, is_some, OnErr, OnOk, MatchOption, length, map, take};
 ghost use Rattle.ckpt_types.specs.declared.answers.Answer.{Answer};
 ghost use Rattle.ckpt_types.specs.Asks.{asked, IsBuilt};
 ghost use Rattle.ckpt_types.specs.Attributes.{open_flags_of};
@@ -13,7 +13,8 @@ ghost use Rattle.client_calls.specs.Abandoning.{table_left};
 ghost use Rattle.client_calls.specs.Lending.{come_back, lending, IsGoingOnWith, IsOutOf};
 ghost use Rattle.client_calls.specs.NewTable.{new_table};
 ghost use Rattle.client_calls.specs.TableEnds.{table_ended};
-ghost use Rattle.client_calls.specs.TableState.{with_room, with_client, begun_with, with_calls, begun_done, CanBegin, CanBeginDone, CanGoOnAlone};
+ghost use Rattle.client_calls.specs.TableView.{calls_in, client_in};
+ghost use Rattle.client_calls.specs.TableState.{with_room, with_client, begun_with, with_calls, begun_done, client_part, CanBegin, CanBeginDone, CanGoOnAlone};
 
 use crate::abandoning::is_on;
 use crate::kept_calls::{async_call, callbacks_of, dispatch, given_of_none};
@@ -76,6 +77,17 @@ impl Table {
         }
     }
 
+    /// An equal one, with as much room. An iteration that is lent is lent in the copy, too.
+    pub fn copy(&self, alloc: Global) -> Result<Table, AllocError>
+        ensures { IfOk result (λ copy. copy ≡ self.now) }
+    {
+        Ok(Table {
+            next: self.next,
+            client: copy_of_client(alloc, &self.client)?,
+            pending: copy_of_pending(alloc, &self.pending)?,
+        })
+    }
+
     /// The room for the client's handles, iterations and asynchronous calls is taken, unless it was.
     pub fn take_room(&mut self, alloc: Global) -> Result<(), AllocError>
         ensures taken { OnOk result (self.new ≡ with_room self.old) }
@@ -88,6 +100,21 @@ impl Table {
         self.pending = Some(Box::new(alloc, Pending::new(alloc)?)?);
         self.client = Some(client);
         Ok(())
+    }
+
+    /// Its handles, iterations and places; nothing before their room was taken. Its asynchronous calls go.
+    pub fn into_client(self) -> Option<Client>
+        ensures { result ≡ client_part self }
+    {
+        let Table {
+            next: _,
+            client,
+            pending: _,
+        } = self;
+        match client {
+            None => None,
+            Some(client) => Some(Box::into_inner(client)),
+        }
     }
 
     /// The number of the client's next call.
@@ -444,6 +471,32 @@ impl Table {
         if let Some(client) = &mut self.client {
             client.close_all();
         }
+    }
+}
+
+fn copy_of_client(
+    alloc: Global,
+    client: &Option<Box<Client>>,
+) -> Result<Option<Box<Client>>, AllocError>
+    ensures there { IfOk result (λ copy. is_some copy ≡ is_some client.now) }
+    ensures client { IfOk result (λ copy. client_in copy ≡ client_in client.now) }
+{
+    match client {
+        None => Ok(None),
+        Some(client) => Ok(Some(Box::new(alloc, client.copy(alloc)?)?)),
+    }
+}
+
+fn copy_of_pending(
+    alloc: Global,
+    pending: &Option<Box<Pending>>,
+) -> Result<Option<Box<Pending>>, AllocError>
+    ensures there { IfOk result (λ copy. is_some copy ≡ is_some pending.now) }
+    ensures calls { IfOk result (λ copy. calls_in copy ≡ calls_in pending.now) }
+{
+    match pending {
+        None => Ok(None),
+        Some(pending) => Ok(Some(Box::new(alloc, pending.copy(alloc)?)?)),
     }
 }
 

@@ -1,12 +1,11 @@
 -- What the failure of a node leaves of the nodes, each at the place of its number, as they are shown.
-use Rattle.std.proofs.Common.{◌≡◌, ℕ, suc, ◌+◌, ◌≤◌, List, [], ◌∷◌, map, All, Option, Some, None, refl, sym, ap, ◌∙◌, arith}
+use Rattle.std.proofs.Common.{◌≡◌, ℕ, suc, ◌+◌, List, [], ◌∷◌, map, All, Option, Some, None, refl, sym, ap, ◌∙◌, arith}
 use Rattle.std.specs.Option.{option_map}
 use Rattle.std.specs.Prelude.{slice_get}
 use Rattle.std.proofs.lemmas.List.{length-map}
 use Rattle.std.proofs.lemmas.List.Elements.{All-nil, All-cons}
 use Rattle.std.proofs.lemmas.Option.{same_Some, slice_get-map}
 use Rattle.cluster_record.specs.RecordState.{RecordState}
-use Rattle.replica.specs.Replicas.{Replica}
 use Rattle.node_core.specs.Failing.{node_left, HoldsEachOnce}
 use Rattle.node_core.specs.Nodes.{NodeState}
 use Rattle.ckpt_machine.specs.ByNumber.{each_by_number}

@@ -57,6 +57,23 @@ impl Nodes {
         })
     }
 
+    /// Equal nodes, with storage of their own for each replica.
+    pub fn copy(&self, alloc: Global) -> Result<Nodes, AllocError>
+        ensures { IfOk result (λ copy. copy ≡ self.now) }
+    {
+        Ok(Nodes {
+            list: copy_nodes(alloc, self.list.as_slice())?,
+        })
+    }
+
+    /// The nodes, n0 first.
+    pub fn into_list(self) -> Vec<Node>
+        ensures shown { nodes_shown result.items ≡ self }
+        ensures numbered { StandByNumber result.items }
+    {
+        self.list
+    }
+
     /// How many nodes there are.
     #[inline(always)]
     pub fn count(&self) -> usize
@@ -176,6 +193,16 @@ fn new_nodes(alloc: Global) -> Result<Vec<Node>, AllocError>
         nodes.push(Node::new(alloc, r as NodeId)?)?;
     }
     Ok(nodes)
+}
+
+fn copy_nodes(alloc: Global, nodes: &[Node]) -> Result<Vec<Node>, AllocError>
+    ensures { IfOk result (λ copies. copies.items ≡ nodes.now) }
+{
+    let mut copies = Vec::with_capacity(alloc, nodes.len())?;
+    for node in nodes {
+        copies.push_reserved(node.copy(alloc)?);
+    }
+    Ok(copies)
 }
 
 fn serve_node(

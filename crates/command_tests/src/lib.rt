@@ -13,3 +13,5 @@ mod played;
 mod rows;
 #[cfg(test)]
 mod words;
+#[cfg(test)]
+mod worlds;

@@ -28,8 +28,8 @@ pub const NONE: u64 = 1_000_000;
 /// No write fails, and there is room for all lines.
 pub const ALL: (u64, usize) = (NONE, 4096);
 
-// The words, as a command takes them.
-fn owned(alloc: Global, words: &[&str]) -> Result<Vec<String>, AllocError> {
+/// The words, as a command takes them.
+pub fn owned(alloc: Global, words: &[&str]) -> Result<Vec<String>, AllocError> {
     let mut owned = Vec::new(alloc);
     for word in words {
         owned.push(String::from_str(alloc, word)?)?;

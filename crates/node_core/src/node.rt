@@ -61,6 +61,14 @@ impl Node {
         })
     }
 
+    /// Its number.
+    #[inline(always)]
+    pub fn number(&self) -> NodeId
+        ensures { result ≡ self.now.number }
+    {
+        self.number
+    }
+
     /// An equal node, with storage of its own for each replica.
     pub fn copy(&self, alloc: Global) -> Result<Node, AllocError>
         ensures { IfOk result (λ copy. copy ≡ self.now) }

@@ -10,6 +10,8 @@ mod drivers;
 #[cfg(test)]
 mod handles;
 #[cfg(test)]
+mod journals;
+#[cfg(test)]
 mod labels;
 #[cfg(test)]
 mod names;
@@ -25,6 +27,8 @@ mod scripts;
 mod store;
 #[cfg(test)]
 mod streams;
+#[cfg(test)]
+mod tickets;
 #[cfg(test)]
 mod types;
 #[cfg(test)]

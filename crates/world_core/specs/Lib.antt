@@ -20,5 +20,6 @@ pub mod CommitLending
 pub mod Happenings
 pub mod TablesState
 pub mod TablesLending
+pub mod TakenApart
 pub mod Failing
 pub mod NodeJoins

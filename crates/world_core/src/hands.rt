@@ -15,11 +15,14 @@ ghost use Rattle.ckpt_machine.specs.ByNumber.{each_by_number};
 ghost use Rattle.world_core.specs.Failing.{hands_left};
 ghost use Rattle.world_core.specs.HandsState.{alone_in, hand_at, with_alone, without_all, without_call, without_those, HasAlone};
 ghost use Rattle.client_calls.specs.AlonePlaces.{found_alone};
+ghost use Rattle.world_core.specs.TakenApart.{busy_at};
 
 use call_dispatch::Pending;
-use ckpt_types::{ActorName, CLIENT_NUMBERS, CallId, NODES_MAX, NodeId, Who};
-use client_calls::{AloneCalls, CopyHand, InHand, copy_unless_abandoned, unless_abandoned};
-use cluster_record::Record;
+use ckpt_types::{ActorName, CLIENT_NUMBERS, CallId, NODES_MAX, NodeId, Op, Who};
+use client_calls::{
+    AloneCalls, CopyHand, InHand, copy_of_places, copy_unless_abandoned, unless_abandoned,
+};
+use cluster_record::{Record, number_of};
 use std::alloc::{AllocError, Global};
 use std::marker::Model;
 
@@ -59,6 +62,24 @@ impl Hands {
             alone: new_lists(alloc)?,
             nodes: [None, None, None, None, None, None, None, None],
         })
+    }
+
+    /// Equal calls, each in the same place.
+    pub fn copy(&self, alloc: Global) -> Result<Hands, AllocError>
+        ensures { IfOk result (λ copy. copy ≡ self.now) }
+    {
+        Ok(Hands {
+            clients: copy_of_places(alloc, self.clients.as_slice())?,
+            alone: copy_lists(alloc, self.alone.as_slice())?,
+            nodes: copy_copyings(alloc, &self.nodes)?,
+        })
+    }
+
+    /// By client, where it has a call in hand, the node that this is about.
+    pub fn busy(&self, alloc: Global, cluster: &Record) -> Result<Vec<Option<NodeId>>, AllocError>
+        ensures { IfOk result (λ busy. busy.items ≡ map (busy_at cluster.now) self.now.clients) }
+    {
+        busy_of(alloc, self.clients.as_slice(), cluster)
     }
 
     /// Whether a call is in hand under a name.
@@ -233,6 +254,77 @@ fn new_lists(alloc: Global) -> Result<Vec<AloneCalls>, AllocError>
         lists.push_reserved(AloneCalls::new(alloc));
     }
     Ok(lists)
+}
+
+fn copy_lists(alloc: Global, lists: &[AloneCalls]) -> Result<Vec<AloneCalls>, AllocError>
+    ensures { IfOk result (λ copies. copies.items ≡ lists.now) }
+{
+    let mut copies = Vec::with_capacity(alloc, lists.len())?;
+    for calls in lists {
+        copies.push_reserved(calls.copy(alloc)?);
+    }
+    Ok(copies)
+}
+
+fn copy_copyings(
+    alloc: Global,
+    copyings: &[Option<CopyHand>; NODES_MAX],
+) -> Result<[Option<CopyHand>; NODES_MAX], AllocError>
+    ensures { IfOk result (λ copies. copies ≡ copyings.now) }
+{
+    let mut copies = [None, None, None, None, None, None, None, None];
+    fill_copyings(alloc, copyings, &mut copies)?;
+    Ok(copies)
+}
+
+// Each place gets an equal copying, where there is one.
+fn fill_copyings(
+    alloc: Global,
+    copyings: &[Option<CopyHand>],
+    copies: &mut [Option<CopyHand>],
+) -> Result<(), AllocError>
+    requires { length copies.old ≡ length copyings.now }
+    ensures { OnOk result (copies.new ≡ copyings.now) }
+{
+    for (r, copying) in copyings.iter().enumerate() {
+        copies[r] = copy_copying(alloc, copying)?;
+    }
+    Ok(())
+}
+
+fn copy_copying(alloc: Global, copying: &Option<CopyHand>) -> Result<Option<CopyHand>, AllocError>
+    ensures { IfOk result (λ copy. copy ≡ copying.now) }
+{
+    match copying {
+        None => Ok(None),
+        Some(hand) => Ok(Some(hand.copy(alloc)?)),
+    }
+}
+
+fn busy_of(
+    alloc: Global,
+    places: &[Option<InHand>],
+    cluster: &Record,
+) -> Result<Vec<Option<NodeId>>, AllocError>
+    ensures { IfOk result (λ busy. busy.items ≡ map (busy_at cluster.now) places.now) }
+{
+    places
+        .iter()
+        .map(|place| busy_at(place, cluster))
+        .collect(alloc)
+}
+
+// Of a call in hand, the node that it is about: its client's, or that which an Initialize names.
+fn busy_at(place: &Option<InHand>, cluster: &Record) -> Option<NodeId>
+    ensures { result ≡ busy_at cluster.now place.now }
+{
+    let Some(hand) = place else {
+        return None;
+    };
+    match &hand.op {
+        Op::Client(node, _, _) => Some(*node),
+        _ => Some(cluster.home_of(number_of(&hand.call.actor))),
+    }
 }
 
 fn find(list: &[Option<InHand>], c: usize) -> Option<&InHand>

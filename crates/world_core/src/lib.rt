@@ -18,6 +18,8 @@ mod steps;
 mod tables;
 mod updating;
 mod world;
+mod world_parts;
 
 pub use law::world_law;
 pub use world::{Cluster, Event, World};
+pub use world_parts::WorldParts;

@@ -1,6 +1,6 @@
 //! The background snapshots: of each checkpoint whose updates go to its active alone, the room for one, and what was
 //! pulled last.
-ghost use Rattle.std.specs.Prelude.{◌≡◌, ◌<◌, [], None, Some, false, length, IfSome, IsSomeAnd, MatchOption, OnErr, OnOk, is_some};
+ghost use Rattle.std.specs.Prelude.{◌≡◌, ◌<◌, [], None, Some, false, length, IfOk, IfSome, IsSomeAnd, MatchOption, OnErr, OnOk, is_some};
 ghost use Rattle.ckpt_types.specs.Attributes.{is_malformed};
 ghost use Rattle.ckpt_types.specs.Sections.{Fits};
 ghost use Rattle.cluster_record.specs.Places.{change_key, place_key};
@@ -53,6 +53,15 @@ impl Snapshots {
         }
     }
 
+    /// Equal snapshots in the same order, with room of their own.
+    pub fn copy(&self, alloc: Global) -> Result<Snapshots, AllocError>
+        ensures { IfOk result (λ copy. copy ≡ self.now) }
+    {
+        Ok(Snapshots {
+            list: copy_backgrounds(alloc, self.list.as_slice())?,
+        })
+    }
+
     /// Room for the snapshot of a checkpoint that is to be made, for all that it declares, unless its updates are on
     /// all replicas. Where memory is refused, nothing changes.
     pub fn make_room(
@@ -101,6 +110,28 @@ impl Snapshots {
         ensures { self.new ≡ backgrounds_left seen.now.entries self.old }
     {
         keep_there(&mut self.list, seen);
+    }
+}
+
+fn copy_backgrounds(alloc: Global, snapshots: &[Background]) -> Result<Vec<Background>, AllocError>
+    ensures { IfOk result (λ copies. copies.items ≡ snapshots.now) }
+{
+    let mut copies = Vec::with_capacity(alloc, snapshots.len())?;
+    for background in snapshots {
+        copies.push_reserved(background.copy(alloc)?);
+    }
+    Ok(copies)
+}
+
+impl Background {
+    fn copy(&self, alloc: Global) -> Result<Background, AllocError>
+        ensures { IfOk result (λ copy. copy ≡ self.now) }
+    {
+        Ok(Background {
+            ckpt: self.ckpt,
+            snap: self.snap.copy(alloc)?,
+            pulled: self.pulled,
+        })
     }
 }
 

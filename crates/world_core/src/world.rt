@@ -78,6 +78,26 @@ impl World {
     }
 }
 
+impl World {
+    /// An equal cluster, with storage and room of its own. Only its memory may be refused.
+    pub fn copy(&self, alloc: Global) -> Result<World, AllocError>
+        ensures { IfOk result (λ copy. copy ≡ self.now) }
+    {
+        let shared = both(self.cluster.copy(alloc), self.nodes.copy(alloc));
+        let kept = both(self.tables.copy(alloc), self.hands.copy(alloc));
+        let all = both(both(shared, kept), self.snapshots.copy(alloc));
+        let (((cluster, nodes), (tables, hands)), snapshots) = all?;
+        Ok(World {
+            cluster,
+            nodes,
+            snapshots,
+            tables,
+            hands,
+            numbers: self.numbers,
+        })
+    }
+}
+
 /// A cluster to which one event after another happens. Whoever makes events happen by this knows what the world promises, and
 /// its proof reads nothing of how the world keeps that.
 pub trait Cluster {
@@ -199,8 +219,8 @@ impl World {
     }
 }
 
-// Both values, where there are both.
-fn both<A: Drop, B: Drop>(
+/// Both values, where there are both.
+pub(crate) fn both<A: Drop, B: Drop>(
     first: Result<A, AllocError>,
     second: Result<B, AllocError>,
 ) -> Result<(A, B), AllocError>

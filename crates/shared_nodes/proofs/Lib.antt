@@ -1,0 +1,3 @@
+pub mod JournalRows
+pub mod OneMore
+pub mod Travels
