@@ -118,6 +118,7 @@ completes_by log run d word k r end details allowed due = record {
   node = from.node;
   log_is = from.log_is;
   begun = subst (λ c. HasBegun from.before c ops.Copy None) due.call_is (pull_begun (log ++ l ∷ []) (run_more log l run allowed due) from.before from.behind from.pull s.call k from.node from.log_is from.pull_is ops.Copy None (begun_longer log l s.call ops.Copy None (copying_began log run s held (copy_op s.op b.asks))));
+  own = subst (λ (c : CallId). node_of c.actor ≡ r) due.call_is (ap node_of b.actor);
   pull_is = subst (λ c. IsPullOf from.pull c k from.node) due.call_is from.pull_is;
   source = from.source;
   there = from.there;

@@ -34,7 +34,7 @@ Completes (labels.Stepped call opwords.Copy verbs.Complete (Some k) (Some r) wor
 Completes label d j q = ⊥
 
 -- in the log the call has pulled from a replica of the checkpoint, which was complete, and began in front of that as a copying; and what the node has of it
--- behind the log is just what that had then, in the present generation of the checkpoint
+-- behind the log, which is the call's own, is just what that had then, in the present generation of the checkpoint
 pub record WasCopied (log : List Label) (call : CallId) (k r : ℕ) : Type 0 where
   pub before : List Label
   pub behind : List Label
@@ -42,6 +42,7 @@ pub record WasCopied (log : List Label) (call : CallId) (k r : ℕ) : Type 0 whe
   pub node : ℕ
   pub log_is : log ≡ before ++ pull ∷ behind
   pub begun : HasBegun before call ops.Copy None
+  pub own : node_of call.actor ≡ r
   pub pull_is : IsPullOf pull call k node
   pub source : ReplicaState
   pub there : (last before).replicas k node ≡ Some source
