@@ -1,3 +1,5 @@
+pub mod Furnished
 pub mod JournalRows
 pub mod OneMore
+pub mod Rising
 pub mod Travels

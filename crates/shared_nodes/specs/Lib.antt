@@ -4,4 +4,8 @@ pub mod JournalView
 pub mod Journals
 pub mod Plays
 pub mod SeenView
+pub mod TrailView
+pub mod Trails
 pub mod Travelling
+pub mod WorkView
+pub mod Works

@@ -22,6 +22,8 @@ mod replicas;
 #[cfg(test)]
 mod rows;
 #[cfg(test)]
+mod same;
+#[cfg(test)]
 mod scripts;
 #[cfg(test)]
 mod store;
@@ -30,6 +32,10 @@ mod streams;
 #[cfg(test)]
 mod tickets;
 #[cfg(test)]
+mod trails;
+#[cfg(test)]
 mod types;
 #[cfg(test)]
 mod words;
+#[cfg(test)]
+mod works;
