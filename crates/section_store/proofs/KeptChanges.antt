@@ -1,8 +1,8 @@
 -- What is kept in slots, and the sections of it, where one is changed, put in or taken away.
-use Rattle.std.proofs.Common.{◌≡◌, ◌≢◌, ℕ, suc, ◌+◌, ◌-◌, ◌<◌, ◌≤◌, List, [], ◌∷◌, ◌++◌, length, take, drop, set, get_or, sym, ap, subst, ◌∙◌, arith, get_or-set_same, get_or-set_other}
+use Rattle.std.proofs.Common.{◌≡◌, ◌≢◌, ℕ, suc, ◌+◌, ◌-◌, ◌<◌, ◌≤◌, List, [], ◌∷◌, ◌++◌, length, take, drop, set, get_or, sym, ap, subst, refl, ◌∙◌, arith, get_or-set_same, get_or-set_other}
 use Rattle.std.specs.Prelude.{All, insert, remove, sum_by, vec_capacity}
-use Rattle.std.proofs.lemmas.List.{length-set, length-take-le, length-drop, get_or-take, get_or-drop, get_or_append_left, get_or_push, take_all, drop_all, length_push}
-use Rattle.std.proofs.lemmas.List.Edits.{length-insert, length-remove, get_or-insert_at}
+use Rattle.std.proofs.lemmas.List.{length-map, length-set, length-take-le, length-drop, get_or-take, get_or-drop, get_or_append_left, get_or_push, take_all, drop_all, length_push}
+use Rattle.std.proofs.lemmas.List.Edits.{insert_end, length-insert, length-remove, get_or-insert_at}
 use Rattle.std.proofs.lemmas.List.Elements.{All-from_get_or, All-cons}
 use Rattle.ckpt_types.specs.Sections.{Section, memory_used}
 use Rattle.section_store.specs.Kept.{no_head, head_at, section_with, section_at_slot, sections_at, kept_state, AreSlots, AreKept, HasSlots}
@@ -11,7 +11,7 @@ use Rattle.section_store.specs.Places.{changed_at}
 use Rattle.section_store.specs.RegionState.{string_at, with_string, resized}
 use Rattle.section_store.specs.declared.kept.Head.{Head}
 use Rattle.section_store.specs.declared.kept.Kept.TheInside.{Inside}
-use Rattle.section_store.proofs.SlotLemmas.{as_many, within, different, AreSlots-more, AreSlots-moved}
+use Rattle.section_store.proofs.SlotLemmas.{as_many, within, different, AreSlots-none, AreSlots-more, AreSlots-moved}
 use Rattle.section_store.proofs.KeptSections.{HasSlot, length-with_string, string_at-changed, string_at-other, memory-slots, sections_at-changed, sections_at-same, sections_at-insert, sections_at-remove, take-insert, drop-insert, take-insert_behind, drop-insert_behind, take-remove, drop-remove, take-remove_behind}
 
 -- ---- the slots behind the sections
@@ -177,6 +177,39 @@ sections-more heads h strings s order count p is full place =
     let new : section_at_slot heads' strings' count ≡ section_with h s = λ i. section_with (get_or_push heads h no_head count paired i) (get_or_push strings s [] count all i) in
     ap (sections_at heads' strings') (take_all (count + 1) (insert order p count) (omega arith)) ∙ sections_at-insert heads' strings' order p count
     ∙ (λ i. insert (others i) p (new i)) ∙ ap (λ xs. insert (sections_at heads strings xs) p (section_with h s)) (sym (take_all count order full))
+
+-- where each slot has a section, as many heads are there as slots
+pub many_heads : (heads : List Head) (strings : List (List ℕ)) (order : List ℕ) → AreKept heads strings order (length order) → length heads ≡ length order
+many_heads heads strings order is = omega (arith, is.paired, as_many (length strings) order is.slots)
+
+-- and the sections have as many bytes as all strings
+pub memory-all : (heads : List Head) (strings : List (List ℕ)) (order : List ℕ) → AreKept heads strings order (length order) → memory_used (sections_at heads strings order) ≡ sum_by length strings
+memory-all heads strings order is = ap (λ xs. memory_used (sections_at heads strings xs)) (sym (take_all (length order) order (omega arith))) ∙ memory-kept heads strings order (length order) is
+
+-- nothing is kept
+pub AreKept-none : AreKept [] [] [] 0
+AreKept-none = record { paired = refl; slots = AreSlots-none; counted = omega arith; empty = λ k d lt. absurd (omega arith) }
+
+-- a section is put into a slot more, behind all others
+pub AreKept-push : (heads : List Head) (h : Head) (strings : List (List ℕ)) (s : List ℕ) (order : List ℕ) → AreKept heads strings order (length order)
+    → AreKept (heads ++ h ∷ []) (strings ++ s ∷ []) (order ++ length order ∷ []) (length (order ++ length order ∷ []))
+AreKept-push heads h strings s order is =
+    let n = length order in
+    subst (AreKept (heads ++ h ∷ []) (strings ++ s ∷ []) (order ++ n ∷ [])) (sym (length_push order n))
+    (subst (λ xs. AreKept (heads ++ h ∷ []) (strings ++ s ∷ []) xs (n + 1)) (insert_end order n) (AreKept-more heads h strings s order n n is (omega arith) (omega arith)))
+
+pub sections-push : (heads : List Head) (h : Head) (strings : List (List ℕ)) (s : List ℕ) (order : List ℕ) → AreKept heads strings order (length order)
+    → sections_at (heads ++ h ∷ []) (strings ++ s ∷ []) (order ++ length order ∷ []) ≡ sections_at heads strings order ++ section_with h s ∷ []
+sections-push heads h strings s order is =
+    let n = length order in
+    let before = sections_at heads strings order in
+    let front : take n order ≡ order = take_all n order (omega arith) in
+    let all : take (n + 1) (order ++ n ∷ []) ≡ order ++ n ∷ [] = take_all (n + 1) (order ++ n ∷ []) (omega (arith, length_push order n)) in
+    let many : n ≡ length before = sym (length-map order (section_at_slot heads strings)) in
+    ap (sections_at (heads ++ h ∷ []) (strings ++ s ∷ [])) (sym all ∙ ap (take (n + 1)) (sym (insert_end order n)))
+    ∙ sections-more heads h strings s order n n is (omega arith) (omega arith)
+    ∙ ap (λ xs. insert (sections_at heads strings xs) n (section_with h s)) front
+    ∙ ap (λ m. insert before m (section_with h s)) many ∙ insert_end before (section_with h s)
 
 -- ---- a section is taken away
 

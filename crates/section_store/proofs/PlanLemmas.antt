@@ -9,14 +9,15 @@ use Rattle.ckpt_types.specs.declared.attributes.CreationAttributes.{CreationAttr
 use Rattle.ckpt_types.specs.declared.update.IoElement.{IoElement}
 use Rattle.ckpt_types.specs.Attributes.{is_malformed}
 use Rattle.ckpt_types.proofs.AttributeLaws.{IsWellFormed-from_check}
-use Rattle.std.proofs.Math.Nat.{mul-le-mul_right}
+use Rattle.std.proofs.Math.Nat.{mul-le-mul_right, max-eq_left}
+use Rattle.std.proofs.lemmas.List.Elements.{All-push}
 use Rattle.ckpt_types.specs.Sections.{Section, Rises, Fits, IsBelowAll, id_cmp, is_named, is_present, present, place_of, section_at, size_of, earliest_expiration}
 use Rattle.ckpt_types.specs.Updates.{written, element_written, elements_written}
 use Rattle.ckpt_types.proofs.Accepted.{element_written-Ok}
 use Rattle.ckpt_types.proofs.Fitting.{length-written}
 use Rattle.ckpt_types.proofs.Presence.{is_named_decides, is_named-by_order, IsBelowAll-earlier, IsBelowAll-present, section_at-present, where_present-Some, section_at-named, section_at-place_of, section_at-no_place, place_of-lt}
-use Rattle.section_store.specs.Places.{count_below, changed_at, place_present}
-use Rattle.section_store.specs.Planned.{planned_at, planned_elements, left_by, size_found, size_planned, next_planned}
+use Rattle.section_store.specs.Places.{count_below, changed_at, place_among_present}
+use Rattle.section_store.specs.Planned.{planned_at, planned_elements, left_by, size_found, size_planned, next_planned, KeepSizes}
 use Rattle.section_store.specs.declared.plan.Planned.{Planned}
 use Rattle.section_store.proofs.PlaceLemmas.{slice_get-within, suc_place}
 use Rattle.section_store.proofs.Placed.{Ok_from_IsOk, element_written-IsOk, element_written-any_place, element_written-changed_at}
@@ -58,10 +59,10 @@ beside true id x all before s other is rest = let found : section_at id all ≡ 
 beside false id x all before s other is rest = rest is
 
 -- among those present a section stands behind those that stand before it and are present
-pub place_of-present : (t : ℤ) (id : List ℕ) (sections : List Section) (i : ℕ) (s : Section) → Rises sections → place_of id sections ≡ Some i → section_at id (present t sections) ≡ Some s → place_of id (present t sections) ≡ Some (place_present t i sections)
+pub place_of-present : (t : ℤ) (id : List ℕ) (sections : List Section) (i : ℕ) (s : Section) → Rises sections → place_of id sections ≡ Some i → section_at id (present t sections) ≡ Some s → place_of id (present t sections) ≡ Some (place_among_present t i sections)
 place_of-present t id [] i s rises at is = absurd (none-some i at)
 place_of-present t id (x ∷ sections) i s rises at is =
-    elim (is_named id x) as (λ b. is_named id x ≡ b → cond b (Some 0) (option_map suc (place_of id sections)) ≡ Some i → place_of id (present t (x ∷ sections)) ≡ Some (place_present t i (x ∷ sections))) [
+    elim (is_named id x) as (λ b. is_named id x ≡ b → cond b (Some 0) (option_map suc (place_of id sections)) ≡ Some i → place_of id (present t (x ∷ sections)) ≡ Some (place_among_present t i (x ∷ sections))) [
       | true ↦ λ named first.
           let here : is_present t x ≡ true = here_present t id x sections s rises is named in
           rw (← same_Some 0 i first, here, named) refl
@@ -76,7 +77,7 @@ count_below-IsBelowAll id [] below = refl
 count_below-IsBelowAll id (x ∷ sections) below = rw below.0 refl
 
 -- those present that stand before an identifier are as many as are present of those that stand before it
-pub count_below-present : (t : ℤ) (id : List ℕ) (sections : List Section) → Rises sections → count_below id (present t sections) ≡ place_present t (count_below id sections) sections
+pub count_below-present : (t : ℤ) (id : List ℕ) (sections : List Section) → Rises sections → count_below id (present t sections) ≡ place_among_present t (count_below id sections) sections
 count_below-present t id [] rises = refl
 count_below-present t id (x ∷ sections) rises =
     elim (id_cmp id x.id) as (λ o. id_cmp id x.id ≡ o → count_below id (present t (x ∷ sections)) ≡ length (present t (take (match_ordering o 0 0 (suc (count_below id sections))) (x ∷ sections)))) [
@@ -113,14 +114,14 @@ slice_get-changed_at-other change (suc i) zero (x ∷ sections) other = refl
 slice_get-changed_at-other change (suc i) (suc j) (x ∷ sections) other = slice_get-changed_at-other change i j sections (λ same. other (ap suc same))
 
 -- before the earliest expiration all keep their places
-pub place_present-all : (t : ℤ) (sections : List Section) (i : ℕ) → t <ℤ earliest_expiration sections → i ≤ length sections → i ≡ place_present t i sections
-place_present-all t [] zero before within = refl
-place_present-all t [] (suc i) before within = absurd (omega (arith, within))
-place_present-all t (s ∷ sections) zero before within = refl
-place_present-all t (s ∷ sections) (suc i) before within =
+pub place_among_present-all : (t : ℤ) (sections : List Section) (i : ℕ) → t <ℤ earliest_expiration sections → i ≤ length sections → i ≡ place_among_present t i sections
+place_among_present-all t [] zero before within = refl
+place_among_present-all t [] (suc i) before within = absurd (omega (arith, within))
+place_among_present-all t (s ∷ sections) zero before within = refl
+place_among_present-all t (s ∷ sections) (suc i) before within =
     let here : int_lt t s.expiration ≡ true = grind (arith, ints) in
     let rest : t <ℤ earliest_expiration sections = omega (arith, ints, clamps) in
-    rw here (ap suc (place_present-all t sections i rest (omega arith)))
+    rw here (ap suc (place_among_present-all t sections i rest (omega arith)))
 
 -- ---- one section
 
@@ -212,10 +213,10 @@ GoesOn-small a t e rest start plan whole g = (IsNext-first a t g.index e rest g.
 
 -- what is next is planned as the element that follows
 entry_next : (t : ℤ) (e : IoElement) (sections left : List Section) (plan : List Planned) (i : ℕ) (was s : Section) → Rises sections → place_of e.id sections ≡ Some i → section_at e.id (present t sections) ≡ Some s
-    → place_of e.id left ≡ Some (place_present t i sections) → section_at e.id left ≡ Some was → size_of was ≡ size_planned (place_present t i sections) (size_of s) plan
-    → planned_at e.id (changed_at (λ s. record s { bytes = written s.bytes e.offset e.bytes; last_update = t }) (place_present t i sections) left) ≡ next_planned t e i sections plan
+    → place_of e.id left ≡ Some (place_among_present t i sections) → section_at e.id left ≡ Some was → size_of was ≡ size_planned (place_among_present t i sections) (size_of s) plan
+    → planned_at e.id (changed_at (λ s. record s { bytes = written s.bytes e.offset e.bytes; last_update = t }) (place_among_present t i sections) left) ≡ next_planned t e i sections plan
 entry_next t e sections left plan i was s rises place found at there size =
-    let k = place_present t i sections in
+    let k = place_among_present t i sections in
     let change : Section → Section = λ s. record s { bytes = written s.bytes e.offset e.bytes; last_update = t } in
     let sought : slice_get sections i ≡ Some s = sym (section_at-place_of e.id sections i place) ∙ (section_at-of_present t e.id sections s rises found).0 in
     let before : size_of was ≡ size_planned k (size_found (slice_get sections i)) plan = size ∙ ap (λ o. size_planned k (size_found o) plan) (sym sought) in
@@ -254,7 +255,7 @@ GoesOn-next a t e rest sections plan whole i rises place g =
     let start = present t sections in
     let next = IsNext-first a t g.index e rest g.left g.accepted in
     let (j, s, at_j, found) = found_next a t e rest start plan whole g in
-    let k = place_present t i sections in
+    let k = place_among_present t i sections in
     let at : place_of e.id start ≡ Some k = place_of-present t e.id sections i s rises place found in
     let at_left : place_of e.id g.left ≡ Some k = g.places e.id ∙ at in
     let change : Section → Section = λ s. record s { bytes = written s.bytes e.offset e.bytes; last_update = t } in
@@ -275,6 +276,58 @@ GoesOn-next a t e rest sections plan whole i rises place g =
       places = λ x. place_of-changed_at change x k g.left (λ s. refl) ∙ g.places x;
       sizes = sizes_next change e.id k start g.left plan entry (λ s. refl) g.places g.sizes at entry_is;
     }
+
+-- a section that is next is the same among all and among those present
+pub GoesOn-here : (a : CreationAttributes) (t : ℤ) (e : IoElement) (rest : List IoElement) (sections : List Section) (plan whole : List Planned) (i : ℕ) → Rises sections → place_of e.id sections ≡ Some i
+    → GoesOn a t (e ∷ rest) (present t sections) plan whole → slice_get (present t sections) (place_among_present t i sections) ≡ slice_get sections i
+GoesOn-here a t e rest sections plan whole i rises place g =
+    let start = present t sections in
+    let (j, s, at_j, found) = found_next a t e rest start plan whole g in
+    let k = place_among_present t i sections in
+    let at : place_of e.id start ≡ Some k = place_of-present t e.id sections i s rises place found in
+    sym (section_at-place_of e.id start k at) ∙ found ∙ sym (section_at-of_present t e.id sections s rises found).0 ∙ section_at-place_of e.id sections i place
+
+-- ---- sections that keep their sizes
+
+-- nothing is planned
+pub KeepSizes-none : (sections : List Section) → KeepSizes sections []
+KeepSizes-none sections = λ k d lt. absurd (omega arith)
+
+-- where all keep their sizes, the size that is planned last for a section is its own
+pub size_planned-kept : (sections : List Section) (place : ℕ) (plan : List Planned) → KeepSizes sections plan → size_planned place (size_found (slice_get sections place)) plan ≡ size_found (slice_get sections place)
+size_planned-kept sections place [] kept = refl
+size_planned-kept sections place (x ∷ plan) kept =
+    let size = size_found (slice_get sections place) in
+    let here : x.size ≡ size_found (slice_get sections x.place) = kept 0 x (omega arith) in
+    let rest : KeepSizes sections plan = λ k d lt. kept (suc k) d (omega arith) in
+    let same : (if x.place == place then x.size else size) ≡ size = elim (cases_eq x.place place) [
+      | inl e ↦ ap (λ b. if b then x.size else size) (eq-eqb x.place place e) ∙ here ∙ ap (λ i. size_found (slice_get sections i)) e
+      | inr other ↦ ap (λ b. if b then x.size else size) (ne_eqb x.place place other)
+    ] in
+    ap (λ n. size_planned place n plan) same ∙ size_planned-kept sections place plan rest
+
+-- so is that of the next element's section
+pub size_planned-next : (t : ℤ) (sections : List Section) (i : ℕ) (plan : List Planned) → slice_get (present t sections) (place_among_present t i sections) ≡ slice_get sections i → KeepSizes (present t sections) plan
+    → size_planned (place_among_present t i sections) (size_found (slice_get sections i)) plan ≡ size_found (slice_get sections i)
+size_planned-next t sections i plan here kept =
+    let k = place_among_present t i sections in
+    ap (λ o. size_planned k (size_found o) plan) (sym here) ∙ size_planned-kept (present t sections) k plan kept ∙ ap size_found here
+
+-- and all keep their sizes still, where the next element ends in its section
+pub KeepSizes-next : (t : ℤ) (e : IoElement) (sections : List Section) (i : ℕ) (plan : List Planned) → slice_get (present t sections) (place_among_present t i sections) ≡ slice_get sections i → KeepSizes (present t sections) plan
+    → e.offset + length e.bytes ≤ size_planned (place_among_present t i sections) (size_found (slice_get sections i)) plan → KeepSizes (present t sections) (plan ++ next_planned t e i sections plan ∷ [])
+KeepSizes-next t e sections i plan here kept within =
+    let start = present t sections in
+    All-push (λ entry. entry.size ≡ size_found (slice_get start entry.place)) plan (next_planned t e i sections plan) kept
+    (max-eq_left within ∙ size_planned-next t sections i plan here kept ∙ ap size_found (sym here))
+
+-- ---- few bytes and few sections
+
+-- a store has few sections
+pub sections-few : (a : CreationAttributes) (sections : List Section) → is_malformed a ≡ false → Fits a sections → length sections < 2 ^ 32
+sections-few a sections checked fits =
+    let declared = IsWellFormed-from_check a checked in
+    omega (arith, fits.few, declared.few_sections)
 
 -- a section has few bytes
 pub section_size-small : (a : CreationAttributes) → is_malformed a ≡ false → a.max_section_size < 2 ^ 63

@@ -13,13 +13,13 @@ use Rattle.ckpt_types.specs.Updates.{Refusal, new_id, first_place, written, elem
 use Rattle.ckpt_types.proofs.Accepted.{accepted_same, element_written-Ok, overwritten-Ok, expiration_set-Ok, section_deleted-Ok}
 use Rattle.ckpt_types.proofs.Fitting.{Fits-present}
 use Rattle.ckpt_types.proofs.Presence.{Rises-present, place_of-lt, section_at-place_of, section_at-slice_get, place_of-slice_get}
-use Rattle.section_store.specs.Places.{count_below, changed_at, place_present}
+use Rattle.section_store.specs.Places.{count_below, changed_at, place_among_present}
 use Rattle.section_store.specs.Planned.{planned, planned_at, planned_elements, left_by, size_found, next_planned}
 use Rattle.section_store.specs.StoreState.{StoreState, new_section}
 use Rattle.section_store.specs.declared.plan.Planned.{Planned}
 use Rattle.section_store.proofs.PlaceLemmas.{count_below-le-length}
 use Rattle.section_store.proofs.Placed.{Leaves, Ok_from_IsOk, element_written-IsOk, element_written-any_place, element_written-changed_at, overwritten-changed_at, expiration_set-changed_at, section_deleted-remove, section_created-insert}
-use Rattle.section_store.proofs.PlanLemmas.{is_some-place_of, section_at-of_present, place_of-present, place_of-Some, count_below-present, place_of-changed_at, planned_at-changed_at, GoesOn-start, GoesOn-next, GoesOn-end, GoesOn-there, GoesOn-small}
+use Rattle.section_store.proofs.PlanLemmas.{is_some-place_of, section_at-of_present, place_of-present, place_of-Some, count_below-present, place_of-changed_at, planned_at-changed_at, GoesOn-start, GoesOn-next, GoesOn-end, GoesOn-there, GoesOn-small, GoesOn-here}
 
 -- ---- one element
 
@@ -38,6 +38,7 @@ one_of (x ∷ y ∷ rest) e some few is = absurd (omega (arith, few))
 pub record PlansOne (a : CreationAttributes) (t : ℤ) (e : IoElement) (elements : List IoElement) (sections : List Section) (first : ℕ) : Type 0 where
   pub place : place_of e.id sections ≡ Some first
   pub small : e.offset + length e.bytes ≤ a.max_section_size
+  pub here : slice_get (present t sections) (place_among_present t first sections) ≡ slice_get sections first
   pub plan : next_planned t e first sections [] ∷ [] ≡ planned_elements a t elements (present t sections)
 
 plans_one : (a : CreationAttributes) (t : ℤ) (e : IoElement) (sections : List Section) (first : ℕ) → Rises sections → Fits a sections → first ≡ first_place (e ∷ []) sections
@@ -50,6 +51,7 @@ plans_one a t e sections first rises fits is accepted =
     record {
       place = place;
       small = GoesOn-small a t e [] start [] whole begins;
+      here = GoesOn-here a t e [] sections [] whole first rises place begins;
       plan = GoesOn-end a t start (next_planned t e first sections [] ∷ []) whole (GoesOn-next a t e [] sections [] whole first rises place begins);
     }
 
@@ -83,29 +85,29 @@ expiration_set-there a id expiration t sections rises accepted =
 
 -- their plans, where the section stands at a place among all
 pub planned-overwritten : (a : CreationAttributes) (id bytes : List ℕ) (t : ℤ) (sections : List Section) (i : ℕ) → Rises sections → Fits a sections → place_of id sections ≡ Some i → IsOk (overwritten a id bytes t (present t sections))
-    → record { place = place_present t i sections; size = length bytes } ∷ [] ≡ planned a (updates.Overwrite id bytes) t sections
+    → record { place = place_among_present t i sections; size = length bytes } ∷ [] ≡ planned a (updates.Overwrite id bytes) t sections
 planned-overwritten a id bytes t sections i rises fits place accepted =
     let start = present t sections in
     let (after, is) = Ok_from_IsOk (overwritten a id bytes t start) accepted in
     let done = overwritten-Ok a id bytes t start after is in
     let at = place_of-present t id sections i done.was rises place done.there in
-    let leaves = overwritten-changed_at a id bytes t start (place_present t i sections) (Rises-present t sections rises) (Fits-present a t sections fits) at accepted in
-    sym (ap (λ r. planned_at id (left_by sections r) ∷ []) leaves.is ∙ ap (λ p. p ∷ []) (planned_at-changed_at (λ s. record s { bytes = bytes; state = Valid; last_update = t }) id (place_present t i sections) start done.was (λ s. refl) at done.there))
+    let leaves = overwritten-changed_at a id bytes t start (place_among_present t i sections) (Rises-present t sections rises) (Fits-present a t sections fits) at accepted in
+    sym (ap (λ r. planned_at id (left_by sections r) ∷ []) leaves.is ∙ ap (λ p. p ∷ []) (planned_at-changed_at (λ s. record s { bytes = bytes; state = Valid; last_update = t }) id (place_among_present t i sections) start done.was (λ s. refl) at done.there))
 
 pub planned-expiration_set : (a : CreationAttributes) (id : List ℕ) (expiration t : ℤ) (sections : List Section) (i : ℕ) → Rises sections → Fits a sections → place_of id sections ≡ Some i → IsOk (expiration_set a id expiration t (present t sections))
-    → record { place = place_present t i sections; size = size_found (slice_get sections i) } ∷ [] ≡ planned a (updates.SetExpiration id expiration) t sections
+    → record { place = place_among_present t i sections; size = size_found (slice_get sections i) } ∷ [] ≡ planned a (updates.SetExpiration id expiration) t sections
 planned-expiration_set a id expiration t sections i rises fits place accepted =
     let start = present t sections in
     let (after, is) = Ok_from_IsOk (expiration_set a id expiration t start) accepted in
     let done = expiration_set-Ok a id expiration t start after is in
     let at = place_of-present t id sections i done.was rises place done.there in
-    let leaves = expiration_set-changed_at a id expiration t start (place_present t i sections) (Rises-present t sections rises) (Fits-present a t sections fits) at accepted in
+    let leaves = expiration_set-changed_at a id expiration t start (place_among_present t i sections) (Rises-present t sections rises) (Fits-present a t sections fits) at accepted in
     let there : slice_get sections i ≡ Some done.was = sym (section_at-place_of id sections i place) ∙ (section_at-of_present t id sections done.was rises done.there).0 in
-    ap (λ o. record { place = place_present t i sections; size = size_found o } ∷ []) there
-    ∙ sym (ap (λ r. planned_at id (left_by sections r) ∷ []) leaves.is ∙ ap (λ p. p ∷ []) (planned_at-changed_at (λ s. record s { expiration = expiration }) id (place_present t i sections) start done.was (λ s. refl) at done.there))
+    ap (λ o. record { place = place_among_present t i sections; size = size_found o } ∷ []) there
+    ∙ sym (ap (λ r. planned_at id (left_by sections r) ∷ []) leaves.is ∙ ap (λ p. p ∷ []) (planned_at-changed_at (λ s. record s { expiration = expiration }) id (place_among_present t i sections) start done.was (λ s. refl) at done.there))
 
 pub planned-section_deleted : (a : CreationAttributes) (id : List ℕ) (t : ℤ) (sections : List Section) (i : ℕ) → Rises sections → place_of id sections ≡ Some i → IsOk (section_deleted a id (present t sections))
-    → record { place = place_present t i sections; size = 0 } ∷ [] ≡ planned a (updates.Delete id) t sections
+    → record { place = place_among_present t i sections; size = 0 } ∷ [] ≡ planned a (updates.Delete id) t sections
 planned-section_deleted a id t sections i rises place accepted =
     let (after, is) = Ok_from_IsOk (section_deleted a id (present t sections)) accepted in
     let done = section_deleted-Ok a id (present t sections) after is in
@@ -128,7 +130,7 @@ planned_at-insert section sections i within rises =
     λ k. record { place = unwrap_or (at k) 0; size = size_found (found k) }
 
 pub planned-section_created : (a : CreationAttributes) (new : NewId) (expiration : ℤ) (bytes : List ℕ) (t : ℤ) (sections : List Section) → Rises sections → Fits a sections → IsOk (section_created a new expiration bytes t (present t sections))
-    → record { place = place_present t (count_below (new_id new (present t sections)) sections) sections; size = length bytes } ∷ [] ≡ planned a (updates.Create new expiration bytes) t sections
+    → record { place = place_among_present t (count_below (new_id new (present t sections)) sections) sections; size = length bytes } ∷ [] ≡ planned a (updates.Create new expiration bytes) t sections
 planned-section_created a new expiration bytes t sections rises fits accepted =
     let start = present t sections in
     let id = new_id new start in

@@ -9,8 +9,8 @@ count_below id [] = 0
 count_below id (s ∷ sections) = match_ordering (id_cmp id s.id) 0 0 (suc (count_below id sections))
 
 -- how many of the sections before a place are present: where the next one stands among those that are present
-abbrev pub place_present : ℤ → ℕ → List Section → ℕ
-place_present t place sections = length (present t (take place sections))
+abbrev pub place_among_present : ℤ → ℕ → List Section → ℕ
+place_among_present t place sections = length (present t (take place sections))
 
 -- the sections with the one at a place changed
 abbrev pub changed_at : (Section → Section) → ℕ → List Section → List Section

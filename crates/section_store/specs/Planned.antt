@@ -1,5 +1,5 @@
 -- Where an update goes: for each section that it changes, the place among those that are present, and the size behind the change.
-use Rattle.std.specs.Prelude.{ℕ, ◌+◌, max, List, [], ◌∷◌, length, slice_get, Option, Some, None, unwrap_or, Result, Ok, Err, Bool, true, nat_le, ◌==◌, if◌then◌else◌, ℤ}
+use Rattle.std.specs.Prelude.{◌≡◌, ℕ, ◌+◌, max, All, List, [], ◌∷◌, length, slice_get, Option, Some, None, unwrap_or, Result, Ok, Err, Bool, true, nat_le, ◌==◌, if◌then◌else◌, ℤ}
 use Rattle.ckpt_types.specs.declared.attributes.CreationAttributes.{CreationAttributes}
 use Rattle.ckpt_types.specs.declared.update.IoElement.{IoElement}
 use Rattle.ckpt_types.specs.declared.update.Update.{Update}
@@ -7,7 +7,7 @@ use Rattle.ckpt_types.specs.declared.update.Update.TheVariants as updates
 use Rattle.ckpt_types.specs.Limits.{vector_max}
 use Rattle.ckpt_types.specs.Sections.{Section, section_at, place_of, present, size_of}
 use Rattle.ckpt_types.specs.Updates.{Refusal, new_id, element_written, outcome}
-use Rattle.section_store.specs.Places.{place_present}
+use Rattle.section_store.specs.Places.{place_among_present}
 use Rattle.section_store.specs.declared.plan.Planned.{Planned}
 
 -- the sections that an update leaves, or those before it where it is refused
@@ -54,5 +54,9 @@ size_planned place size (entry ∷ plan) = size_planned place (if entry.place ==
 -- the entry of one element more, whose section stands at a place among all: it has as many bytes as before, or ends where the element ends
 abbrev pub next_planned : ℤ → IoElement → ℕ → List Section → List Planned → Planned
 next_planned t e place sections plan =
-    let there = place_present t place sections in
+    let there = place_among_present t place sections in
     record { place = there; size = max (size_planned there (size_found (slice_get sections place)) plan) (e.offset + length e.bytes) }
+
+-- each section that is planned keeps its size: the entry has the one of the section at its place
+abbrev pub KeepSizes : List Section → List Planned → Type 0
+KeepSizes sections plan = All (λ entry. entry.size ≡ size_found (slice_get sections entry.place)) plan

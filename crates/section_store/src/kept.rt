@@ -1,5 +1,5 @@
 //! The sections in the order of their identifiers: their bytes in one buffer, and what is kept beside them in one table.
-ghost use Rattle.std.specs.Prelude.{◌≡◌, ◌+◌, ◌≤◌, ◌<◌, ◌^◌, [], length, take, sum_by, insert, remove, slice_get, slice_index_or, vec_capacity, Some, IfOk};
+ghost use Rattle.std.specs.Prelude.{◌≡◌, ◌+◌, ◌-◌, ◌≤◌, ◌<◌, ◌^◌, ◌++◌, ◌∷◌, [], length, take, sum_by, insert, remove, slice_get, slice_index_or, vec_capacity, Some, IfOk};
 ghost use Rattle.ckpt_types.specs.Sections.{Rises, present, is_present, size_of, memory_used, section_of as lent_section};
 ghost use Rattle.ckpt_types.specs.Updates.{written};
 ghost use Rattle.ckpt_types.specs.declared.sections.SectionState.TheVariants.{Valid, Corrupted};
@@ -232,23 +232,62 @@ impl Kept {
         ensures kept { self.new ≡ record self.old { sections = S.sections other.now } }
         ensures rises { Rises (S.sections other.now) }
     {
-        self.clear();
-        let count = other.len();
-        for place in 0..count {
-            let section = other.at(place);
-            self.put_in(place, &section);
-        }
+        self.count = copy_in(&mut self.region, &mut self.heads, &mut self.order, other);
     }
+}
 
-    /// Takes all sections away.
-    fn clear(&mut self)
-        ensures { self.new ≡ record self.old { sections = [] } }
-    {
-        self.region.clear();
-        self.heads.clear();
-        self.order.clear();
-        self.count = 0;
+/// Puts copies of all sections in the place of those that were kept, each into the slot of its place, and says how many
+/// they are. It takes no memory.
+fn copy_in<S: Sections>(
+    region: &mut Region,
+    heads: &mut Vec<Head>,
+    order: &mut Vec<u32>,
+    from: &S,
+) -> usize
+    requires places { length (S.sections from.now) ≤ region.old.spare + length region.old.strings }
+    requires fits { memory_used (S.sections from.now) ≤ region.old.size }
+    requires small { region.old.spare + length region.old.strings < 2 ^ 32 }
+    requires heads_room { region.old.spare + length region.old.strings ≤ vec_capacity heads.old }
+    requires order_room { region.old.spare + length region.old.strings ≤ vec_capacity order.old }
+    ensures sections { sections_at heads.new.items region.new.strings (take result order.new.items) ≡ S.sections from.now }
+    ensures rises { Rises (S.sections from.now) }
+    ensures kept { AreKept heads.new.items region.new.strings order.new.items result }
+    ensures fits { sum_by length region.new.strings ≤ region.new.size }
+    ensures size { region.new.size ≡ region.old.size }
+    ensures places { region.new.spare + length region.new.strings ≡ region.old.spare + length region.old.strings }
+    ensures heads_capacity { vec_capacity heads.new ≡ vec_capacity heads.old }
+    ensures order_capacity { vec_capacity order.new ≡ vec_capacity order.old }
+{
+    region.clear();
+    heads.clear();
+    order.clear();
+    let count = from.len();
+    for place in 0..count {
+        let section = from.at(place);
+        add(region, heads, order, &section);
     }
+    count
+}
+
+/// Puts a copy of a section behind the others, into a slot more. It takes no memory.
+#[inline(always)]
+fn add(region: &mut Region, heads: &mut Vec<Head>, order: &mut Vec<u32>, section: &SectionRef<'_>)
+    requires kept { AreKept heads.old.items region.old.strings order.old.items (length order.old.items) }
+    requires spare { 0 < region.old.spare }
+    requires fits { sum_by length region.old.strings + length section.now.bytes.now ≤ region.old.size }
+    requires small { length order.old.items < 2 ^ 32 }
+    requires heads_room { length order.old.items < vec_capacity heads.old }
+    requires order_room { length order.old.items < vec_capacity order.old }
+    ensures sections { sections_at heads.new.items region.new.strings order.new.items ≡ sections_at heads.old.items region.old.strings order.old.items ++ lent_section section.now ∷ [] }
+    ensures kept { AreKept heads.new.items region.new.strings order.new.items (length order.new.items) }
+    ensures len { length order.new.items ≡ length order.old.items + 1 }
+    ensures region { region.new ≡ record region.old { strings = region.old.strings ++ section.now.bytes.now ∷ []; spare = region.old.spare - 1 } }
+    ensures heads_capacity { vec_capacity heads.new ≡ vec_capacity heads.old }
+    ensures order_capacity { vec_capacity order.new ≡ vec_capacity order.old }
+{
+    order.push_reserved(heads.len() as u32);
+    region.push(section.bytes);
+    heads.push_reserved(head_of(section));
 }
 
 /// What is kept of a section beside its bytes.
@@ -256,7 +295,7 @@ fn head_of(section: &SectionRef<'_>) -> Head
     ensures { result ≡ record { id = section.now.id.now; expiration = section.now.expiration; state = section.now.state; last_update = section.now.last_update } }
 {
     Head {
-        id: Keyed::new(*section.id),
+        id: Keyed::of(section.id),
         expiration: section.expiration,
         state: section.state,
         last_update: section.last_update,

@@ -33,11 +33,11 @@ impl Model for Keyed {
 
 impl Keyed {
     /// The identifier, with its key.
-    pub fn new(id: SectionId) -> Keyed
-        ensures { result ≡ id }
+    pub fn of(id: &SectionId) -> Keyed
+        ensures { result ≡ id.now }
     {
         let key = key_of(id.as_slice());
-        Keyed { id, key }
+        Keyed { id: *id, key }
     }
 
     /// It becomes another identifier, which is copied to where it stays.
@@ -60,6 +60,14 @@ impl Keyed {
         ensures { result ≡ key_of self.now }
     {
         self.key
+    }
+
+    /// Whether it is this identifier.
+    #[inline(always)]
+    pub fn is_id(&self, id: &[u8]) -> bool
+        ensures { result ≡ pointwise nat_eq self.now id.now }
+    {
+        self.id.as_slice() == id
     }
 
     /// Whether it is the identifier that the service makes of this number.

@@ -28,6 +28,20 @@ pub(crate) fn find(kept: &Kept, id: &[u8]) -> Option<usize>
     search(kept, id).ok()
 }
 
+/// The place of the section of that identifier. It is looked for at `near` first.
+#[inline(always)]
+pub(crate) fn find_near(kept: &Kept, id: &[u8], near: usize) -> Option<usize>
+    requires { Rises kept.now.sections }
+    ensures place { result ≡ place_of id.now kept.now.sections }
+    ensures within { IfSome result (λ place. place < length kept.now.sections) }
+{
+    if near < kept.len() && kept.id(near).is_id(id) {
+        Some(near)
+    } else {
+        find(kept, id)
+    }
+}
+
 /// The place of the section of that identifier, or else where it would stand.
 #[inline(always)]
 fn search(kept: &Kept, id: &[u8]) -> Result<usize, usize>

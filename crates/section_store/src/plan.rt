@@ -1,5 +1,5 @@
 //! Where a staged update goes in a store, so that it is made without a look-up.
-ghost use Rattle.std.specs.Prelude.{◌≡◌, ◌++◌, ◌∷◌, [], ◌<◌, length, IfOk, slice_get, Some};
+ghost use Rattle.std.specs.Prelude.{◌≡◌, ◌++◌, ◌∷◌, [], ◌<◌, false, length, IfOk, slice_get, Some};
 ghost use Rattle.section_store.specs.Planned.{is_short, size_planned};
 
 use ckpt_types::{Update, VECTOR_MAX};
@@ -72,8 +72,22 @@ impl Plan {
         self.entries[place]
     }
 
+    /// The size that is planned last for the section at a place, or else this one, which it is where no section has grown.
+    #[inline(always)]
+    pub(crate) fn size_before(&self, place: usize, size: usize, grown: bool) -> usize
+        requires { grown ≡ false → size_planned place size self.now ≡ size }
+        ensures { result ≡ size_planned place size self.now }
+    {
+        if grown {
+            self.size_of(place, size)
+        } else {
+            size
+        }
+    }
+
     /// The size that is planned last for the section at a place, or else this one.
-    pub(crate) fn size_of(&self, place: usize, size: usize) -> usize
+    #[inline(never)]
+    fn size_of(&self, place: usize, size: usize) -> usize
         ensures { result ≡ size_planned place size self.now }
     {
         let mut last = size;

@@ -1,13 +1,13 @@
 //! Updates that are planned first, and made then without a look-up.
-ghost use Rattle.std.specs.Prelude.{◌≡◌, ◌+◌, ◌≤◌, ◌<◌, ◌^◌, ◌++◌, ◌∷◌, [], true, false, is_some, Some, Ok, IsOk, length};
+ghost use Rattle.std.specs.Prelude.{◌≡◌, ◌+◌, ◌≤◌, ◌<◌, ◌^◌, ◌++◌, ◌∷◌, [], true, false, is_some, slice_get, Some, Ok, IsOk, length};
 ghost use Rattle.ckpt_types.specs.Attributes.{is_malformed};
 ghost use Rattle.ckpt_types.specs.Limits.{vector_max};
 ghost use Rattle.ckpt_types.specs.Sections.{Rises, Fits, place_of, present};
 ghost use Rattle.ckpt_types.specs.Updates.{outcome, elements_written, first_place, new_id};
-ghost use Rattle.section_store.specs.Places.{count_below, place_present};
-ghost use Rattle.section_store.specs.Planned.{is_short, planned, planned_elements, next_planned};
+ghost use Rattle.section_store.specs.Places.{count_below, place_among_present};
+ghost use Rattle.section_store.specs.Planned.{is_short, planned, planned_elements, next_planned, KeepSizes};
 
-use crate::order::{find, place_for};
+use crate::order::{find, find_near, place_for};
 use crate::plan::{Plan, Planned};
 use crate::store::Store;
 use ckpt_types::{IoElement, Moment, NewId, Sections, Update};
@@ -109,7 +109,7 @@ impl Store {
         self.law();
         plan.clear();
         if let [element] = elements {
-            self.plan_element(element, first, now, plan);
+            self.plan_element(element, first, false, now, plan);
         } else {
             self.plan_several(elements, now, plan);
         }
@@ -123,27 +123,43 @@ impl Store {
         ensures { plan.new ≡ planned_elements self.now.attributes now elements.now (present now self.now.sections) }
     {
         self.law();
+        let mut near = 0;
+        let mut grown = false;
         for element in elements {
-            let place = self.place_of(element.id.as_slice());
-            self.plan_element(element, place, now, plan);
+            let place = self.place_near(element.id.as_slice(), near);
+            grown = self.plan_element(element, place, grown, now, plan);
+            near = place + 1;
         }
     }
 
-    /// Plans one element more, whose section stands at that place.
+    /// Plans one element more, whose section stands at that place, and says whether a section has grown by now: then the
+    /// size of one may be that of an earlier element.
     #[inline(always)]
-    fn plan_element(&self, element: &IoElement, place: usize, now: Moment, plan: &mut Plan)
+    fn plan_element(
+        &self,
+        element: &IoElement,
+        place: usize,
+        grown: bool,
+        now: Moment,
+        plan: &mut Plan,
+    ) -> bool
         requires there { place < length self.now.sections }
+        requires here { slice_get (present now self.now.sections) (place_among_present now place self.now.sections) ≡ slice_get self.now.sections place }
         requires end { element.now.offset + length element.now.bytes < 2 ^ 64 }
         requires room { length plan.old < vector_max }
-        ensures { plan.new ≡ plan.old ++ next_planned now element.now place self.now.sections plan.old ∷ [] }
+        requires before { grown ≡ false → KeepSizes (present now self.now.sections) plan.old }
+        ensures plan { plan.new ≡ plan.old ++ next_planned now element.now place self.now.sections plan.old ∷ [] }
+        ensures behind { result ≡ false → KeepSizes (present now self.now.sections) plan.new }
     {
         let end = element.offset as usize + element.bytes.as_slice().len();
         let entry = self.planned(place, self.kept.size(place), now);
-        let size = plan.size_of(entry.place, entry.size).max(end);
+        let before = plan.size_before(entry.place, entry.size, grown);
+        let size = before.max(end);
         plan.push(Planned {
             place: entry.place,
             size,
         });
+        grown || before < end
     }
 
     /// Nothing is done: the sections rise and keep to what was declared.
@@ -167,6 +183,17 @@ impl Store {
         place
     }
 
+    /// The same, looked for at `near` first.
+    fn place_near(&self, id: &[u8], near: usize) -> usize
+        requires { is_some (place_of id.now self.now.sections) ≡ true }
+        ensures { place_of id.now self.now.sections ≡ Some result }
+    {
+        let Some(place) = find_near(&self.kept, id, near) else {
+            unreachable!()
+        };
+        place
+    }
+
     /// Where a new section comes to stand.
     fn place_made(&self, new: &NewId, now: Moment) -> usize
         ensures place { result ≡ count_below (new_id new.now (present now self.now.sections)) self.now.sections }
@@ -182,17 +209,17 @@ impl Store {
     #[inline(always)]
     fn planned(&self, place: usize, size: usize, now: Moment) -> Planned
         requires { place ≤ length self.now.sections }
-        ensures { result ≡ record { place = place_present now place self.now.sections; size = size } }
+        ensures { result ≡ record { place = place_among_present now place self.now.sections; size = size } }
     {
-        let place = self.place_present(place, now);
+        let place = self.place_among_present(place, now);
         Planned { place, size }
     }
 
     /// The place among the sections that are present.
     #[inline(always)]
-    fn place_present(&self, place: usize, now: Moment) -> usize
+    fn place_among_present(&self, place: usize, now: Moment) -> usize
         requires { place ≤ length self.now.sections }
-        ensures { result ≡ place_present now place self.now.sections }
+        ensures { result ≡ place_among_present now place self.now.sections }
     {
         if expired(self.earliest(), now) {
             self.count_present(place, now)
@@ -205,7 +232,7 @@ impl Store {
     #[inline(never)]
     fn count_present(&self, place: usize, now: Moment) -> usize
         requires { place ≤ length self.now.sections }
-        ensures { result ≡ place_present now place self.now.sections }
+        ensures { result ≡ place_among_present now place self.now.sections }
     {
         let mut count = 0;
         for before in 0..place {

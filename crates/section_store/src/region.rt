@@ -123,6 +123,7 @@ impl Region {
     }
 
     /// Puts a string in behind the others. It takes no memory.
+    #[inline(always)]
     pub fn push(&mut self, bytes: &[u8])
         requires spare { 0 < self.old.spare }
         requires fits { sum_by length self.old.strings + length bytes.now ≤ self.old.size }

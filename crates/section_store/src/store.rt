@@ -101,7 +101,7 @@ impl Store {
         ensures { self.new ≡ record self.old { sections = S.sections other.now } }
     {
         self.kept.copy_from(other);
-        self.summary = Summary::of(&self.kept);
+        self.summary = Summary::of_others(other);
     }
 
     /// Makes the section of that identifier a corrupted one, where one stands.

@@ -4,7 +4,7 @@ ghost use Rattle.ckpt_types.specs.Sections.{memory_used, earliest_expiration};
 ghost use Rattle.section_store.specs.Summary.{IsSummary, IsEarliestBut};
 
 use crate::kept::Kept;
-use ckpt_types::{Moment, NEVER};
+use ckpt_types::{Moment, NEVER, Sections};
 
 /// What is kept of the sections beside them, so that no update has to go over all.
 #[derive(Clone, Copy)]
@@ -18,6 +18,17 @@ pub(crate) struct Summary {
 }
 
 impl Summary {
+    /// What others keep of their sections, with no number counted as taken.
+    pub fn of_others<S: Sections>(others: &S) -> Summary
+        ensures { IsSummary result (S.sections others.now) }
+    {
+        Summary {
+            earliest: others.earliest(),
+            used: others.sum() as usize,
+            first: 1,
+        }
+    }
+
     /// What is kept of these sections, with no number counted as taken.
     pub fn of(kept: &Kept) -> Summary
         requires { memory_used kept.now.sections < 2 ^ 64 }

@@ -6,8 +6,8 @@ use Rattle.ckpt_types.specs.Sections.{present, place_of}
 use Rattle.ckpt_types.specs.Updates.{elements_written}
 use Rattle.ckpt_types.proofs.Presence.{Rises-present, place_of-lt}
 use Rattle.ckpt_types.proofs.Fitting.{Fits-present}
-use Rattle.section_store.specs.Planned.{planned_elements}
-use Rattle.section_store.proofs.PlanLemmas.{GoesOn, GoesOn-start, GoesOn-there, GoesOn-small, GoesOn-next, GoesOn-end, section_size-small}
+use Rattle.section_store.specs.Planned.{planned_elements, KeepSizes}
+use Rattle.section_store.proofs.PlanLemmas.{GoesOn, GoesOn-start, GoesOn-there, GoesOn-small, GoesOn-here, GoesOn-next, GoesOn-end, KeepSizes-none, sections-few, section_size-small}
 use Rattle.section_store.proofs.store.Store.plan_several.Goals as goal
 
 -- the elements that are left, of which the next is the first
@@ -38,23 +38,38 @@ loop-element-init c =
     record {
       goes = subst (λ plan. GoesOn a t elements start plan (planned_elements a t elements start)) (sym c.requires.empty) begins;
       as_many = ap length c.requires.empty;
+      sizes = λ none. subst (KeepSizes start) (sym c.requires.empty) (KeepSizes-none start);
     }
 
-pub place_of-place-requires : goal.place_of-place-requires
-place_of-place-requires c =
+pub place_near-place-requires : goal.place_near-place-requires
+place_near-place-requires c =
     let there = GoesOn-there _ _ c.element-item.result _ c.args.self.now.sections _ _ c.law.ensures.rises (goes c) in
     subst (λ id. is_some (place_of id c.args.self.now.sections) ≡ true) (sym c.as_slice.ensures) there
 
-pub plan_element-requires-clause-there : goal.plan_element-requires-clause-there
-plan_element-requires-clause-there c = place_of-lt c.as_slice.result.now c.args.self.now.sections c.place_of-place.result c.place_of-place.ensures
+pub plan_element-grown-requires-clause-there : goal.plan_element-grown-requires-clause-there
+plan_element-grown-requires-clause-there c = place_of-lt c.as_slice.result.now c.args.self.now.sections c.place_near-place.result c.place_near-place.ensures
 
-pub plan_element-requires-clause-end : goal.plan_element-requires-clause-end
-plan_element-requires-clause-end c =
+pub plan_element-grown-requires-clause-here : goal.plan_element-grown-requires-clause-here
+plan_element-grown-requires-clause-here c =
+    let sections = c.args.self.now.sections in
+    let place : place_of c.element-item.result.id sections ≡ Some c.place_near-place.result = subst (λ id. place_of id sections ≡ Some c.place_near-place.result) c.as_slice.ensures c.place_near-place.ensures in
+    GoesOn-here _ _ c.element-item.result _ sections _ _ c.place_near-place.result c.law.ensures.rises place (goes c.before.before)
+
+pub plan_element-grown-requires-clause-before : goal.plan_element-grown-requires-clause-before
+plan_element-grown-requires-clause-before c = c.loop-element.invariant.sizes
+
+pub overflow_add-near : goal.overflow_add-near
+overflow_add-near c =
+    let sections = c.args.self.now.sections in
+    omega (arith, place_of-lt c.as_slice.result.now sections c.place_near-place.result c.place_near-place.ensures, sections-few c.args.self.now.attributes sections c.law.ensures.checked c.law.ensures.fits)
+
+pub plan_element-grown-requires-clause-end : goal.plan_element-grown-requires-clause-end
+plan_element-grown-requires-clause-end c =
     let small = GoesOn-small _ _ c.element-item.result _ _ _ _ (goes c.before.before) in
     omega (arith, small, section_size-small c.args.self.now.attributes c.law.ensures.checked)
 
-pub plan_element-requires-clause-room : goal.plan_element-requires-clause-room
-plan_element-requires-clause-room c = omega (arith, c.loop-element.invariant.as_many, c.loop-element-test.true, c.requires.short)
+pub plan_element-grown-requires-clause-room : goal.plan_element-grown-requires-clause-room
+plan_element-grown-requires-clause-room c = omega (arith, c.loop-element.invariant.as_many, c.loop-element-test.true, c.requires.short)
 
 pub loop-element-preserved : goal.loop-element-preserved
 loop-element-preserved c =
@@ -64,13 +79,14 @@ loop-element-preserved c =
     let elements = c.args.elements.now in
     let e = c.element-item.result in
     let i = c.loop-element.element-index in
-    let place : place_of e.id sections ≡ Some c.place_of-place.result = subst (λ id. place_of id sections ≡ Some c.place_of-place.result) c.as_slice.ensures c.place_of-place.ensures in
-    let next = GoesOn-next a t e (drop (suc i) elements) sections c.loop-element.plan (planned_elements a t elements (present t sections)) c.place_of-place.result c.law.ensures.rises place (goes c.before.before.before) in
+    let place : place_of e.id sections ≡ Some c.place_near-place.result = subst (λ id. place_of id sections ≡ Some c.place_near-place.result) c.as_slice.ensures c.place_near-place.ensures in
+    let next = GoesOn-next a t e (drop (suc i) elements) sections c.loop-element.plan (planned_elements a t elements (present t sections)) c.place_near-place.result c.law.ensures.rises place (goes c.before.before.before) in
     let behind : suc i ≡ i + 1 = omega arith in
     record {
-      goes = subst (λ n. GoesOn a t (drop n elements) (present t sections) c.plan_element.new.plan (planned_elements a t elements (present t sections))) behind
-          (subst (λ plan. GoesOn a t (drop (suc i) elements) (present t sections) plan (planned_elements a t elements (present t sections))) (sym c.plan_element.ensures) next);
-      as_many = ap length c.plan_element.ensures ∙ omega (arith, c.loop-element.invariant.as_many, length-append c.loop-element.plan);
+      goes = subst (λ n. GoesOn a t (drop n elements) (present t sections) c.plan_element-grown.new.plan (planned_elements a t elements (present t sections))) behind
+          (subst (λ plan. GoesOn a t (drop (suc i) elements) (present t sections) plan (planned_elements a t elements (present t sections))) (sym c.plan_element-grown.ensures.plan) next);
+      as_many = ap length c.plan_element-grown.ensures.plan ∙ omega (arith, c.loop-element.invariant.as_many, length-append c.loop-element.plan);
+      sizes = c.plan_element-grown.ensures.behind;
     }
 
 pub returns : goal.returns
