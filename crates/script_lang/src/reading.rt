@@ -15,6 +15,9 @@ use std::alloc::{AllocError, Global};
 // The words of most lines are no more.
 const FEW: usize = 12;
 
+// Nor are those of a write of sixteen elements.
+const MORE: usize = 51;
+
 /// Whether a line says nothing, as it is empty or a comment.
 #[tactic(auto, unfolding(crate::specs::Grammar::reading))]
 pub fn says_nothing(line: &[u8]) -> bool
@@ -27,11 +30,24 @@ pub fn says_nothing(line: &[u8]) -> bool
     }
 }
 
-/// The line that the words of a text say. Where they are few, it takes no memory for them.
+/// The line that the words of a text say. Where these are no more than those of a write of sixteen elements, it takes no
+/// memory for them.
 pub fn read_line(alloc: Global, text: &[u8]) -> Result<Line, LineError>
     ensures { Reads result (line_said (words_of text.now)) }
 {
     let mut words: [&[u8]; FEW] = [&[]; FEW];
+    match few_words(text, &mut words) {
+        Some(count) => script_lines::read_line(alloc, &words[..count]),
+        None => line_of_more(alloc, text),
+    }
+}
+
+// The line that more words say. The places for these lie here, so that a line of few clears no room for them.
+#[inline(never)]
+fn line_of_more(alloc: Global, text: &[u8]) -> Result<Line, LineError>
+    ensures { Reads result (line_said (words_of text.now)) }
+{
+    let mut words: [&[u8]; MORE] = [&[]; MORE];
     match few_words(text, &mut words) {
         Some(count) => script_lines::read_line(alloc, &words[..count]),
         None => line_of_many(alloc, text),
@@ -54,6 +70,7 @@ fn words_in(alloc: Global, line: &[u8]) -> Result<Vec<&[u8]>, AllocError>
 }
 
 // Puts the words of a line in front, and tells how many they are; none where there is no place for each.
+#[inline(always)]
 fn few_words<'a>(line: &'a [u8], words: &mut [&'a [u8]]) -> Option<usize>
     ensures { IfSome result (λ count. HasWords line.now words.new count) }
 {
