@@ -57,6 +57,7 @@ pub mod WaitedFor
 pub mod Words
 mod Staging
 mod Reading
+mod MarkedSteps
 pub mod EventEnds
 pub mod ByNumber
 pub mod FailedParts

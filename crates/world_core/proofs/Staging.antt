@@ -76,7 +76,7 @@ use Rattle.world_core.proofs.Stepping.{its_nodes, its_ready, its_replica, its_ro
 -- ---- what is answered, and told beside it
 
 -- where nothing is told, nothing is told beside an end
-ended_none : (end : Option Outcome) (details : Details) → beside.Nothing ≡ details → beside.Nothing ≡ ended_details end details
+pub ended_none : (end : Option Outcome) (details : Details) → beside.Nothing ≡ details → beside.Nothing ≡ ended_details end details
 ended_none None details none = refl
 ended_none (Some end) details none = none
 

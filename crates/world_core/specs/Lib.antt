@@ -5,6 +5,7 @@ pub mod LiveRooms
 pub mod Copying
 pub mod Freeing
 pub mod Listing
+pub mod Marking
 pub mod HandsState
 pub mod HandsView
 pub mod HandLending

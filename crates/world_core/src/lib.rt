@@ -17,6 +17,7 @@ mod snapshots;
 mod steps;
 mod tables;
 mod updating;
+mod weak_writes;
 mod world;
 mod world_parts;
 

@@ -141,7 +141,7 @@ impl World {
             Next::Serve(r, Request::Read(ckpt)) => {
                 return self.read_step(alloc, who, r, ckpt, log);
             }
-            Next::Serve(r, request) => return self.serve_step(alloc, who, r, &request, log),
+            Next::Serve(r, request) => return self.node_step(alloc, who, r, &request, log),
             Next::Event(RecordStep::Enter) => self.enter_step(alloc, who, log),
             Next::Event(RecordStep::Hold(r)) => self.hold_step(who, r, log),
             Next::Event(RecordStep::Activate(r)) => self.activate_step(who, r, log),
@@ -188,9 +188,36 @@ impl World {
         Ok(())
     }
 
-    /// A node answers a request of the call.
+    // A node answers a request of the call. What a weak write asks behind its marks has a step of its own.
+    #[inline(always)]
+    fn node_step(
+        &mut self,
+        alloc: Global,
+        who: Who,
+        r: NodeId,
+        request: &Request,
+        log: &mut RunLog,
+    ) -> Result<(), AllocError>
+        requires next { IsNext self.old who (nexts.Serve r request.now) }
+        requires client { IsClientName who }
+        requires shown { IsShown self.old }
+        requires roomy { HasNumbersLeft self.old }
+        requires spare { 1 ≤ log.old.spare }
+        ensures ok { OnOk result (Adds log.old log.new (IsStep who self.old self.new)) }
+        ensures err { OnErr result ((self.new ≡ self.old) × (log.new.labels ≡ log.old.labels)) }
+    {
+        match request {
+            Request::Element(_, _) | Request::Unmark(_, _) => {
+                self.marked_step(who, r, request, log);
+                Ok(())
+            }
+            _ => self.serve_step(alloc, who, r, request, log),
+        }
+    }
+
+    // A node answers any request of the call.
     #[inline(never)]
-    pub(crate) fn serve_step(
+    fn serve_step(
         &mut self,
         alloc: Global,
         who: Who,
