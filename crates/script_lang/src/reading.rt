@@ -1,5 +1,5 @@
 //! A line of bytes into words, and the line that they say.
-ghost use Rattle.std.specs.Prelude.{◌≡◌, ◌<◌, ◌≤◌, ◌∷◌, [], IfOk, IfSome, IfNone, length, take, drop, ◌==◌, Ok, None};
+ghost use Rattle.std.specs.Prelude.{◌≡◌, ◌<◌, ◌≤◌, ◌∷◌, ◌++◌, [], IfOk, IfErr, IfSome, IfNone, length, take, drop, ◌==◌, Ok, None};
 ghost use Rattle.script_lang.specs.FewWords.{HasWords};
 ghost use Rattle.std.specs.Bool.{OnTrue, OnFalse};
 ghost use Rattle.std.specs.List.{position_or_len};
@@ -37,8 +37,8 @@ pub fn read_line(alloc: Global, text: &[u8]) -> Result<Line, LineError>
 {
     let mut words: [&[u8]; FEW] = [&[]; FEW];
     match few_words(text, &mut words) {
-        Some(count) => script_lines::read_line(alloc, &words[..count]),
-        None => line_of_more(alloc, text),
+        Ok(count) => script_lines::read_line(alloc, &words[..count]),
+        Err(_) => line_of_more(alloc, text),
     }
 }
 
@@ -49,41 +49,51 @@ fn line_of_more(alloc: Global, text: &[u8]) -> Result<Line, LineError>
 {
     let mut words: [&[u8]; MORE] = [&[]; MORE];
     match few_words(text, &mut words) {
-        Some(count) => script_lines::read_line(alloc, &words[..count]),
-        None => line_of_many(alloc, text),
+        Ok(count) => script_lines::read_line(alloc, &words[..count]),
+        Err(rest) => line_of_many(alloc, &words, rest),
     }
 }
 
-// The line that any number of words say.
-fn line_of_many(alloc: Global, text: &[u8]) -> Result<Line, LineError>
-    ensures { Reads result (line_said (words_of text.now)) }
+// The line that these words say, with any number of words behind them.
+#[inline(never)]
+fn line_of_many(alloc: Global, front: &[&[u8]], rest: &[u8]) -> Result<Line, LineError>
+    ensures { Reads result (line_said (texts front.now ++ words_of rest.now)) }
 {
-    let words = words_in(alloc, text)?;
+    let words = words_in(alloc, front, rest)?;
     script_lines::read_line(alloc, &words)
 }
 
-// What stands between the spaces of a line.
-fn words_in(alloc: Global, line: &[u8]) -> Result<Vec<&[u8]>, AllocError>
-    ensures { IfOk result (λ words. texts words.items ≡ words_of line.now) }
+// These words, and behind them what stands between the spaces of a text.
+fn words_in<'a>(
+    alloc: Global,
+    front: &[&'a [u8]],
+    rest: &'a [u8],
+) -> Result<Vec<&'a [u8]>, AllocError>
+    ensures { IfOk result (λ words. texts words.items ≡ texts front.now ++ words_of rest.now) }
 {
-    line.split(|b| *b == b' ').collect(alloc)
+    let mut words = Vec::with_capacity(alloc, 2 * MORE)?;
+    words.extend_from_slice(front)?;
+    words.extend(rest.split(|b| *b == b' '))?;
+    Ok(words)
 }
 
-// Puts the words of a line in front, and tells how many they are; none where there is no place for each.
+// Puts the words of a line in front, and tells how many they are. Where there is no place for each, what lies behind those
+// that have one.
 #[inline(always)]
-fn few_words<'a>(line: &'a [u8], words: &mut [&'a [u8]]) -> Option<usize>
-    ensures { IfSome result (λ count. HasWords line.now words.new count) }
+fn few_words<'a>(line: &'a [u8], words: &mut [&'a [u8]]) -> Result<usize, &'a [u8]>
+    ensures all { IfOk result (λ count. HasWords line.now words.new count) }
+    ensures more { IfErr result (λ rest. texts words.new ++ words_of rest.now ≡ words_of line.now) }
 {
     let mut rest = line;
     for count in 0..words.len() {
         let Some((word, behind)) = first_word(rest) else {
             words[count] = rest;
-            return Some(count + 1);
+            return Ok(count + 1);
         };
         words[count] = word;
         rest = behind;
     }
-    None
+    Err(rest)
 }
 
 /// The word in front of the first space, and what lies behind it; none where there is no space.
