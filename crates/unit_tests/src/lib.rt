@@ -14,6 +14,8 @@ mod journals;
 #[cfg(test)]
 mod labels;
 #[cfg(test)]
+mod loads;
+#[cfg(test)]
 mod names;
 #[cfg(test)]
 mod regions;

@@ -1,0 +1,5 @@
+mod Built
+mod Lengths
+mod Names
+mod Rows
+mod Turns

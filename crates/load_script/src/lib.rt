@@ -1,0 +1,7 @@
+//! The script of a generated load: a service of four nodes whose clients write and read one checkpoint, so many times.
+#![tactic(auto)]
+
+mod generating;
+mod lines;
+
+pub use generating::{LOAD_MAX, generate};
