@@ -11,7 +11,7 @@ ghost use Rattle.ckpt_machine.specs.Tables.{flags_or_none, handle_asked, handle_
 ghost use Rattle.cluster_record.specs.Failing.{goes_with_node};
 ghost use Rattle.client_calls.specs.Abandoning.{table_left};
 ghost use Rattle.client_calls.specs.Lending.{come_back, lending, IsGoingOnWith, IsOutOf};
-ghost use Rattle.client_calls.specs.NewTable.{new_table};
+ghost use Rattle.client_calls.specs.NewTable.{new_table, table_of};
 ghost use Rattle.client_calls.specs.TableEnds.{table_ended};
 ghost use Rattle.client_calls.specs.TableView.{calls_in, client_in};
 ghost use Rattle.client_calls.specs.TableState.{with_room, with_client, begun_with, with_calls, begun_done, client_part, CanBegin, CanBeginDone, CanGoOnAlone};
@@ -75,6 +75,27 @@ impl Table {
             client: None,
             pending: None,
         }
+    }
+
+    /// The table of a client whose next call has this number, and which keeps this, if its room was taken. It has no
+    /// asynchronous calls.
+    pub fn of(alloc: Global, next: u32, client: Option<Client>) -> Result<Table, AllocError>
+        ensures { IfOk result (λ table. table ≡ table_of next client) }
+    {
+        let Some(client) = client else {
+            return Ok(Table {
+                next,
+                client: None,
+                pending: None,
+            });
+        };
+        let client = Box::new(alloc, client)?;
+        let pending = Box::new(alloc, Pending::new(alloc)?)?;
+        Ok(Table {
+            next,
+            client: Some(client),
+            pending: Some(pending),
+        })
     }
 
     /// An equal one, with as much room. An iteration that is lent is lent in the copy, too.
