@@ -41,17 +41,18 @@ impl Model for NodeCell {
 }
 
 impl NodeCell {
-    /// A node to which nothing was done yet, with room in its journal for so many entries. It keeps a copy of the node.
-    pub fn new(alloc: Global, node: Node, entries: usize) -> Result<NodeCell, AllocError>
-        ensures { IfOk result (λ cell. cell ≡ record { opening = node; node = node; journal = []; spare = entries }) }
+    /// A node to which nothing was done yet, with an equal one that it was before, and a journal that is empty. It takes no
+    /// memory, so who is refused it before still has the node.
+    pub fn new(opening: Node, node: Node, journal: Journal) -> NodeCell
+        requires same { node ≡ opening }
+        requires empty { journal.entries ≡ [] }
+        ensures { result ≡ record { opening = opening; node = node; journal = []; spare = journal.spare } }
     {
-        let opening = node.copy(alloc)?;
-        let journal = Journal::reserve(alloc, entries)?;
-        Ok(NodeCell {
+        NodeCell {
             opening,
             node,
             journal,
-        })
+        }
     }
 
     /// The node.

@@ -67,7 +67,9 @@ fn comes_apart(cell: NodeCell) -> bool {
 
 /// A cell of the first node, with room for three entries.
 fn cell_of(alloc: Global) -> Result<NodeCell, AllocError> {
-    NodeCell::new(alloc, Node::new(alloc, 0)?, 3)
+    let node = Node::new(alloc, 0)?;
+    let opening = node.copy(alloc)?;
+    Ok(NodeCell::new(opening, node, Journal::reserve(alloc, 3)?))
 }
 
 fn is_kept(rt: &impl Abort, alloc: Global, seen: &Record) -> Result<bool, AllocError> {
