@@ -1,2 +1,3 @@
 pub mod AlonePlaces
 pub mod CopiedPieces
+mod LentPlaces

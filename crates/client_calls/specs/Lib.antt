@@ -7,6 +7,7 @@ pub mod CallStates
 pub mod CopyHandView
 pub mod CopyHands
 pub mod Lending
+pub mod LentIterations
 pub mod HandRooms
 pub mod HandSteps
 pub mod Standings

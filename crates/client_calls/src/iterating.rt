@@ -1,5 +1,7 @@
 //! How an iteration goes with a request, and comes back.
 ghost use Rattle.std.specs.Prelude.{◌≡◌};
+ghost use Rattle.ckpt_types.specs.Asks.{IsBuilt};
+ghost use Rattle.client_calls.specs.LentIterations.{table_lending_if_there, IsOutBehind};
 ghost use Rattle.client_calls.specs.Lending.{iteration_lent, hand_lending, table_lending, table_keeping, CanLend, CanKeep, IsValidFor};
 
 use crate::in_hand::InHand;
@@ -20,6 +22,22 @@ pub fn lend_iteration(table: &mut Table, hand: &mut InHand, request: &Request) -
     match request {
         Request::Iterate(_, _, _) => hand.iteration.take(),
         Request::Next(_, _) => table.lend_iteration(&hand.op),
+        _ => None,
+    }
+}
+
+/// The same, of an iteration that is in its place; where it is not there, nothing is lent, and nothing changes. So it asks
+/// nothing of its caller but that the operation names a place.
+pub fn lend_if_there(table: &mut Table, hand: &mut InHand, request: &Request) -> Option<Iteration>
+    requires built { IsBuilt hand.old.op }
+    ensures hand { hand.new ≡ hand_lending request.now hand.old }
+    ensures table { table.new ≡ table_lending_if_there request.now hand.old.op table.old }
+    ensures lent { result ≡ iteration_lent request.now hand.old table.old.client }
+    ensures out { IsOutBehind request.now result hand.old.op table.new }
+{
+    match request {
+        Request::Iterate(_, _, _) => hand.iteration.take(),
+        Request::Next(_, _) => table.lend_if_there(&hand.op),
         _ => None,
     }
 }

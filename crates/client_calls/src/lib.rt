@@ -30,7 +30,7 @@ pub use details::{told_details, told_read};
 pub use drivers::{Driver, DriverKind, event_ckpt, event_granted, event_node};
 pub use hand_rooms::HandRooms;
 pub use in_hand::{InHand, clear, client_by, hand_over, let_go, take_place};
-pub use iterating::{keep_iteration, lend_iteration};
+pub use iterating::{keep_iteration, lend_if_there, lend_iteration};
 pub use lending::{commit_lent, creates, elements_in, lent_by, reserve_for, share_update};
 pub use messages::{
     done, goes_on, idle_label, look_word, looked, refusal_word, said, said_of_node, served, stepped,

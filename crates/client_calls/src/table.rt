@@ -1,16 +1,17 @@
 //! What one client keeps: numbers, handles, iterations and places, and its asynchronous calls.
-ghost use Rattle.std.specs.Prelude.{◌≡◌, ◌-◌, ◌+◌, ◌^◌, ◌<◌, ◌≤◌, true, IfOk, IsSome, is_some, OnErr, OnOk, MatchOption, length, map, take};
+ghost use Rattle.std.specs.Prelude.{◌≡◌, ◌-◌, ◌+◌, ◌^◌, ◌<◌, ◌≤◌, true, IfOk, IfSome, IsSome, is_some, OnErr, OnOk, MatchOption, length, map, take};
 ghost use Rattle.ckpt_types.specs.declared.answers.Answer.{Answer};
 ghost use Rattle.ckpt_types.specs.Asks.{asked, IsBuilt};
 ghost use Rattle.ckpt_types.specs.Attributes.{open_flags_of};
-ghost use Rattle.ckpt_types.specs.Limits.{checkpoints_max};
-ghost use Rattle.client_handles.specs.ClientState.{handle_at, handle_numbered, has_handle_room, has_iteration_room, iterated_at, emptied, ended, taken, IsValid};
+ghost use Rattle.ckpt_types.specs.Limits.{checkpoints_max, places_max};
+ghost use Rattle.client_handles.specs.ClientState.{handle_at, handle_numbered, has_handle_room, has_iteration_room, iterated_at, kept_at, emptied, ended, taken, IsLent, IsValid};
 ghost use Rattle.call_dispatch.specs.PendingCalls.{callback_of, dispatched, given_answer, given_by, given_number, no_pending, pending_count, with_begun};
 ghost use Rattle.ckpt_machine.specs.After.{async_call, left_over};
 ghost use Rattle.ckpt_machine.specs.Tables.{flags_or_none, handle_asked, handle_given, kept_asked, started, closing, handle_closed, has_place, places_set, registering};
 ghost use Rattle.cluster_record.specs.Failing.{goes_with_node};
 ghost use Rattle.client_calls.specs.Abandoning.{table_left};
 ghost use Rattle.client_calls.specs.Lending.{come_back, lending, IsGoingOnWith, IsOutOf};
+ghost use Rattle.client_calls.specs.LentIterations.{lending_if_there, lent_where_kept, IsOutIfLent};
 ghost use Rattle.client_calls.specs.NewTable.{new_table, table_of};
 ghost use Rattle.client_calls.specs.TableEnds.{table_ended};
 ghost use Rattle.client_calls.specs.TableView.{calls_in, client_in};
@@ -300,6 +301,20 @@ impl Table {
         client.lend_iteration(*place).ok()
     }
 
+    /// The iteration with which an operation goes on is lent where it is in its place, as by `lend_iteration`; else nothing
+    /// changes. It asks nothing of its caller but that the operation names a place.
+    pub fn lend_if_there(&mut self, op: &Op) -> Option<Iteration>
+        requires built { IsBuilt op.now }
+        ensures lent { result ≡ kept_asked (asked op.now) self.old.client }
+        ensures new { self.new ≡ lending_if_there (asked op.now) self.old }
+        ensures out { IsOutIfLent result (asked op.now) self.new }
+    {
+        let (Some(client), Op::Next(place)) = (&mut self.client, op) else {
+            return None;
+        };
+        lend_at(client, *place)
+    }
+
     /// The iteration with which an operation went on comes back to its place.
     pub fn return_iteration(&mut self, op: &Op, iteration: Iteration)
         requires out { IsOutOf (asked op.now) self.old.client }
@@ -493,6 +508,19 @@ impl Table {
             client.close_all();
         }
     }
+}
+
+// The iteration of a place is lent where it is there and not lent.
+fn lend_at(client: &mut Client, place: u8) -> Option<Iteration>
+    requires { place < places_max }
+    ensures lent { result ≡ kept_at place client.old }
+    ensures new { client.new ≡ lent_where_kept place (kept_at place client.old) client.old }
+    ensures out { IfSome result (λ kept. IsLent place client.new) }
+{
+    if client.is_lent(place) {
+        return None;
+    }
+    client.lend_iteration(place).ok()
 }
 
 fn copy_of_client(
