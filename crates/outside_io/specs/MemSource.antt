@@ -1,17 +1,22 @@
 -- What a source in memory is, and what a read makes of it.
-use Rattle.std.specs.Prelude.{◌≡◌, ℕ, List, ◌++◌, length, take, drop, min, Result, Ok, Err}
+use Rattle.std.specs.Prelude.{◌≡◌, ℕ, ◌-◌, ◌^◌, List, ◌++◌, length, take, drop, min, Result, Ok, Err}
 use Rattle.outside_io.specs.Causes.{next_count}
 
--- the bytes left, how many reads there were, the numbers of those that fail, and how many failed
+-- the bytes left, the most that a read gives, how many reads there were, the numbers of those that fail, and how many failed
 pub record SourceInMemory : Type 0 where
   pub left : List ℕ
+  pub piece : ℕ
   pub calls : ℕ
   pub fails : List ℕ
   pub faults : ℕ
 
 -- a source that was not yet read
-abbrev pub fresh_source : List ℕ → List ℕ → SourceInMemory
-fresh_source contents fails = record { left = contents; calls = 0; fails = fails; faults = 0 }
+abbrev pub fresh_source : List ℕ → List ℕ → ℕ → SourceInMemory
+fresh_source contents fails piece = record { left = contents; piece = piece; calls = 0; fails = fails; faults = 0 }
+
+-- more bytes than a call can ask for
+abbrev pub unlimited : ℕ
+unlimited = 2 ^ 64 - 1
 
 -- the source after a read: one read more, and the bytes given are gone, or one fault more
 abbrev pub source_after : {E : Type 0} → SourceInMemory → Result ℕ E → SourceInMemory

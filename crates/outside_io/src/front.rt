@@ -13,6 +13,20 @@ pub fn copy_from(contents: &[u8], given: usize, buf: &mut [u8]) -> usize
     copy_front(left, buf)
 }
 
+// The same of the first bytes from `given` on alone, at most `piece`.
+pub fn copy_piece(contents: &[u8], given: usize, piece: usize, buf: &mut [u8]) -> usize
+    requires left { given ≤ length contents.now }
+    requires some { 0 < piece }
+    ensures count { result ≡ min (length (take piece (drop given contents.now))) (length buf.old) }
+    ensures copied { buf.new ≡ take result (take piece (drop given contents.now)) ++ drop result buf.old }
+    ensures consumed { drop given contents.now ≡ take result buf.new ++ drop (given + result) contents.now }
+    ensures ended { result ≡ 0 → 0 < length buf.new → drop (given + result) contents.now ≡ [] }
+{
+    let (_, left) = contents.split_at(given);
+    let (first, _) = left.split_at(piece.min(left.len()));
+    copy_front(first, buf)
+}
+
 // Copies bytes to the front of the buffer, as many as fit, and returns how many.
 fn copy_front(from: &[u8], buf: &mut [u8]) -> usize
     ensures count { result ≡ min (length from.now) (length buf.old) }

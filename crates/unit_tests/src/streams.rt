@@ -53,6 +53,23 @@ fn a_source_in_memory_gives_its_bytes_once_and_fails_at_the_calls_named(
     Ok(())
 }
 
+/// A source of three bytes that gives one a call, and of whose calls the second fails.
+fn gives_singly(rt: &impl Abort, source: &mut MemSource) {
+    let mut buf = [0; 2];
+    holds(rt, 1, reads(source, &mut buf, Ok(1), b"a\0"));
+    holds(rt, 2, reads(source, &mut buf, Err(Failed), b"a\0"));
+    holds(rt, 3, reads(source, &mut buf, Ok(1), b"b\0"));
+    holds(rt, 4, reads(source, &mut buf, Ok(1), b"c\0"));
+    holds(rt, 5, reads(source, &mut buf, Ok(0), b"c\0"));
+}
+
+#[test]
+fn a_source_in_pieces_gives_so_many_bytes_a_call(rt: HostRuntime) -> Result<(), AllocError> {
+    let mut source = MemSource::in_pieces(rt.alloc(), b"abc", &[1], 1)?;
+    gives_singly(&rt, &mut source);
+    Ok(())
+}
+
 /// Whether a write of the piece answers so, and the sink has these bytes then.
 fn writes(sink: &mut MemSink, piece: &[u8], count: Result<usize, Failed>, contents: &[u8]) -> bool {
     if sink.write(piece) != count {
@@ -84,6 +101,23 @@ fn a_sink_in_memory_fails_at_the_calls_named_and_where_its_room_is_full(
     let mut sink = MemSink::new(rt.alloc(), 5, &[1])?;
     takes_each(&rt, &mut sink);
     met(&rt, 7, just_fits(rt.alloc()));
+    Ok(())
+}
+
+/// A sink with room for three bytes that takes one a call, and of whose calls the second fails.
+fn takes_singly(rt: &impl Abort, sink: &mut MemSink) {
+    holds(rt, 1, writes(sink, b"ab", Ok(1), b"a"));
+    holds(rt, 2, writes(sink, b"b", Err(Failed), b"a"));
+    holds(rt, 3, writes(sink, b"bc", Ok(1), b"ab"));
+    holds(rt, 4, writes(sink, b"", Ok(0), b"ab"));
+    holds(rt, 5, writes(sink, b"cd", Ok(1), b"abc"));
+    holds(rt, 6, writes(sink, b"d", Err(Failed), b"abc"));
+}
+
+#[test]
+fn a_sink_in_pieces_takes_so_many_bytes_a_call(rt: HostRuntime) -> Result<(), AllocError> {
+    let mut sink = MemSink::in_pieces(rt.alloc(), 3, &[1], 1)?;
+    takes_singly(&rt, &mut sink);
     Ok(())
 }
 
