@@ -8,6 +8,8 @@ mod copying;
 #[cfg(test)]
 mod failing;
 #[cfg(test)]
+mod pieces;
+#[cfg(test)]
 mod played;
 #[cfg(test)]
 mod rows;

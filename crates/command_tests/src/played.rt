@@ -38,7 +38,7 @@ pub fn owned(alloc: Global, words: &[&str]) -> Result<Vec<String>, AllocError> {
 }
 
 /// How the run of these words ends, on a cluster of which no node is up.
-fn status_of<R: Threads + Wait + Sync, S: Source, K: Sink>(
+pub fn status_of<R: Threads + Wait + Sync, S: Source, K: Sink>(
     rt: &R,
     alloc: Global,
     words: &[&str],
