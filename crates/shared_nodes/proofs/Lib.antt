@@ -1,4 +1,4 @@
-pub mod Furnished
+pub mod Handing
 pub mod JournalRows
 pub mod OneMore
 pub mod Rising

@@ -3,6 +3,7 @@ pub mod CellView
 pub mod JournalView
 pub mod Journals
 pub mod Plays
+pub mod Portions
 pub mod SeenView
 pub mod TrailView
 pub mod Trails

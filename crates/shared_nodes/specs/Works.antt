@@ -1,24 +1,25 @@
 -- What a call takes before it begins.
-use Rattle.std.specs.Prelude.{◌≡◌, ℕ, List, [], ◌∷◌, length, Option, IsSome, nat_lt, if◌then◌else◌, replicate}
+use Rattle.std.specs.Prelude.{◌≡◌, ℕ, [], length, Option, None, IsSome, nat_lt, if◌then◌else◌}
 use Rattle.ckpt_types.specs.declared.operation.Op.{Op}
 use Rattle.ckpt_types.specs.declared.sections.CheckpointDescriptor.{CheckpointDescriptor}
 use Rattle.ckpt_types.specs.declared.sections.SectionDescriptor.{SectionDescriptor}
 use Rattle.ckpt_types.specs.declared.update.NewId.TheVariants.{Given}
-use Rattle.ckpt_types.specs.declared.update.ReadElement.{ReadElement}
 use Rattle.ckpt_types.specs.declared.update.Update.{Update}
 use Rattle.ckpt_types.specs.declared.update.Update.TheVariants as updates
-use Rattle.ckpt_types.specs.Asks.{Ask, asked}
+use Rattle.ckpt_types.specs.Asks.{Ask, asked, update_of, elements_of}
 use Rattle.ckpt_types.specs.Asks as asks
 use Rattle.ckpt_types.specs.Buffer.{Buffer}
 use Rattle.ckpt_types.specs.Limits.{declared_id_max}
 use Rattle.node_core.specs.Lending.{bytes_asked}
 
--- the operation, shares of its update and of its elements, empty buffers, and places for a status and for a section
+-- the operation; how many shares of its update are there, how many buffers for an identifier that a commit tells, how many shares of its elements, and how
+-- many buffers for what a read gives; and places for a status and for a section
 pub record KeptWork : Type 0 where
   pub op : Op
-  pub updates : List Update
-  pub elements : List (List ReadElement)
-  pub buffers : List Buffer
+  pub updates : ℕ
+  pub ids : ℕ
+  pub elements : ℕ
+  pub reads : ℕ
   pub status : Option CheckpointDescriptor
   pub section : Option SectionDescriptor
 
@@ -43,24 +44,27 @@ abbrev pub longest_id : Update → ℕ
 longest_id (updates.Create (Given id) expiration bytes) = if nat_lt declared_id_max (length id) then length id else declared_id_max
 longest_id update = declared_id_max
 
--- the shares of an update, and room for an identifier at each commit
-pub record IsFurnishedUpdate (update : Update) (w : KeptWork) : Type 0 where
-  pub shares : w.updates ≡ replicate update_shares_max update
-  pub room : w.buffers ≡ replicate commits_max (empty_buffer 1 (longest_id update))
+-- an empty buffer for the identifier that a commit tells
+abbrev pub id_buffer : Op → Buffer
+id_buffer op = empty_buffer 1 (longest_id (update_of op))
 
--- the shares of the elements of a read, and one buffer with room for all that they may give
-pub record IsFurnishedRead (elements : List ReadElement) (w : KeptWork) : Type 0 where
-  pub shares : w.elements ≡ replicate read_shares_max elements
-  pub room : w.buffers ≡ empty_buffer (length elements) (bytes_asked elements) ∷ []
+-- an empty buffer for all that the elements of a read may give
+abbrev pub read_buffer : Op → Buffer
+read_buffer op = empty_buffer (length (elements_of op)) (bytes_asked (elements_of op))
 
--- what a call that asks for this wants, but for the room that depends on what its checkpoint declares
-abbrev pub IsFurnishedFor : Ask → KeptWork → Type 0
-IsFurnishedFor (asks.Change place update) w = IsFurnishedUpdate update w
-IsFurnishedFor (asks.Read place elements) w = IsFurnishedRead elements w
-IsFurnishedFor (asks.Status place) w = IsSome w.status
-IsFurnishedFor (asks.Next iteration) w = IsSome w.section
-IsFurnishedFor ask w = Unit {0}
+-- an operation, and nothing for it
+abbrev pub work_alone : Op → KeptWork
+work_alone op = record { op = op; updates = 0; ids = 0; elements = 0; reads = 0; status = None; section = None }
+
+-- what a call that asks for this wants, but for the room that depends on what its checkpoint declares: an update its shares, and room for an identifier at
+-- each commit; a read the shares of its elements and one buffer; a status, and the next section of an iteration, a place for it; anything else nothing
+abbrev pub IsFurnishedFor : Ask → Op → KeptWork → Type 0
+IsFurnishedFor (asks.Change place update) op w = w ≡ record (work_alone op) { updates = update_shares_max; ids = commits_max }
+IsFurnishedFor (asks.Read place elements) op w = w ≡ record (work_alone op) { elements = read_shares_max; reads = 1 }
+IsFurnishedFor (asks.Status place) op w = IsSome w.status × (w ≡ record (work_alone op) { status = w.status })
+IsFurnishedFor (asks.Next iteration) op w = IsSome w.section × (w ≡ record (work_alone op) { section = w.section })
+IsFurnishedFor ask op w = w ≡ work_alone op
 
 -- the same of an operation
 abbrev pub IsFurnished : Op → KeptWork → Type 0
-IsFurnished op w = IsFurnishedFor (asked op) w
+IsFurnished op w = IsFurnishedFor (asked op) op w

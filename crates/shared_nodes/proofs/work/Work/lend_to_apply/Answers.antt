@@ -1,0 +1,20 @@
+use Rattle.std.proofs.Common.{◌≡◌, ◌-◌, ◌<◌, ap, arith, ◌∙◌}
+use Rattle.std.specs.Prelude.{Some, vec_len}
+use Rattle.ckpt_types.specs.Asks.{update_of}
+use Rattle.ckpt_types.specs.Buffer.{Buffer}
+use Rattle.shared_nodes.specs.Works.{id_buffer}
+use Rattle.shared_nodes.proofs.Handing.{apply_kept, apply_lent, some_left}
+use Rattle.shared_nodes.proofs.work.Work.lend_to_apply.Goals as goal
+
+pub returns-clause-lent : goal.returns-clause-lent
+returns-clause-lent c =
+    let alike = c.in-Some.ensures.alike (update_of c.self.inside.op) c.self.invariant.updates in
+    let some : 0 < vec_len c.self.inside.ids = some_left _ _ c.is_empty.ensures c.if-is_empty.false in
+    let buffer : Buffer = id_buffer c.self.inside.op in
+    let room : c.pop-read.result ≡ Some buffer = c.pop-read.ensures.value buffer some ∙ ap (λ (b : Buffer). Some b) (c.self.invariant.ids (vec_len c.self.inside.ids - 1) buffer (omega (arith, some))) in
+    c.lent_of.ensures ∙ apply_lent _ c.args.self.now _ _ c.self.view_is c.in-Some.ensures.many some alike.0 room
+
+pub returns-clause-beside : goal.returns-clause-beside
+returns-clause-beside c =
+    let alike = c.in-Some.ensures.alike (update_of c.self.inside.op) c.self.invariant.updates in
+    apply_kept _ c.args.self.now _ c.self.view_is c.in-Some.ensures.many (some_left _ _ c.is_empty.ensures c.if-is_empty.false) alike.1
