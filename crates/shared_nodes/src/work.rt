@@ -98,6 +98,14 @@ impl Work {
         &self.op
     }
 
+    /// The operation. The rest of what was taken for the call is given back.
+    pub fn into_op(self) -> Op
+        ensures { result ≡ self.op }
+    {
+        let Work { op, .. } = self;
+        op
+    }
+
     /// What the call lends to a request, an iteration and a snapshot aside, and what a journal keeps of it, taken out of
     /// what the call has. Where that is less than the request wants, nothing is lent, and all is left.
     pub fn lend(&mut self, request: &Request) -> (Lent, Kept)
