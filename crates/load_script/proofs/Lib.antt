@@ -2,4 +2,5 @@ mod Built
 mod Lengths
 mod Names
 mod Rows
+mod Spelled
 mod Turns

@@ -1,5 +1,5 @@
 -- The generated load: four clients, each on a node of its own, write and read the sections of one checkpoint, and a node fails in between.
-use Rattle.std.specs.Prelude.{ℕ, zero, suc, ◌+◌, ◌*◌, ◌/◌, ◌%◌, List, [], ◌∷◌, ◌++◌, map, Some, None, false, codes, decimal}
+use Rattle.std.specs.Prelude.{◌≡◌, ◌≤◌, ℕ, zero, suc, ◌+◌, ◌*◌, ◌/◌, ◌%◌, List, [], ◌∷◌, ◌++◌, map, Some, None, false, codes, decimal}
 use Rattle.std.specs.Int.{to_be_bytes, w64}
 use Rattle.ckpt_types.specs.declared.attributes.CreationAttributes.{CreationAttributes}
 use Rattle.ckpt_types.specs.declared.identities.ActorName.TheVariants as actors
@@ -15,6 +15,10 @@ use Rattle.script_lines.specs.declared.lines.Line.TheVariants as lines
 -- the most writes of a load, and the most reads
 abbrev pub load_max : ℕ
 load_max = 4000
+
+-- the word says this number of writes: its decimal digits, with no zero in front
+abbrev pub SpellsTurns : List ℕ → ℕ → Type 0
+SpellsTurns word turns = (word ≡ decimal turns) × (1 ≤ turns) × (turns ≤ load_max)
 
 -- the numbers from 0 on, so many of them
 abbrev pub numbers : ℕ → List ℕ

@@ -3,5 +3,7 @@
 
 mod generating;
 mod lines;
+mod word;
 
 pub use generating::{LOAD_MAX, generate};
+pub use word::turns_in;

@@ -1,0 +1,3 @@
+pub mod Codes
+mod Counted
+mod Rows
