@@ -1,0 +1,4 @@
+pub mod BegunCalls
+pub mod OpenGiving
+pub mod SeatLaws
+pub mod TellLaws

@@ -1,0 +1,11 @@
+pub mod Begun
+pub mod Dues
+pub mod HeldCopies
+pub mod Looked
+pub mod Racing
+pub mod SeatState
+pub mod SeatView
+pub mod Seats
+pub mod Strays
+pub mod Told
+pub mod Ending
