@@ -76,11 +76,11 @@ for_ask op t ask x opens give = tt
 pub may_give : (s : KeptSeat) (c : KeptCall) (step : RecordStep) (reply : Option Reply) → IsSeatOf s → IsUnderWay s.client s.calls s.table c → s.call ≡ Some c → IsDueEvent s c step reply → MayGiveBy c.hand.op step reply s.table
 may_give s c events.Open (Some (replies.Done answer)) seat under held due =
     for_ask c.hand.op s.table (asked c.hand.op) c.hand.driver under.opens (λ o is.
-      let granted : refusal_in (open_answer due.before o.ask) ≡ None = sym (ap (open_refusal due.before) is) ∙ due.granted in
-      gives s c seat under (has_room-has_place _ s.table.client (open_room_at due.before s c o events.Open (event_due due.before s c events.Open due.due held) is granted)))
+    let granted : refusal_in (open_answer due.before o.ask) ≡ None = sym (ap (open_refusal due.before) is) ∙ due.granted in
+    gives s c seat under (has_room-has_place _ s.table.client (open_room_at due.before s c o events.Open (event_due due.before s c events.Open due.due held) is granted)))
 may_give s c events.Finish (Some (replies.Done answer)) seat under held due =
     for_ask c.hand.op s.table (asked c.hand.op) c.hand.driver under.opens (λ o is.
-      gives s c seat under (under.room (subst (λ (x : Driver). IsSome (making_in x)) (sym is) (open_room_at due.before s c o events.Finish (event_due due.before s c events.Finish due.due held) is))))
+    gives s c seat under (under.room (subst (λ (x : Driver). IsSome (making_in x)) (sym is) (open_room_at due.before s c o events.Finish (event_due due.before s c events.Finish due.due held) is))))
 may_give s c step (Some (replies.Done answer)) seat under held due = tt
 may_give s c step reply seat under held due = tt
 

@@ -5,8 +5,8 @@ ghost use Rattle.cluster_record.specs.Calls.{left};
 ghost use Rattle.client_seats.specs.Ending.{end_at};
 
 use crate::seat::STEPS_MAX;
-use client_calls::{Driver, InHand};
 use ckpt_types::{CallId, NodeId, Outcome};
+use client_calls::{Driver, InHand};
 use shared_nodes::Work;
 use snap_copy::Snap;
 use std::marker::Model;

@@ -9,8 +9,8 @@ ghost use Rattle.client_seats.specs.declared.due.Due.TheVariants as dues;
 
 use crate::held::clear;
 use crate::seat::ClientSeat;
-use client_calls::{Table, look_word, looked, settle_look};
 use ckpt_types::{NodeId, Op, Outcome};
+use client_calls::{Table, look_word, looked, settle_look};
 use cluster_record::Record;
 use node_msgs::Next;
 use run_labels::Label;

@@ -5,8 +5,8 @@ ghost use Rattle.ticket_word.specs.Seats.{drawn_by};
 ghost use Rattle.client_seats.specs.Seats.{labels_left, labels_max, with_label, HasDrawn, IsReady};
 
 use crate::held::{SeatCall, clear};
-use client_calls::Table;
 use ckpt_types::NodeId;
+use client_calls::Table;
 use cluster_record::Record;
 use run_labels::Label;
 use shared_nodes::{Noted, Trail};

@@ -7,8 +7,8 @@ ghost use Rattle.client_seats.specs.declared.due.Due.TheVariants as dues;
 
 use crate::held::clear;
 use crate::seat::ClientSeat;
-use client_calls::stepped;
 use ckpt_types::{NodeId, Outcome};
+use client_calls::stepped;
 use cluster_record::Record;
 use node_msgs::{Next, StepReply};
 

@@ -6,8 +6,8 @@ ghost use Rattle.client_seats.specs.Told.{call_told, event_outcome, event_word, 
 
 use crate::held::{SeatCall, end_at, let_go};
 use crate::seat::ClientSeat;
-use client_calls::{Table, event_node, settle, stepped};
 use ckpt_types::{CkptId, Op, Outcome};
+use client_calls::{Table, event_node, settle, stepped};
 use cluster_record::Record;
 use node_msgs::{RecordStep, Reply, StepReply};
 
@@ -37,10 +37,21 @@ impl ClientSeat {
         let word = call.hand.word();
         let node = event_node(&call.hand.driver, &step);
         let end = tell_call(call, seen, ckpt, &reply);
-        tell_table(&mut self.table, seen, &call.hand.op, &step, ckpt, &reply, &end);
+        tell_table(
+            &mut self.table,
+            seen,
+            &call.hand.op,
+            &step,
+            ckpt,
+            &reply,
+            &end,
+        );
         let_go(&mut self.call, &end);
         let told = event_word(&step, &reply);
-        self.note(ticket, stepped(name, word, step.verb(), ckpt, node, told, end));
+        self.note(
+            ticket,
+            stepped(name, word, step.verb(), ckpt, node, told, end),
+        );
         end
     }
 }
@@ -95,8 +106,12 @@ fn settle_done(table: &mut Table, seen: &Record, op: &Op, step: &RecordStep, ckp
     ensures { table.new ≡ table_settled seen.now op.now step.now ckpt (table_without step.now op.now table.old) }
 {
     match (step, op) {
-        (RecordStep::Open | RecordStep::Finish, Op::Open(..)) => settle(table, seen, op, step, ckpt),
-        (RecordStep::Open | RecordStep::Finish, Op::OpenAsync(..)) => settle(table, seen, op, step, ckpt),
+        (RecordStep::Open | RecordStep::Finish, Op::Open(..)) => settle(
+            table, seen, op, step, ckpt,
+        ),
+        (RecordStep::Open | RecordStep::Finish, Op::OpenAsync(..)) => settle(
+            table, seen, op, step, ckpt,
+        ),
         (RecordStep::Open | RecordStep::Finish, _) => {}
         (RecordStep::Close, _) => {
             let closed = table.handle_closed(op);

@@ -45,9 +45,9 @@ returns-clause-told c =
     let call = c.let_go.ensures ∙ ap (left end) c.tell_call-end.ensures.new in
     let label : c.stepped.result ≡ event_label held c.args.step c.args.ckpt c.args.reply end = search rules in
     let seat : c.note.new.self ≡ record s {
-          table = table_told R held.hand.op c.args.step c.args.ckpt c.args.reply end s.table;
-          call = left end (call_told R c.args.reply held);
-          trail = with_label c.args.ticket (event_label held c.args.step c.args.ckpt c.args.reply end) s.trail;
-        } = c.note.ensures ∙ (λ i. record s { table = table i; call = call i; trail = with_label c.args.ticket (label i) s.trail }) in
+      table = table_told R held.hand.op c.args.step c.args.ckpt c.args.reply end s.table;
+      call = left end (call_told R c.args.reply held);
+      trail = with_label c.args.ticket (event_label held c.args.step c.args.ckpt c.args.reply end) s.trail;
+    } = c.note.ensures ∙ (λ i. record s { table = table i; call = call i; trail = with_label c.args.ticket (label i) s.trail }) in
     subst (λ (old : KeptSeat). IsTold R c.args.step c.args.ckpt c.args.reply c.args.ticket old c.note.new.self end) c.self.view_is
     (record { call = held; in_hand = c.in-Some.is; answer = c.tell_call-end.ensures.end; seat = seat })
