@@ -1,5 +1,6 @@
 //! `ckptsim run` reads a cluster script from standard input, plays it on the Checkpoint Service, and prints
-//! every result to standard output. `ckptsim run --steps` prints each step of a call and each moment too.
+//! every result to standard output. `ckptsim run --steps` prints each step of a call and each moment too. `ckptsim load
+//! NUMBER` plays a generated load of so many writes and reads, and prints how many calls ended and how.
 #![tactic(auto)]
 
 mod running;
@@ -55,7 +56,7 @@ fn run<R: Threads + Wait + Sync>(
 fn tell(rt: &HostRuntime, status: Status) -> io::Result<()> {
     match status {
         Status::Ran => Ok(()),
-        Status::Usage => eprintln!(rt; "usage: ckptsim run [--steps]"),
+        Status::Usage => eprintln!(rt; "usage: ckptsim run [--steps] | load NUMBER"),
         Status::Script(fault) => { eprintln!(rt; "line {}: {}", fault.line, fault.reason.word()) }
         Status::ReadFault => eprintln!(rt; "read fault"),
         Status::WriteFault => eprintln!(rt; "write fault"),

@@ -1,5 +1,5 @@
 //! The top call: from the words of the command to the status.
-ghost use Rattle.std.specs.Prelude.{◌≡◌, [], IfSome, IsOk};
+ghost use Rattle.std.specs.Prelude.{◌≡◌, ℕ, [], IfSome, IsOk};
 ghost use Rattle.std.specs.Io.KnownBytes.{Appends};
 ghost use Rattle.outside_io.specs.Causes.{Rose};
 ghost use Rattle.script_lang.specs.Grammar.{script_of};
@@ -21,7 +21,7 @@ ghost use Rattle.ckpt_machine.specs.Callbacks.{CallbacksTold};
 ghost use Rattle.ckpt_machine.specs.AllOrNone.{IsAllOrNoneThroughout};
 ghost use Rattle.ckpt_machine.specs.Refusals.{EachRefusalLeaves};
 ghost use Rattle.world_core.specs.Runs.{IsNew, IsRunTo};
-ghost use Rattle.command_run.specs.Headline.{IsCommand, asks_steps, HasFault, HasPlayed, PlayedNothing, WritesPart, RanOrNoMemory, printed};
+ghost use Rattle.command_run.specs.Headline.{AsksLoad, EndsLoad, IsCommand, IsRun, HasFault, HasPlayed, PlayedNothing, WritesPart, RanOrNoMemory, told};
 
 use ckpt_machine::machine_law;
 use command_run::{Status, run_command};
@@ -33,7 +33,8 @@ use std::sync::Wait;
 use std::thread::Threads;
 use world_core::World;
 
-/// Reads a script from the source, plays it on the cluster, and writes the lines of its log to the sink.
+/// Plays a script that the source gives, or a load that the words ask for, on the cluster, and writes the lines of its
+/// log to the sink, or the summary of it.
 pub fn ckpt_run<R: Threads + Wait + Sync, S: Source, K: Sink, G: Gate>(
     rt: &R,
     alloc: Global,
@@ -68,23 +69,24 @@ pub fn ckpt_run<R: Threads + Wait + Sync, S: Source, K: Sink, G: Gate>(
     ensures references { HandlesAreReferencesThroughout log.new.labels }
     ensures callbacks { CallbacksTold log.new.labels }
 
-    // The log follows the script that was read, all of it or a front; or nothing was played.
-    ensures played { HasPlayed result (S.left source.old) (S.left source.new) log.new.labels }
+    // The log follows the script that was read, or the load, all of it or a front; or nothing was played.
+    ensures played { HasPlayed words.now result (S.left source.old) (S.left source.new) log.new.labels }
     ensures kept { PlayedNothing result → (sink.new ≡ sink.old) × (world.new ≡ world.old) }
 
-    // The log's lines were written, and nothing else; or a front of them.
-    ensures written { result ≡ Status.Ran → Appends (K.held sink.old) (K.held sink.new) (printed (asks_steps words.now) log.new.labels) }
-    ensures part { WritesPart (K.held sink.old) (K.held sink.new) (printed (asks_steps words.now) log.new.labels) }
+    // What the words ask to be told of the log was written, and nothing else; or a front of it.
+    ensures written { result ≡ Status.Ran → Appends (K.held sink.old) (K.held sink.new) (told words.now log.new.labels) }
+    ensures part { WritesPart (K.held sink.old) (K.held sink.new) (told words.now log.new.labels) }
 
     // Each other answer has its cause.
     ensures usage { (result ≡ Status.Usage → IsCommand words.now → ⊥) × ((IsCommand words.now → ⊥) → result ≡ Status.Usage) }
     ensures unread { result ≡ Status.Usage → source.new ≡ source.old }
+    ensures load { (turns : ℕ) → AsksLoad words.now turns → (source.new ≡ source.old) × EndsLoad result }
     ensures script { (fault : ScriptFault) → result ≡ Status.Script fault → HasFault (S.left source.old) (S.left source.new) fault }
     ensures read { result ≡ Status.ReadFault → Rose (S.faults source.old) (S.faults source.new) }
     ensures write { result ≡ Status.WriteFault → Rose (K.faults sink.old) (K.faults sink.new) }
 
-    // A command, a script and no fault: it ran, or memory ran out.
-    ensures complete { IsCommand words.now → IfSome (S.left source.old) (λ input. IsOk (script_of input) →
+    // The words of a run, a script and no fault: it ran, or memory ran out.
+    ensures complete { IsRun words.now → IfSome (S.left source.old) (λ input. IsOk (script_of input) →
         (Rose (S.faults source.old) (S.faults source.new) → ⊥) → (Rose (K.faults sink.old) (K.faults sink.new) → ⊥) → RanOrNoMemory result) }
 {
     machine_law();

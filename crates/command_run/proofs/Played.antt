@@ -2,6 +2,8 @@
 use Rattle.std.proofs.Common.{◌≡◌, ℕ, ◌+◌, ◌<◌, ◌++◌, Bool, true, false, inl, inr, List, [], length, nat_lt, refl, sym, ap, subst, ◌∙◌, arith, length-append, append-nil}
 use Rattle.std.specs.Prelude.{Option, Some, None, Err, IfSome, IsOk, is_ok, if◌then◌else◌}
 use Rattle.std.proofs.KnownBytes.{Appends-nil}
+use Rattle.std.specs.declared.alloc.Global.{Global}
+use Rattle.std.specs.declared.string.String.{String}
 use Rattle.ckpt_types.specs.Limits.{script_bytes_max}
 use Rattle.run_labels.specs.declared.labels.Label.{Label}
 use Rattle.script_words.specs.declared.reason.Reason.TheVariants.{Length}
@@ -11,9 +13,10 @@ use Rattle.script_lines.specs.declared.lines.Line.{Line}
 use Rattle.world_core.specs.declared.world.World.{World}
 use Rattle.world_core.specs.Runs.{IsNew, IsRunTo, NewBeginsRuns}
 use Rattle.command_run.specs.Ending.{End, Plays, Reads, Tells}
-use Rattle.command_run.specs.Headline.{HasFault, PlayedNothing, ReadsScript}
+use Rattle.command_run.specs.Headline.{HasFault, IsRun, PlayedNothing, ReadsScript}
 use Rattle.command_run.specs.declared.running.Status.{Status}
 use Rattle.command_run.specs.declared.running.Status.TheVariants.{Ran, Usage, Script, ReadFault, WriteFault, NoMemory}
+use Rattle.command_run.proofs.Asked.{not_both}
 use Rattle.command_run.proofs.Written.{part_of_all}
 
 -- where no label came, a new world shows the state after it
@@ -46,10 +49,10 @@ of_any : (P : List ℕ → Type 0) (told : Option (List ℕ)) → ((bytes : List
 of_any P None all = tt
 of_any P (Some bytes) all = all bytes
 
-module _ (source source_now : End) where
+module _ (words : List (String Global)) (is_run : IsRun words) (source source_now : End) where
   -- there is no script, and nothing was played
   pub unread : (sink : End) (log : List Label) (lines : List ℕ) (status : Status)
-      → Reads source.bytes source_now.bytes source.faults source_now.faults (Err status) → log ≡ [] → Tells source source_now sink sink log lines status
+      → Reads source.bytes source_now.bytes source.faults source_now.faults (Err status) → log ≡ [] → Tells words source source_now sink sink log lines status
   unread sink log lines (Script why) has none = record {
     played = none;
     written = λ is. absurd (cc);
@@ -58,7 +61,8 @@ module _ (source source_now : End) where
     script = λ other is. let same : why ≡ other = cc in subst (HasFault source.bytes source_now.bytes) same has;
     read = λ is. absurd (cc);
     write = λ is. absurd (cc);
-    complete = no_script _ source.bytes source_now.bytes why has;
+    load = λ turns asks. absurd (not_both words turns is_run asks);
+    complete = λ _. no_script _ source.bytes source_now.bytes why has;
   }
   unread sink log lines ReadFault has none = record {
     played = (has.0, none);
@@ -68,7 +72,8 @@ module _ (source source_now : End) where
     script = λ other is. absurd (cc);
     read = λ is. has.1;
     write = λ is. absurd (cc);
-    complete = of_any _ source.bytes (λ bytes is no_read no_write. no_read has.1);
+    load = λ turns asks. absurd (not_both words turns is_run asks);
+    complete = λ _. of_any _ source.bytes (λ bytes is no_read no_write. no_read has.1);
   }
   unread sink log lines NoMemory has none = record {
     played = inr (has, none);
@@ -78,7 +83,8 @@ module _ (source source_now : End) where
     script = λ other is. absurd (cc);
     read = λ is. absurd (cc);
     write = λ is. absurd (cc);
-    complete = of_any _ source.bytes (λ bytes is no_read no_write. tt);
+    load = λ turns asks. absurd (not_both words turns is_run asks);
+    complete = λ _. of_any _ source.bytes (λ bytes is no_read no_write. tt);
   }
   unread sink log lines Ran has none = absurd has
   unread sink log lines Usage has none = absurd has
@@ -86,36 +92,39 @@ module _ (source source_now : End) where
 
   -- the script was read, and played
   pub played : (sink sink_now : End) (script : List Line) (log : List Label) (lines : List ℕ) (status : Status) → ReadsScript source.bytes source_now.bytes script
-      → Plays script log sink.bytes sink_now.bytes lines sink.faults sink_now.faults status → Tells source source_now sink sink_now log lines status
+      → Plays script log sink.bytes sink_now.bytes lines sink.faults sink_now.faults status → Tells words source source_now sink sink_now log lines status
   played sink sink_now script log lines Ran reads plays = record {
-    played = (script, reads, plays.0);
+    played = (script, inl (is_run, reads), plays.0);
     written = λ is. plays.1;
     part = part_of_all sink.bytes sink_now.bytes lines plays.1;
     usage = λ is. absurd (cc);
     script = λ other is. absurd (cc);
     read = λ is. absurd (cc);
     write = λ is. absurd (cc);
-    complete = of_any _ source.bytes (λ bytes is no_read no_write. tt);
+    load = λ turns asks. absurd (not_both words turns is_run asks);
+    complete = λ _. of_any _ source.bytes (λ bytes is no_read no_write. tt);
   }
   played sink sink_now script log lines WriteFault reads plays = record {
-    played = (script, reads, plays.0);
+    played = (script, inl (is_run, reads), plays.0);
     written = λ is. absurd (cc);
     part = plays.1;
     usage = λ is. absurd (cc);
     script = λ other is. absurd (cc);
     read = λ is. absurd (cc);
     write = λ is. plays.2;
-    complete = of_any _ source.bytes (λ bytes is no_read no_write. no_write plays.2);
+    load = λ turns asks. absurd (not_both words turns is_run asks);
+    complete = λ _. of_any _ source.bytes (λ bytes is no_read no_write. no_write plays.2);
   }
   played sink sink_now script log lines NoMemory reads plays = record {
-    played = inl (script, reads, plays.0);
+    played = inl (script, inl (is_run, reads), plays.0);
     written = λ is. absurd (cc);
     part = plays.1;
     usage = λ is. absurd (cc);
     script = λ other is. absurd (cc);
     read = λ is. absurd (cc);
     write = λ is. absurd (cc);
-    complete = of_any _ source.bytes (λ bytes is no_read no_write. tt);
+    load = λ turns asks. absurd (not_both words turns is_run asks);
+    complete = λ _. of_any _ source.bytes (λ bytes is no_read no_write. tt);
   }
   played sink sink_now script log lines Usage reads plays = absurd plays
   played sink sink_now script log lines (Script why) reads plays = absurd plays

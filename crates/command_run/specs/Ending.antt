@@ -1,6 +1,8 @@
 -- How a command ends, told of its parts: the reading of the script, the playing of it, and both.
 use Rattle.std.specs.Prelude.{◌≡◌, ℕ, List, Option, Result, Ok, Err, IfSome, IsOk}
 use Rattle.std.specs.Io.KnownBytes.{Appends}
+use Rattle.std.specs.declared.alloc.Global.{Global}
+use Rattle.std.specs.declared.string.String.{String}
 use Rattle.outside_io.specs.Causes.{Rose}
 use Rattle.run_labels.specs.declared.labels.Label.{Label}
 use Rattle.script_lang.specs.BuiltScripts.{IsBuiltScript}
@@ -8,7 +10,7 @@ use Rattle.script_lang.specs.Grammar.{script_of}
 use Rattle.script_lang.specs.declared.faults.ScriptFault.{ScriptFault}
 use Rattle.script_lines.specs.declared.lines.Line.{Line}
 use Rattle.session_run.specs.Follows.{Follows, FollowsFront}
-use Rattle.command_run.specs.Headline.{HasFault, HasPlayed, RanOrNoMemory, ReadsScript, WritesPart}
+use Rattle.command_run.specs.Headline.{AsksLoad, EndsLoad, HasFault, HasPlayed, IsRun, RanOrNoMemory, ReadsScript, WritesPart}
 use Rattle.command_run.specs.Reading.{TakesFew}
 use Rattle.command_run.specs.declared.running.Status.{Status}
 use Rattle.command_run.specs.declared.running.Status.TheVariants.{Ran, Usage, Script, ReadFault, WriteFault, NoMemory}
@@ -42,12 +44,13 @@ abbrev pub end_of : Option (List ℕ) → ℕ → End
 end_of bytes faults = record { bytes = bytes; faults = faults }
 
 -- what the end of a command tells of its source, its sink, its log and the log's lines; each is a clause of run_command
-pub record Tells (source source_now sink sink_now : End) (log : List Label) (lines : List ℕ) (status : Status) : Type 0 where
-  pub played : HasPlayed status source.bytes source_now.bytes log
+pub record Tells (words : List (String Global)) (source source_now sink sink_now : End) (log : List Label) (lines : List ℕ) (status : Status) : Type 0 where
+  pub played : HasPlayed words status source.bytes source_now.bytes log
   pub written : status ≡ Ran → Appends sink.bytes sink_now.bytes lines
   pub part : WritesPart sink.bytes sink_now.bytes lines
   pub usage : status ≡ Usage → ⊥
   pub script : (fault : ScriptFault) → status ≡ Script fault → HasFault source.bytes source_now.bytes fault
   pub read : status ≡ ReadFault → Rose source.faults source_now.faults
   pub write : status ≡ WriteFault → Rose sink.faults sink_now.faults
-  pub complete : IfSome source.bytes (λ input. IsOk (script_of input) → (Rose source.faults source_now.faults → ⊥) → (Rose sink.faults sink_now.faults → ⊥) → RanOrNoMemory status)
+  pub load : (turns : ℕ) → AsksLoad words turns → EndsLoad status
+  pub complete : IsRun words → IfSome source.bytes (λ input. IsOk (script_of input) → (Rose source.faults source_now.faults → ⊥) → (Rose sink.faults sink_now.faults → ⊥) → RanOrNoMemory status)

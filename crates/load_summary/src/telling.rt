@@ -59,7 +59,7 @@ fn append_codes(out: &mut Vec<u8>, codes: &[AisError], by_code: &[u64]) -> Resul
 fn append_code(out: &mut Vec<u8>, error: AisError, count: u64) -> Result<(), AllocError>
     ensures { OnOk result (out.new.items ≡ out.old.items ++ code_line error count) }
 {
-    if count == 0 && error != AisError::Ok {
+    if count == 0 {
         return Ok(());
     }
     append_count(out, error.word(), count)

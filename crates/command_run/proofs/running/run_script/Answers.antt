@@ -11,7 +11,7 @@ returns-in-Err-clause-run g c = nothing_ran c.world_law.ensures.begins (g.W.Clus
 pub returns-in-Err-clause-told : goal.returns-in-Err-clause-told
 returns-in-Err-clause-told g c =
     let log = c.args.log.now.labels in
-    unread _ _ _ log (printed (asks_steps c.args.words.now) log) c.in-Err.status c.in-Err.ensures c.requires.log
+    unread c.args.words.now c.requires.words _ _ _ log (printed (asks_steps c.args.words.now) log) c.in-Err.status c.in-Err.ensures c.requires.log
 
 -- the script was played
 pub returns-clause-kept : goal.returns-clause-kept
@@ -22,6 +22,6 @@ returns-clause-told g c =
     let held = g.K.Sink.held in
     let faults = g.K.Sink.faults in
     let log = c.play_script-status.new.log.labels in
-    played _ _ _ _ c.in-Ok.script log (printed (asks_steps c.args.words.now) log) c.play_script-status.result c.in-Ok.ensures.0
+    played c.args.words.now c.requires.words _ _ _ _ c.in-Ok.script log (printed (asks_steps c.args.words.now) log) c.play_script-status.result c.in-Ok.ensures.0
     (subst (λ (steps : Bool). Plays c.in-Ok.script log (held c.args.sink.now) (held c.play_script-status.new.sink) (printed steps log)
-    (faults c.args.sink.now) (faults c.play_script-status.new.sink) c.play_script-status.result) c.wants_steps-steps.ensures c.play_script-status.ensures.plays)
+    (faults c.args.sink.now) (faults c.play_script-status.new.sink) c.play_script-status.result) c.wants_steps.ensures c.play_script-status.ensures.plays)
